@@ -5,10 +5,10 @@ use Rattle.linear_law.specs.Congruence.{Congruent, IsField}
 use Rattle.linear_law.specs.Lists.{Each, Among}
 use Rattle.linear_law.specs.ReducedBases.{AgreesOn}
 use Rattle.linear_law.specs.Elimination.{IsLinear, KernelVector, ImageVector}
-use Rattle.linear_law.proofs.ListLemmas.{each_map, each_zip}
+use Rattle.linear_law.proofs.ListLemmas.{each_map, each_of_map, each_zip}
 use Rattle.linear_law.proofs.CongruenceLemmas.{Congruent_refl, Congruent_sym, Congruent_trans, Congruent_add, Congruent_scale, Congruent_from, add-negated}
 use Rattle.linear_law.proofs.PivotLemmas.{zero_or_not, not_zero}
-use Rattle.linear_law.specs.Triangular.{LeadsAt, StartsAt, Skips, Walked, image_place}
+use Rattle.linear_law.specs.Triangular.{LeadsAt, Skips, StartsAt, Walked, image_place, kernel_place}
 use Rattle.linear_law.proofs.LeadLemmas.{mul_nonzero, nonzero_alike, lead_alike}
 
 module _ (p count width : ℕ) (field : IsField p) (L : (ℕ → ℕ) → ℕ → ℕ) (linear : IsLinear p count (λ y. y < width) L) (skipped : ℕ → Type 0) where
@@ -16,6 +16,7 @@ module _ (p count width : ℕ) (field : IsField p) (L : (ℕ → ℕ) → ℕ �
   pub start_it : Walked p count width L skipped count [] []
   start_it = record {
     kernel_places = tt;
+    kernel_ascends = tt;
     kernel_zero = tt;
     kernel_starts = tt;
     kernel_reduced = tt;
@@ -55,6 +56,7 @@ module _ (p count width : ℕ) (field : IsField p) (L : (ℕ → ℕ) → ℕ �
         let i = field.inverse (b low) n in
         record {
           kernel_places = kernel_later;
+          kernel_ascends = state.kernel_ascends;
           kernel_zero = state.kernel_zero;
           kernel_starts = state.kernel_starts;
           kernel_reduced = state.kernel_reduced;
@@ -113,6 +115,10 @@ module _ (p count width : ℕ) (field : IsField p) (L : (ℕ → ℕ) → ℕ �
       pub keep_it : AgreesOn p (λ y. y < width) row (λ y. 0) → Walked p count width L skipped low (record { place = low; vector = from } ∷ kernel) images
       keep_it vanishes = record {
         kernel_places = ((omega arith, inside), kernel_later);
+        kernel_ascends = (
+          each_of_map (λ w. low < w) kernel_place kernel (each_map (λ k (at : (suc low ≤ k.place) × (k.place < count)). let b = at.0 in omega arith) kernel state.kernel_places),
+          state.kernel_ascends,
+        );
         kernel_zero = (record { at = λ y on. Congruent_trans (gives.at y on) (vanishes.at y on) }, state.kernel_zero);
         kernel_starts = (starts, state.kernel_starts);
         kernel_reduced = (
@@ -155,6 +161,7 @@ module _ (p count width : ℕ) (field : IsField p) (L : (ℕ → ℕ) → ℕ �
           })) in
           record {
             kernel_places = kernel_later;
+            kernel_ascends = state.kernel_ascends;
             kernel_zero = state.kernel_zero;
             kernel_starts = state.kernel_starts;
             kernel_reduced = state.kernel_reduced;

@@ -154,6 +154,7 @@ walk_law p count width L skip kernel images field linear state =
         ],
       );
       image_basis = image_basis p count width field L linear S kernel images state;
+      kernel_ascends = state.kernel_ascends;
       kernel_canonical = kernel_canonical p count width field L linear S kernel images state;
       kernel_pivots = kernel_pivot p count width field L linear S kernel images state;
       kernel_spans = classes_span p count width field L linear S kernel images state;

@@ -2,7 +2,7 @@
 -- and the vectors of the kernel.
 use Rattle.std.specs.Prelude.{◌≡◌, ℕ, ◌<◌, ◌≤◌, ◌⊎◌, List, map}
 use Rattle.linear_law.specs.Congruence.{Congruent}
-use Rattle.linear_law.specs.Lists.{Among, Each, IsApart}
+use Rattle.linear_law.specs.Lists.{Among, Each, IsApart, IsAscending}
 use Rattle.linear_law.specs.ReducedBases.{AgreesOn, IsReduced, IsReducedBasis}
 use Rattle.linear_law.specs.Elimination.{ImageVector, KernelVector}
 use Rattle.linear_law.specs.Pivots.{IsLead}
@@ -31,6 +31,7 @@ image_place i = i.place
 -- has a lead of its own, and each lead of what `L` gives is one of these.
 pub record Walked (p count width : ℕ) (L : (ℕ → ℕ) → ℕ → ℕ) (skipped : ℕ → Type 0) (low : ℕ) (kernel : List KernelVector) (images : List (ImageVector ℕ)) : Type 0 where
   pub kernel_places : Each (λ k. (low ≤ k.place) × (k.place < count)) kernel
+  pub kernel_ascends : IsAscending (map kernel_place kernel)
   pub kernel_zero : Each (λ k. AgreesOn p (λ y. y < width) (L k.vector) (λ y. 0)) kernel
   pub kernel_starts : Each (λ k. StartsAt p k.place k.vector) kernel
   pub kernel_reduced : IsReduced p kernel_place (λ k. k.vector) kernel
