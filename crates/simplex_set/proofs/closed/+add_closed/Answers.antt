@@ -1,0 +1,29 @@
+use Rattle.std.proofs.Common.{◌≡◌, ◌∙◌, ◌<◌, ◌≤◌, length, arith, rules, sym, ap}
+use Rattle.simplex_set.proofs.AddingFaces.{adding_empty, adding_found, adding_face, adding_all, length_face}
+use Rattle.simplex_set.proofs.closed.+add_closed.Goals as goal
+use Rattle.simplex_set.proofs.closed.+add_closed.Goals.{then-is_empty-via-then-is_empty, then-is_empty-via-else-is_empty+then-contains}
+
+pub returns-then-is_empty : goal.returns-then-is_empty
+returns-then-is_empty t c = elim c.then-is_empty.branch [
+  | then-is_empty-via-then-is_empty w ↦
+      let e : length c.vertices.result.now ≡ 0 = search rules in
+      adding_empty c.args.set.now.keys c.args.simplex c.requires (ap length (sym c.vertices.ensures) ∙ e)
+  | then-is_empty-via-else-is_empty+then-contains w ↦ adding_found c.args.set.now.keys c.args.simplex c.requires (sym w.contains.ensures ∙ w.if-contains.true)
+]
+
+pub add_closed-requires : goal.add_closed-requires
+add_closed-requires t c =
+    let h : c.loop-at.at < length c.args.simplex = omega (arith, ap length c.vertices.ensures, ap length c.vertices-at-end.ensures) in
+    (omega (arith, length_face c.loop-at.at c.args.simplex h, ap length c.in_ok-face.ensures), c.loop-at.invariant.closed)
+
+pub loop-at-preserved : goal.loop-at-preserved
+loop-at-preserved t c =
+    let h : c.loop-at.at < length c.args.simplex = omega (arith, ap length c.vertices.ensures, ap length c.vertices-at-end.ensures) in
+    adding_face c.args.set.now.keys c.args.simplex c.loop-at.at c.in_ok-face.face c.loop-at.set.keys c.add_closed.new.set.keys h c.in_ok-face.ensures c.loop-at.invariant c.in_ok-add_closed.ensures
+
+pub returns : goal.returns
+returns t c =
+    let some : 0 < length c.vertices.result.now = search rules in
+    let there : 0 < length c.args.simplex = omega (arith, ap length c.vertices.ensures) in
+    let end : length c.args.simplex ≤ c.loop-at.at = omega (arith, ap length c.vertices-at-end.ensures) in
+    adding_all c.args.set.now.keys c.args.simplex c.loop-at.at c.loop-at.set.keys c.insert.new.self.keys c.requires there end c.loop-at.invariant c.in_ok-insert.ensures.keys

@@ -1,0 +1,9 @@
+use Rattle.std.proofs.Common.{length}
+use Rattle.simplex_set.proofs.AddingFaces.{IsPartly}
+use Rattle.simplex_set.proofs.closed.+add_closed.Given as goal
+
+abbrev pub decreases-add_closed : goal.decreases-add_closed
+decreases-add_closed l = length l.simplex
+
+abbrev pub invariant-loop-at : goal.invariant-loop-at
+invariant-loop-at l = IsPartly l.fn.set.keys l.fn.simplex l.at l.set.keys

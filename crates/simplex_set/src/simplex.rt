@@ -1,0 +1,95 @@
+ghost use Rattle.std.specs.Prelude.{◌≡◌, ◌<◌, [], length, get_or, IfOk};
+ghost use Rattle.simplicial_law.specs.Cochains.{faces};
+ghost use Rattle.std.proofs.Common.{rules};
+ghost use Rattle.std.specs.Cmp.{partial_order_from_own_ties};
+ghost use Rattle.std.specs.Cmp.Rules.{comparing};
+ghost use Rattle.std.specs.Cmp.Lexicographic.{slice_cmp};
+ghost use Rattle.std.specs.Ordering.{nat_cmp, eq_by_cmp, as_partial_cmp};
+
+use smallvec::SmallVec;
+use std::alloc::{AllocError, Global};
+use std::cmp::Ordering;
+use std::marker::Model;
+
+/// A simplex: a list of vertices. The order of simplices is that of their lists.
+#[derive(Debug, Drop)]
+pub struct Simplex {
+    vertices: SmallVec<u32, 8>,
+}
+
+impl Model for Simplex {
+    ghost use Rattle.std.specs.Prelude.{List, ℕ};
+
+    ghost Value = { List ℕ };
+
+    ghost view = { λ s. s.vertices.items };
+}
+
+impl PartialEq for Simplex {
+    ghost eq = { eq_by_cmp (slice_cmp nat_cmp) };
+
+    ghost laws = { Prim.search (comparing, rules) };
+
+    fn eq(&self, other: &Simplex) -> bool {
+        self.cmp(other).is_eq()
+    }
+}
+
+impl Eq for Simplex {
+    ghost laws = { Prim.search (comparing, rules) };
+}
+
+impl PartialOrd for Simplex {
+    ghost partial_cmp = { as_partial_cmp (slice_cmp nat_cmp) };
+
+    ghost laws = { partial_order_from_own_ties (Prim.search (comparing, rules)) (Prim.search (comparing, rules)) };
+
+    fn partial_cmp(&self, other: &Simplex) -> Option<Ordering> {
+        Some(self.cmp(other))
+    }
+}
+
+impl Ord for Simplex {
+    ghost cmp = { slice_cmp nat_cmp };
+
+    ghost total = { Prim.search (comparing, rules) };
+
+    ghost matches_partial_cmp = { Prim.search (comparing, rules) };
+
+    ghost matches_eq = { Prim.search (comparing, rules) };
+
+    fn cmp(&self, other: &Simplex) -> Ordering {
+        self.vertices.as_slice().cmp(other.vertices.as_slice())
+    }
+}
+
+impl Simplex {
+    /// The list with these vertices.
+    ///
+    /// Up to eight vertices lie in the value itself. It fails for want of memory alone.
+    pub fn new(alloc: Global, vertices: &[u32]) -> Result<Simplex, AllocError>
+        ensures { IfOk result (λ s. s ≡ vertices.now) }
+    {
+        Ok(Simplex {
+            vertices: SmallVec::from_slice(alloc, vertices)?,
+        })
+    }
+
+    /// The vertices, in order.
+    pub fn vertices(&self) -> &[u32]
+        ensures { result.now ≡ self.now }
+    {
+        self.vertices.as_slice()
+    }
+
+    /// The face without the vertex at place `at`, counted from 0.
+    pub fn face(&self, alloc: Global, at: usize) -> Result<Simplex, AllocError>
+        requires { at < length self.now }
+        ensures { IfOk result (λ s. s ≡ get_or (faces self.now) at []) }
+    {
+        let all = self.vertices.as_slice();
+        let mut vertices = SmallVec::from_slice(alloc, &all[..at])?;
+        vertices.extend_from_slice(&all[at + 1..])?;
+        Ok(Simplex { vertices })
+    }
+}
