@@ -1,0 +1,17 @@
+pub mod UnusedEntries
+pub mod ReductionWalks
+pub mod Pairing
+pub mod WalkBoundary
+pub mod RowsAsWalks
+pub mod ReductionBoundary
+pub mod Permutations
+pub mod TupleActions
+pub mod PowerPairs
+pub mod MayBoundary
+pub mod DegenerateTuples
+pub mod FormalSums
+pub mod ReducedLists
+pub mod RowCounts
+pub mod RowLengths
+pub mod CandidateCounts
+pub mod MayTwo

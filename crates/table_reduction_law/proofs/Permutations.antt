@@ -1,0 +1,276 @@
+-- Permutations as maps of values, and table reduction of a moved tuple.
+use Rattle.std.proofs.Common.{◌≡◌, ℕ, zero, suc, ◌+◌, ◌<◌, ◌≤◌, Bool, true, false, cond, List, [], ◌∷◌, ◌++◌, map, refl, sym, ◌∙◌, ap, arith, ◌==◌, inl, inr, subst, eqb-true, eq-eqb}
+use Rattle.std.specs.Prelude.{take}
+use Rattle.std.specs.Prelude.{ℤ}
+use native.Mathlib.Decide.{ℕ_discrete}
+use Rattle.std.proofs.lemmas.List.{length-map, map-append, take-map}
+use Rattle.std.specs.Prelude.{length, pred}
+use Rattle.signed_sum.proofs.ListLemmas.{occurs-01, occurs-apart, occurs-self, occurs-tail}
+use Rattle.signed_sum.proofs.SumLemmas.{total-map}
+use Rattle.signed_sum.specs.Lists.{IsDistinct, numbers_from, occurs}
+use Rattle.signed_sum.specs.Sums.{total}
+use Rattle.surjection_law.specs.Surjections.{IsRelabelling}
+use Rattle.table_reduction_law.proofs.ReductionBoundary.{permutation-length, reduction_sum}
+use Rattle.table_reduction_law.proofs.UnusedEntries.{unused-in, unused-out}
+use Rattle.table_reduction_law.specs.MayElements.{cycle}
+use Rattle.table_reduction_law.specs.Reduction.{cons_if_zero, row_lengths, rows, unused}
+use Rattle.table_reduction_law.specs.Tuples.{IsPermutationOf, IsTuple, entry_at}
+
+pub range-in : (v a m : ℕ) → a ≤ v → v < a + m → occurs v (numbers_from a m) ≡ 1
+range-in v a zero h g = absurd (omega (arith, h, g))
+range-in v a (suc m) h g =
+    elim (ℕ_discrete v a) [
+      | yes e ↦ subst (λ (j : ℕ). occurs j (a ∷ numbers_from (suc a) m) ≡ 1) (sym e) (occurs-self a (numbers_from (suc a) m))
+      | no e ↦ occurs-apart v a (numbers_from (suc a) m) e ∙ range-in v (suc a) m (omega (arith, h, e)) (omega (arith, g))
+    ]
+
+pub range-out : (v a m : ℕ) → occurs v (numbers_from a m) ≡ 1 → (a ≤ v) × (v < a + m)
+range-out v a zero h = absurd (omega (arith, h))
+range-out v a (suc m) h =
+    elim (ℕ_discrete v a) [
+      | yes e ↦ (omega (arith, e), omega (arith, e))
+      | no e ↦
+          let k = range-out v (suc a) m (sym (occurs-apart v a (numbers_from (suc a) m) e) ∙ h) in
+          (omega (arith, k.0), omega (arith, k.1))
+    ]
+
+pub apart-test : (x y : ℕ) → (x ≡ y → ⊥) → (x == y) ≡ false
+apart-test x y n = go (x == y) refl
+  where
+    go : (b : Bool) → (x == y) ≡ b → (x == y) ≡ false
+    go true e = absurd (n (eqb-true x y e))
+    go false e = e
+
+-- a list of values as a map
+
+-- the place of a value, from 1
+abbrev pub place : List ℕ → ℕ → ℕ
+place [] x = 0
+place (y ∷ t) x = cond (x == y) 1 (suc (place t x))
+
+pub pick-eq : {A : Type 0} (x y : ℕ) (a b : A) → x ≡ y → cond (x == y) a b ≡ a
+pick-eq x y a b e = ap (λ c. cond c a b) (eq-eqb x y e)
+
+pub pick-apart : {A : Type 0} (x y : ℕ) (a b : A) → (x ≡ y → ⊥) → cond (x == y) a b ≡ b
+pick-apart x y a b n = go (x == y) refl
+  where
+    go : (c : Bool) → (x == y) ≡ c → cond c a b ≡ b
+    go true e = absurd (n (eqb-true x y e))
+    go false e = refl
+
+place-range : (t : List ℕ) (x : ℕ) → occurs x t ≡ 1 → (1 ≤ place t x) × (place t x ≤ length t)
+place-range [] x h = absurd (omega (arith, h))
+place-range (y ∷ t) x h =
+    elim (ℕ_discrete x y) [
+      | yes e ↦ let p = pick-eq x y 1 (suc (place t x)) e in (omega (arith, p), omega (arith, p))
+      | no e ↦
+          let p = pick-apart x y 1 (suc (place t x)) e in
+          let k = place-range t x (sym (occurs-apart x y t e) ∙ h) in
+          (omega (arith, p, k.0), omega (arith, p, k.1))
+    ]
+
+at-place : (t : List ℕ) (x : ℕ) → occurs x t ≡ 1 → entry_at t (place t x) ≡ x
+at-place [] x h = absurd (omega (arith, h))
+at-place (y ∷ t) x h =
+    elim (ℕ_discrete x y) [
+      | yes e ↦ ap (entry_at (y ∷ t)) (pick-eq x y 1 (suc (place t x)) e) ∙ sym e
+      | no e ↦
+          let m : occurs x t ≡ 1 = sym (occurs-apart x y t e) ∙ h in
+          let k = place-range t x m in
+          ap (entry_at (y ∷ t)) (pick-apart x y 1 (suc (place t x)) e) ∙ later (place t x) k.0 ∙ at-place t x m
+    ]
+  where
+    later : (n : ℕ) → 1 ≤ n → entry_at (y ∷ t) (suc n) ≡ entry_at t n
+    later zero k = absurd (omega (arith, k))
+    later (suc n) k = refl
+
+at-has : (t : List ℕ) (v : ℕ) → v < length t → occurs (entry_at t (suc v)) t ≡ 1
+at-has [] v h = absurd (omega (arith, h))
+at-has (y ∷ t) zero h = occurs-self y t
+at-has (y ∷ t) (suc v) h = occurs-tail (entry_at t (suc v)) y t (at-has t v (omega (arith, h)))
+
+place-at : (t : List ℕ) (v : ℕ) → IsDistinct t → v < length t → place t (entry_at t (suc v)) ≡ suc v
+place-at [] v d h = absurd (omega (arith, h))
+place-at (y ∷ t) zero d h = pick-eq y y 1 (suc (place t y)) refl
+place-at (y ∷ t) (suc v) d h =
+    let m : occurs (entry_at t (suc v)) t ≡ 1 = at-has t v (omega (arith, h)) in
+    let z : occurs y t ≡ 0 = d.0 in
+    let n : entry_at t (suc v) ≡ y → ⊥ = λ e. let k : occurs y t ≡ 1 = subst (λ (j : ℕ). occurs j t ≡ 1) e m in omega (arith, z, k) in
+    pick-apart (entry_at t (suc v)) y 1 (suc (place t (entry_at t (suc v)))) n ∙ ap suc (place-at t v d.1 (omega (arith, h)))
+
+pub relabels : (r : ℕ) (t : List ℕ) → IsPermutationOf r t → IsRelabelling r (entry_at t) (place t)
+relabels r t k = record { there = go; back = home; there_back = round; back_there = λ v h. at-place t v (k.onto v ∙ h) }
+  where
+    c : length t ≡ r
+    c = permutation-length r t k
+
+    one : (v : ℕ) → (1 ≤ v) × (v < 1 + r) → occurs (entry_at t v) t ≡ 1
+    one zero h = absurd (omega (arith, h.0))
+    one (suc v) h = at-has t v (omega (arith, h.1, c))
+
+    go : (v : ℕ) → occurs v (numbers_from 1 r) ≡ 1 → occurs (entry_at t v) (numbers_from 1 r) ≡ 1
+    go v h = sym (k.onto (entry_at t v)) ∙ one v (range-out v 1 r h)
+
+    home : (v : ℕ) → occurs v (numbers_from 1 r) ≡ 1 → occurs (place t v) (numbers_from 1 r) ≡ 1
+    home v h = let p = place-range t v (k.onto v ∙ h) in range-in (place t v) 1 r p.0 (omega (arith, p.1, c))
+
+    two : (v : ℕ) → (1 ≤ v) × (v < 1 + r) → place t (entry_at t v) ≡ v
+    two zero h = absurd (omega (arith, h.0))
+    two (suc v) h = place-at t v k.distinct (omega (arith, h.1, c))
+
+    round : (v : ℕ) → occurs v (numbers_from 1 r) ≡ 1 → place t (entry_at t v) ≡ v
+    round v h = two v (range-out v 1 r h)
+
+-- the cycle
+
+abbrev pub uncycle : ℕ → ℕ → ℕ
+uncycle p v = cond (v == 1) p (pred v)
+
+pub moves-cycle : (p : ℕ) → IsRelabelling p (cycle p) (uncycle p)
+moves-cycle p = record { there = λ v h. go v (range-out v 1 p h); back = λ v h. home v (range-out v 1 p h); there_back = λ v h. round v (range-out v 1 p h); back_there = λ v h. about v (range-out v 1 p h) }
+  where
+    go : (v : ℕ) → (1 ≤ v) × (v < 1 + p) → occurs (cycle p v) (numbers_from 1 p) ≡ 1
+    go v h =
+        elim (ℕ_discrete v p) [
+          | yes e ↦ ap (λ j. occurs j (numbers_from 1 p)) (pick-eq v p 1 (suc v) e) ∙ range-in 1 1 p (omega arith) (omega (arith, h.0, h.1))
+          | no e ↦ ap (λ j. occurs j (numbers_from 1 p)) (pick-apart v p 1 (suc v) e) ∙ range-in (suc v) 1 p (omega arith) (omega (arith, h.0, h.1, e))
+        ]
+
+    home : (v : ℕ) → (1 ≤ v) × (v < 1 + p) → occurs (uncycle p v) (numbers_from 1 p) ≡ 1
+    home zero h = absurd (omega (arith, h.0))
+    home (suc v) h =
+        elim (ℕ_discrete (suc v) 1) [
+          | yes e ↦ ap (λ j. occurs j (numbers_from 1 p)) (pick-eq (suc v) 1 p v e) ∙ range-in p 1 p (omega (arith, h.0, h.1)) (omega arith)
+          | no e ↦ ap (λ j. occurs j (numbers_from 1 p)) (pick-apart (suc v) 1 p v e) ∙ range-in v 1 p (omega (arith, h.0, e)) (omega (arith, h.1))
+        ]
+
+    round : (v : ℕ) → (1 ≤ v) × (v < 1 + p) → uncycle p (cycle p v) ≡ v
+    round v h =
+        elim (ℕ_discrete v p) [
+          | yes e ↦ ap (uncycle p) (pick-eq v p 1 (suc v) e) ∙ sym e
+          | no e ↦ ap (uncycle p) (pick-apart v p 1 (suc v) e) ∙ pick-apart (suc v) 1 p v (λ q. absurd (omega (arith, h.0, q)))
+        ]
+
+    about : (v : ℕ) → (1 ≤ v) × (v < 1 + p) → cycle p (uncycle p v) ≡ v
+    about zero h = absurd (omega (arith, h.0))
+    about (suc v) h =
+        elim (ℕ_discrete (suc v) 1) [
+          | yes e ↦ ap (cycle p) (pick-eq (suc v) 1 p v e) ∙ pick-eq p p 1 (suc p) refl ∙ sym e
+          | no e ↦ ap (cycle p) (pick-apart (suc v) 1 p v e) ∙ pick-apart v p 1 (suc v) (λ q. absurd (omega (arith, h.1, q)))
+        ]
+
+-- moved lists
+
+-- all values are among 1 to r
+abbrev pub Within : ℕ → List ℕ → Type 0
+Within r w = (v : ℕ) → occurs v w ≡ 1 → occurs v (numbers_from 1 r) ≡ 1
+
+pub within-tail : (r x : ℕ) (w : List ℕ) → Within r (x ∷ w) → Within r w
+within-tail r x w k v h = k v (occurs-tail v x w h)
+
+pub perm-within : (r : ℕ) (w : List ℕ) → IsPermutationOf r w → Within r w
+perm-within r w k v h = sym (k.onto v) ∙ h
+
+map-in : (t : ℕ → ℕ) (x : ℕ) (w : List ℕ) → occurs x w ≡ 1 → occurs (t x) (map t w) ≡ 1
+map-in t x [] h = absurd (omega (arith, h))
+map-in t x (y ∷ w) h =
+    elim (ℕ_discrete x y) [
+      | yes e ↦ ap (λ j. occurs (t x) (t j ∷ map t w)) (sym e) ∙ occurs-self (t x) (map t w)
+      | no e ↦ occurs-tail (t x) (t y) (map t w) (map-in t x w (sym (occurs-apart x y w e) ∙ h))
+    ]
+
+pub map-within : (r : ℕ) (t i : ℕ → ℕ) (v : ℕ) (w : List ℕ) → IsRelabelling r t i → Within r w → occurs v (map t w) ≡ 1 → occurs v (numbers_from 1 r) ≡ 1
+map-within r t i v [] m k h = absurd (omega (arith, h))
+map-within r t i v (y ∷ w) m k h =
+    elim (ℕ_discrete v (t y)) [
+      | yes e ↦ ap (λ j. occurs j (numbers_from 1 r)) e ∙ m.there y (k y (occurs-self y w))
+      | no e ↦ map-within r t i v w m (within-tail r y w k) (sym (occurs-apart v (t y) (map t w) e) ∙ h)
+    ]
+
+pub map-has : (r : ℕ) (t i : ℕ → ℕ) (x : ℕ) (w : List ℕ) → IsRelabelling r t i → occurs x (numbers_from 1 r) ≡ 1 → Within r w → occurs (t x) (map t w) ≡ occurs x w
+map-has r t i x [] m q k = refl
+map-has r t i x (y ∷ w) m q k =
+    elim (ℕ_discrete x y) [
+      | yes e ↦ map-in t x (y ∷ w) (is x y e) ∙ sym (is x y e)
+      | no e ↦
+          let n : t x ≡ t y → ⊥ = λ z. e (sym (m.there_back x q) ∙ ap i z ∙ m.there_back y (k y (occurs-self y w))) in
+          occurs-apart (t x) (t y) (map t w) n ∙ map-has r t i x w m q (within-tail r y w k) ∙ sym (occurs-apart x y w e)
+    ]
+  where
+    is : (x y : ℕ) → x ≡ y → occurs x (y ∷ w) ≡ 1
+    is x y e = ap (λ j. occurs x (j ∷ w)) (sym e) ∙ occurs-self x w
+
+map-distinct : (r : ℕ) (t i : ℕ → ℕ) (w : List ℕ) → IsRelabelling r t i → Within r w → IsDistinct w → IsDistinct (map t w)
+map-distinct r t i [] m k d = tt
+map-distinct r t i (y ∷ w) m k d = (map-has r t i y w m (k y (occurs-self y w)) (within-tail r y w k) ∙ d.0, map-distinct r t i w m (within-tail r y w k) d.1)
+
+pub perm-moved : (r : ℕ) (t i : ℕ → ℕ) (w : List ℕ) → IsRelabelling r t i → IsPermutationOf r w → IsPermutationOf r (map t w)
+perm-moved r t i w m k = record { distinct = map-distinct r t i w m (perm-within r w k) k.distinct; onto = all }
+  where
+    all : (v : ℕ) → occurs v (map t w) ≡ occurs v (numbers_from 1 r)
+    all v =
+        elim (occurs-01 v (numbers_from 1 r)) [
+          | inl z ↦ elim (occurs-01 v (map t w)) [ inl q ↦ q ∙ sym z | inr q ↦ absurd (let b = map-within r t i v w m (perm-within r w k) q in omega (arith, b, z)) ]
+          | inr z ↦ ap (λ j. occurs j (map t w)) (sym (m.back_there v z)) ∙ map-in t (i v) w (k.onto (i v) ∙ m.back v z) ∙ sym z
+        ]
+
+pub tuple-moved : (r : ℕ) (t i : ℕ → ℕ) (w : List (List ℕ)) → IsRelabelling r t i → IsTuple r w → IsTuple r (map (λ x. map t x) w)
+tuple-moved r t i [] m k = tt
+tuple-moved r t i (x ∷ w) m k = (perm-moved r t i x m k.0, tuple-moved r t i w m k.1)
+
+-- moved rows
+
+keep-map : (t : ℕ → ℕ) (n x : ℕ) (u : List ℕ) → cons_if_zero n (t x) (map t u) ≡ map t (cons_if_zero n x u)
+keep-map t zero x u = refl
+keep-map t (suc n) x u = refl
+
+unused-moved : (r : ℕ) (t i : ℕ → ℕ) (a w : List ℕ) → IsRelabelling r t i → Within r a → Within r w → unused (map t a) (map t w) ≡ map t (unused a w)
+unused-moved r t i a [] m k l = refl
+unused-moved r t i a (x ∷ w) m k l =
+    let e = map-has r t i x a m (l x (occurs-self x w)) k in
+    (λ j. cons_if_zero (e j) (t x) (unused-moved r t i a w m k (within-tail r x w l) j)) ∙ keep-map t (occurs x a) x (unused a w)
+
+within-unused : (r : ℕ) (a w : List ℕ) → Within r w → Within r (unused a w)
+within-unused r a w k v h =
+    elim (occurs-01 v a) [
+      | inl z ↦ k v (sym (unused-out v a w z) ∙ h)
+      | inr z ↦ absurd (let q = unused-in v a w z in omega (arith, q, h))
+    ]
+
+within-cons : (r x : ℕ) (w : List ℕ) → occurs x (numbers_from 1 r) ≡ 1 → Within r w → Within r (x ∷ w)
+within-cons r x w q k v h =
+    elim (ℕ_discrete v x) [ yes e ↦ ap (λ j. occurs j (numbers_from 1 r)) e ∙ q | no e ↦ k v (sym (occurs-apart v x w e) ∙ h) ]
+
+within-take : (r n : ℕ) (w a : List ℕ) → Within r w → Within r a → Within r (take n w ++ a)
+within-take r zero w a k l = l
+within-take r (suc n) [] a k l = l
+within-take r (suc n) (x ∷ w) a k l = within-cons r x (take n w ++ a) (k x (occurs-self x w)) (within-take r n w a (within-tail r x w k) l)
+
+rows-moved : (r : ℕ) (t i : ℕ → ℕ) (ws : List (List ℕ)) (a ls : List ℕ) → IsRelabelling r t i → IsTuple r ws → Within r a →
+    rows (map t a) (map (λ w. map t w) ws) ls ≡ map t (rows a ws ls)
+rows-moved r t i [] a ls m k l = refl
+rows-moved r t i (w ∷ ws) a [] m k l = refl
+rows-moved r t i (w ∷ ws) a (n ∷ ls) m k l =
+    let y : List ℕ = unused a w in
+    let b : List ℕ = take (pred n) y ++ a in
+    let e = unused-moved r t i a w m l (perm-within r w k.0) in
+    let f : take n (map t y) ≡ map t (take n y) = take-map t n y in
+    let g : take (pred n) (map t y) ++ map t a ≡ map t b = ap (λ z. z ++ map t a) (take-map t (pred n) y) ∙ sym (map-append t (take (pred n) y) a) in
+    let ih = rows-moved r t i ws b ls m k.1 (within-take r (pred n) y a (within-unused r a w (perm-within r w k.0)) l) in
+    (λ j. take n (e j) ++ rows (take (pred n) (e j) ++ map t a) (map (λ w. map t w) ws) ls)
+    ∙ (λ j. f j ++ rows (g j) (map (λ w. map t w) ws) ls)
+    ∙ ap (λ z. map t (take n y) ++ z) ih
+    ∙ sym (map-append t (take n y) (rows b ws ls))
+
+pub reduced-moved : (r : ℕ) (t i : ℕ → ℕ) (w : List (List ℕ)) (h : List ℕ → ℤ) → IsRelabelling r t i → IsTuple r w →
+    reduction_sum (map (λ x. map t x) w) h ≡ reduction_sum w (λ u. h (map t u))
+reduced-moved r t i [] h m k = refl
+reduced-moved r t i (w ∷ ws) h m k =
+    let mw : List (List ℕ) = map (λ x. map t x) ws in
+    let L : List (List ℕ) = row_lengths (suc (length ws)) (length w + length ws) in
+    let c : length mw ≡ length ws = length-map ws (λ x. map t x) in
+    let d : length (map t w) ≡ length w = length-map w t in
+    ap (λ L. total h (map (λ ls. rows [] (map t w ∷ mw) ls) L)) (λ j. row_lengths (suc (c j)) (d j + c j))
+    ∙ total-map h (λ ls. rows [] (map t w ∷ mw) ls) L
+    ∙ ap (λ f. total f L) (λ j ls. h (rows-moved r t i (w ∷ ws) [] ls m k (λ v q. absurd (omega (arith, q))) j))
+    ∙ sym (total-map (λ u. h (map t u)) (λ ls. rows [] (w ∷ ws) ls) L)

@@ -1,0 +1,5 @@
+pub mod Tuples
+pub mod Reduction
+pub mod MayElements
+pub mod Counts
+pub mod Laws

@@ -1,0 +1,64 @@
+//! Tuples of permutations, table reduction and May elements: definitions and laws.
+#![tactic(auto)]
+
+ghost use Rattle.table_reduction_law.specs.Laws.{CandidateCountLaw, DegenerateTupleLaw, MayRelations, MayTermsLaw, MayTwoLaw, ReducedListsLaw, ReductionActionLaw, ReductionBoundaryLaw, ReductionRows, RowLengthsLaw, TupleActionLaw, TupleBoundaryLaw};
+
+/// Worked rows.
+pub fn reduction_rows()
+    ensures { ReductionRows }
+{}
+
+/// The boundary of the boundary of a tuple is zero.
+pub fn tuple_boundary_twice()
+    ensures { TupleBoundaryLaw }
+{}
+
+/// Permutations act on tuples, and the boundary commutes with them.
+pub fn tuple_action_law()
+    ensures { TupleActionLaw }
+{}
+
+/// The lists of row lengths.
+pub fn row_lengths_law()
+    ensures { RowLengthsLaw }
+{}
+
+/// The lists that come from a tuple, and their number.
+pub fn reduced_lists_law()
+    ensures { ReducedListsLaw }
+{}
+
+/// Degenerate tuples reduce to zero.
+pub fn degenerate_tuple_law()
+    ensures { DegenerateTupleLaw }
+{}
+
+/// Table reduction commutes with permutations.
+pub fn reduction_action_law()
+    ensures { ReductionActionLaw }
+{}
+
+/// Table reduction is a chain map.
+pub fn reduction_boundary_law()
+    ensures { ReductionBoundaryLaw }
+{}
+
+/// The tuples and the terms of the May elements.
+pub fn may_terms_law()
+    ensures { MayTermsLaw }
+{}
+
+/// The boundary relations of the May elements, for every p and in every degree.
+pub fn may_relations()
+    ensures { MayRelations }
+{}
+
+/// The number of candidates of a May element.
+pub fn candidate_count_law()
+    ensures { CandidateCountLaw }
+{}
+
+/// The May elements at 2.
+pub fn may_two_law()
+    ensures { MayTwoLaw }
+{}
