@@ -1,0 +1,3 @@
+mod Searching
+mod FacePlaces
+mod LevelLemmas

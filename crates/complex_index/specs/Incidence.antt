@@ -1,0 +1,41 @@
+-- The faces of simplices, and the simplices above each, by their places in lists of simplices.
+use Rattle.std.specs.Prelude.{◌≡◌, ℕ, zero, suc, ◌<◌, ◌==◌, Bool, false, not, cond, List, [], ◌∷◌, ◌++◌, map, length, get_or, Vec}
+use Rattle.std.specs.declared.alloc.Global.{Global}
+use Rattle.complex_index.specs.declared.incidence.Coface.{Coface}
+use Rattle.linear_law.specs.Lists.{Each}
+use Rattle.simplicial_law.specs.Cochains.{faces}
+
+-- the simplex at a place
+abbrev pub simplex_at : List (List ℕ) → ℕ → List ℕ
+simplex_at ks x = get_or ks x []
+
+-- the places of the faces of s, in the order of its vertices
+pub record ArePlaces (lower : List (List ℕ)) (s : List ℕ) (ps : List ℕ) : Type 0 where
+  pub below : Each (λ x. x < length lower) ps
+  pub places : map (simplex_at lower) ps ≡ faces s
+
+-- each list has the places of the faces of the simplex at its place
+abbrev pub ArePlacesOf : List (List ℕ) → List (List ℕ) → List (List ℕ) → Type 0
+ArePlacesOf lower [] [] = Unit {0}
+ArePlacesOf lower [] (p ∷ ps) = ⊥
+ArePlacesOf lower (s ∷ ss) [] = ⊥
+ArePlacesOf lower (s ∷ ss) (p ∷ ps) = ArePlaces lower s p × ArePlacesOf lower ss ps
+
+-- the simplex y, once for each place of x among the places of its faces
+abbrev pub marks : ℕ → ℕ → Bool → List ℕ → List Coface
+marks x y odd [] = []
+marks x y odd (q ∷ qs) = cond (q == x) (record { place = y; odd = odd } ∷ []) [] ++ marks x y (not odd) qs
+
+-- the simplices, numbered from y on, of which x is a face
+abbrev pub above_at : ℕ → ℕ → List (List ℕ) → List Coface
+above_at x y [] = []
+above_at x y (ps ∷ pss) = marks x y false ps ++ above_at x (suc y) pss
+
+abbrev pub lists_of : {X : Type 0} → List (Vec X Global) → List (List X)
+lists_of {X} vs = map (λ (v : Vec X Global). v.items) vs
+
+-- the list at a place, none past the last
+abbrev pub list_at : {X : Type 0} → List (Vec X Global) → ℕ → List X
+list_at [] x = []
+list_at (v ∷ vs) zero = v.items
+list_at (v ∷ vs) (suc x) = list_at vs x

@@ -1,0 +1,9 @@
+//! The simplices of a complex by degree and place, with their faces and cofaces.
+#![tactic(auto)]
+
+mod incidence;
+mod indexed;
+mod levels;
+mod place;
+
+pub use indexed::Indexed;
