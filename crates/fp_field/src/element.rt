@@ -48,7 +48,8 @@ impl<const P: u32> Fp<P> {
 
     /// Whether the number is 0.
     pub fn is_zero(self) -> bool
-        ensures { IsTrue result ↔ (self.entry ≡ 0) }
+        ensures zero { IsTrue result ↔ (self.entry ≡ 0) }
+        ensures small { self.entry < P }
     {
         self.0 == 0
     }
