@@ -1,0 +1,6 @@
+pub mod SumLemmas
+pub mod HistoryLemmas
+pub mod StoredLemmas
+pub mod StepLemmas
+pub mod ExpansionLemmas
+pub mod SolvedLemmas

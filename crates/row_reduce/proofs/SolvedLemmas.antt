@@ -1,0 +1,96 @@
+-- What a walk of all rows has found: the kernel as rows, and the leads.
+use Rattle.std.proofs.Common.{◌≡◌, ℕ, zero, suc, ◌-◌, ◌<◌, ◌≤◌, ◌⊎◌, List, [], ◌∷◌, reverse, map, length, get_or, arith, subst, inl, inr}
+use Rattle.std.proofs.lemmas.List.{append-nil}
+use Rattle.std.specs.List.{AllZip}
+use Rattle.linear_law.specs.Congruence.{Congruent}
+use Rattle.linear_law.specs.Lists.{Among, Each}
+use Rattle.linear_law.specs.Elimination.{ImageVector, KernelVector}
+use Rattle.linear_law.specs.Triangular.{image_place}
+use Rattle.linear_law.proofs.AlikeLemmas.{each_right, zip_change, zip_each}
+use Rattle.linear_law.proofs.CongruenceLemmas.{Congruent_sym}
+use Rattle.sparse_rows.specs.Rows.{IsBelow, IsRow, value_in}
+use Rattle.row_reduce.specs.declared.Class.{Class}
+use Rattle.row_reduce.specs.declared.Stored.{Stored}
+use Rattle.row_reduce.specs.Stored.{stored_place}
+use Rattle.row_reduce.specs.Walk.{IsFrom, IsSolved, Reached, image_of, images_of, kernel_of, owned_in}
+use Rattle.row_reduce.specs.Expansion.{AreOlder, HistoryFits, IsVectorOf}
+use Rattle.row_reduce.proofs.ExpansionLemmas.{zip_reversed}
+use Rattle.row_reduce.proofs.HistoryLemmas.{among_images}
+
+among_at : {p : ℕ} (ss : List (Stored p)) (k y : ℕ) (d : Stored p) → k < length ss → (get_or ss k d).place ≡ y → Among y (map stored_place ss)
+among_at [] k y d b e = absurd (omega arith)
+among_at (s ∷ ss) zero y d b e = inl e
+among_at (s ∷ ss) (suc k) y d b e = inr (among_at ss k y d (omega arith) e)
+
+images_among : {p : ℕ} (ss : List (Stored p)) (fs : List (ℕ → ℕ)) (done : List (ImageVector ℕ)) (t : ℕ) → length fs ≡ length ss
+    → Among t (map stored_place ss) ⊎ Among t (map image_place done) → Among t (map image_place (images_of ss fs done))
+images_among [] fs done t e m = elim m [ inl a ↦ elim a [ ] | inr a ↦ a ]
+images_among (s ∷ ss) [] done t e m = absurd (omega arith)
+images_among (s ∷ ss) (f ∷ fs) done t e m =
+    images_among ss fs (image_of s f ∷ done) t (omega arith)
+    (elim m [ inl a ↦ elim a [ inl here ↦ inr (inl here) | inr later ↦ inl later ] | inr a ↦ inr (inr a) ])
+
+zip_left_each : {X Z : Type 0} (R : X → Z → Type 0) (Q : X → Type 0) → ((x : X) (z : Z) → R x z → Q x) → (xs : List X) (zs : List Z) → AllZip R xs zs → Each Q xs
+zip_left_each R Q f [] zs k = tt
+zip_left_each R Q f (x ∷ xs) [] k = elim k [ ]
+zip_left_each R Q f (x ∷ xs) (z ∷ zs) k = (f x z k.0, zip_left_each R Q f xs zs k.1)
+
+module _ (p width : ℕ) (rows : List (List (ℕ × ℕ))) (skip : List ℕ) (classes : List (Class p)) (stored : List (Stored p)) (owner : List ℕ)
+    (reached : Reached p width rows (owned_in skip) 0 classes stored owner) where
+  pub older : AreOlder p stored
+  older = record { each = λ k s b. (reached.sources_are.from k s (λ x. 0) b).fits }
+
+  pub histories_fit : Each (HistoryFits p (length stored)) classes
+  histories_fit =
+      zip_left_each (λ (c : Class p) v. IsFrom p (length stored) reached.sources c.place c.history.items v) (HistoryFits p (length stored))
+      (λ c v h. h.fits) classes reached.vectors reached.vectors_are
+
+  record IsSolution (k : KernelVector) (r : List (ℕ × ℕ)) : Type 0 where
+    vector : (x : ℕ) → Congruent p (value_in r x) (k.vector x)
+    is_row : IsRow p r
+    below : k.place < length rows → IsBelow (length rows) r
+
+  pub solved : (found : List (List (ℕ × ℕ))) → AllZip (IsVectorOf p stored) classes found → IsSolved p width rows skip (reverse found) owner
+  solved found h =
+      let kernel = kernel_of classes reached.vectors [] in
+      let all : AllZip IsSolution kernel (reverse found) =
+      subst (AllZip IsSolution kernel) (append-nil (reverse found))
+      (zip_reversed (λ (c : Class p) v. IsFrom p (length stored) reached.sources c.place c.history.items v) (IsVectorOf p stored) IsSolution
+      (λ c v r mine is. record {
+        vector = λ x. Congruent_sym (is.expanded.is reached.sources v reached.sources_are mine x);
+        is_row = is.is_row;
+        below = λ b. is.below (length rows) reached.numbered b;
+      })
+      classes reached.vectors found [] [] reached.vectors_are h tt) in
+      record {
+        kernel = kernel;
+        images = images_of stored reached.sources [];
+        walked = reached.walked;
+        rows_are = each_right IsSolution (IsRow p) (λ k r s. s.is_row) kernel (reverse found) all;
+        inside = each_right (λ (k : KernelVector) (r : List (ℕ × ℕ)). IsBelow (length rows) r) (IsBelow (length rows)) (λ k r s. s) kernel (reverse found)
+            (zip_each (λ (k : KernelVector). (0 ≤ k.place) × (k.place < length rows)) IsSolution (λ (k : KernelVector) (r : List (ℕ × ℕ)). IsBelow (length rows) r)
+            (λ k r at s. s.below at.1) kernel (reverse found) reached.walked.kernel_places all);
+        vectors = zip_change IsSolution (λ (k : KernelVector) (r : List (ℕ × ℕ)). (x : ℕ) → Congruent p (value_in r x) (k.vector x)) (λ k r s. s.vector) kernel (reverse found) all;
+        full = reached.owns.full;
+        owned = λ y b. (
+          λ some.
+              let j = get_or owner y 0 - 1 in
+              let o = reached.owns.some y j (omega arith) in
+              images_among stored reached.sources [] y reached.sources_length (inl (among_there stored j y o.0 o.1)),
+          λ m. elim (among_images stored reached.sources [] y m) [
+            | inr none ↦ elim none [ ]
+            | inl a ↦ elim (zero_or_more (get_or owner y 0)) [
+              | inl e ↦ absurd (reached.owns.none y b e a)
+              | inr more ↦ more
+            ]
+          ],
+        );
+      }
+    where
+      zero_or_more : (n : ℕ) → (n ≡ 0) ⊎ (0 < n)
+      zero_or_more zero = inl (omega arith)
+      zero_or_more (suc j) = inr (omega arith)
+
+      among_there : (ss : List (Stored p)) (k y : ℕ) → k < length ss → ((d : Stored p) → (get_or ss k d).place ≡ y) → Among y (map stored_place ss)
+      among_there [] k y b e = absurd (omega arith)
+      among_there (s ∷ ss) k y b e = among_at (s ∷ ss) k y s b (e s)

@@ -1,0 +1,31 @@
+use Rattle.std.proofs.Common.{length, List, ℕ, sym, subst, lit<}
+use Rattle.std.specs.List.{AllZip}
+use Rattle.linear_law.specs.Lists.{Each}
+use Rattle.row_reduce.specs.declared.Class.{Class}
+use Rattle.row_reduce.specs.declared.Stored.{Stored}
+use Rattle.row_reduce.specs.Walk.{IsSolved}
+use Rattle.row_reduce.specs.Expansion.{AreOlder, HistoryFits, IsVectorOf}
+use Rattle.row_reduce.proofs.SolvedLemmas.{histories_fit, older, solved}
+use Rattle.row_reduce.proofs.expanding.kernel_and_leads.Goals as goal
+
+pub vectors-requires : goal.vectors-requires
+vectors-requires g c =
+    let p = g.row.P in
+    let w = c.in_ok-classes.field-0 in
+    let old : AreOlder p c.as_slice.result.now =
+    subst (AreOlder p) (sym c.as_slice.ensures.value) (older p c.args.width c.args.rows.now c.args.skip.now w.classes.items w.stored.items w.owner.items c.in_ok-classes.ensures) in
+    let fit : Each (HistoryFits p (length c.as_slice.result.now)) c.as_slice-2.result.now =
+    subst (λ (ss : List (Stored p)). Each (HistoryFits p (length ss)) c.as_slice-2.result.now) (sym c.as_slice.ensures.value)
+    (subst (Each (HistoryFits p (length w.stored.items))) (sym c.as_slice-2.ensures.value) (histories_fit p c.args.width c.args.rows.now c.args.skip.now w.classes.items w.stored.items w.owner.items c.in_ok-classes.ensures)) in
+    (lit< tt, (lit< tt, (lit< tt, (c.requires.prime, (old, fit)))))
+
+pub returns : goal.returns
+returns g c =
+    let p = g.row.P in
+    let w = c.in_ok-classes.field-0 in
+    let found = c.in_ok-kernel.kernel.items in
+    let all : AllZip (IsVectorOf p w.stored.items) w.classes.items found =
+    subst (λ (cs : List (Class p)). AllZip (IsVectorOf p w.stored.items) cs found) c.as_slice-2.ensures.value
+    (subst (λ (ss : List (Stored p)). AllZip (IsVectorOf p ss) c.as_slice-2.result.now found) c.as_slice.ensures.value c.in_ok-kernel.ensures) in
+    subst (λ (rs : List (List (ℕ × ℕ))). IsSolved p c.args.width c.args.rows.now c.args.skip.now rs w.owner.items) (sym c.reverse.ensures.items)
+    (solved p c.args.width c.args.rows.now c.args.skip.now w.classes.items w.stored.items w.owner.items c.in_ok-classes.ensures found all)

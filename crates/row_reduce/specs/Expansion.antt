@@ -1,0 +1,39 @@
+-- The vector behind a class, from its history.
+use Rattle.std.specs.Prelude.{ℕ, ◌+◌, ◌*◌, ◌<◌, zero, suc, List, length, slice_index, slice_index_or}
+use Rattle.linear_law.specs.Congruence.{Congruent}
+use Rattle.linear_law.specs.Lists.{Each}
+use Rattle.sparse_rows.specs.Rows.{IsBelow, IsRow, value_in}
+use Rattle.row_reduce.specs.declared.Class.{Class}
+use Rattle.row_reduce.specs.declared.Stored.{Stored}
+use Rattle.row_reduce.specs.Stored.{EntryFits, IsDense}
+use Rattle.row_reduce.specs.Walk.{AreNumbered, AreSources, IsFrom}
+
+-- the first k vectors, each by its weight
+abbrev pub weighted : ℕ → List ℕ → List (ℕ → ℕ) → (ℕ → ℕ) → ℕ → ℕ
+weighted zero ws fs d x = 0
+weighted (suc k) ws fs d x = weighted k ws fs d x + slice_index ws k * slice_index_or fs k d x
+
+-- while weights move to older rows: out and the weights below k make up the vector
+pub record Expanding (p : ℕ) (images : List (Stored p)) (place : ℕ) (history : List (ℕ × ℕ)) (weights : List ℕ) (out : List (ℕ × ℕ)) (k : ℕ) : Type 0 where
+  pub dense : IsDense p weights
+  pub sum : (sources : List (ℕ → ℕ)) (v d : ℕ → ℕ) → AreSources p images sources → IsFrom p (length images) sources place history v
+      → (x : ℕ) → Congruent p (v x) (value_in out x + weighted k weights sources d x)
+
+-- `out` is the vector behind a class
+pub record IsExpanded (p : ℕ) (images : List (Stored p)) (place : ℕ) (history out : List (ℕ × ℕ)) : Type 0 where
+  pub is : (sources : List (ℕ → ℕ)) (v : ℕ → ℕ) → AreSources p images sources → IsFrom p (length images) sources place history v
+      → (x : ℕ) → Congruent p (v x) (value_in out x)
+
+-- the history names rows below k
+abbrev pub HistoryFits : (p k : ℕ) → Class p → Type 0
+HistoryFits p k class = Each (EntryFits p k) class.history.items
+
+-- `row` is the vector behind a class
+pub record IsVectorOf (p : ℕ) (images : List (Stored p)) (class : Class p) (row : List (ℕ × ℕ)) : Type 0 where
+  pub expanded : IsExpanded p images class.place class.history.items row
+  pub is_row : IsRow p row
+  pub below : (count : ℕ) → AreNumbered count images → class.place < count → IsBelow count row
+
+-- each history names older rows
+pub record AreOlder (p : ℕ) (images : List (Stored p)) : Type 0 where
+  pub each : (k : ℕ) (s : Stored p) → k < length images → Each (EntryFits p k) (slice_index_or images k s).history.items

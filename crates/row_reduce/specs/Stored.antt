@@ -1,0 +1,71 @@
+-- Stored rows: what a walk keeps of the rows that did not go to zero.
+use Rattle.std.specs.Prelude.{◌≡◌, ℕ, ◌+◌, ◌*◌, ◌<◌, ◌≤◌, suc, List, map, length, slice_index, slice_index_or}
+use Rattle.linear_law.specs.Congruence.{Congruent, sum_over}
+use Rattle.linear_law.specs.Lists.{Among, Each}
+use Rattle.sparse_rows.specs.Rows.{value_in}
+use Rattle.row_reduce.specs.declared.Stored.{Stored}
+
+-- numbers below p
+pub record IsDense (p : ℕ) (sum : List ℕ) : Type 0 where
+  pub small : (k : ℕ) → k < length sum → slice_index sum k < p
+
+-- all numbers are zero
+pub record IsClear (sum : List ℕ) : Type 0 where
+  pub zero : (y : ℕ) → slice_index sum y ≡ 0
+
+-- a value below p at a place below width
+pub record EntryFits (p width : ℕ) (e : ℕ × ℕ) : Type 0 where
+  pub inside : e.0 < width
+  pub small : e.1 < p
+
+-- a row with its lead, and the factor that takes the value there to -1
+pub record StoredFits (p width : ℕ) (i : Stored p) : Type 0 where
+  pub inside : i.place < width
+  pub entries : Each (EntryFits p width) i.row.items
+  pub small : i.factor < p
+  pub factor : Congruent p (value_in i.row.items i.place * i.factor + 1) 0
+  pub leads : (y : ℕ) → y < i.place → Congruent p (value_in i.row.items y) 0
+
+abbrev pub stored_place : {p : ℕ} → Stored p → ℕ
+stored_place i = i.place
+
+-- `owner` names the row that has a place as its lead, by its number plus 1; 0 says that none has
+pub record Owns {p : ℕ} (width : ℕ) (images : List (Stored p)) (owner : List ℕ) : Type 0 where
+  pub full : length owner ≡ width
+  pub some : (y k : ℕ) → slice_index owner y ≡ suc k → (k < length images) × ((d : Stored p) → (slice_index_or images k d).place ≡ y)
+  pub none : (y : ℕ) → y < width → slice_index owner y ≡ 0 → Among y (map stored_place images) → ⊥
+
+-- what the rows that a history names add
+abbrev pub added_row : {p : ℕ} → List (Stored p) → Stored p → List (ℕ × ℕ) → ℕ → ℕ
+added_row images d history y = sum_over (λ h. h.1 * value_in (slice_index_or images h.0 d).row.items y) history
+
+-- the sum is the row, and starts at `start`
+pub record IsLoaded (p : ℕ) (row : List (ℕ × ℕ)) (sum : List ℕ) (start : ℕ) : Type 0 where
+  pub dense : IsDense p sum
+  pub inside : start ≤ length sum
+  pub before : (y : ℕ) → y < start → slice_index sum y ≡ 0
+  pub is_row : (y : ℕ) → Congruent p (slice_index sum y) (value_in row y)
+
+-- new is old with multiples of the rows added, down to a lead t that no row has; t is width where nothing is left
+pub record IsReducedTo (p width : ℕ) (images : List (Stored p)) (owner old new : List ℕ) (t : ℕ) (history : List (ℕ × ℕ)) : Type 0 where
+  pub dense : IsDense p new
+  pub inside : t ≤ width
+  pub before : (y : ℕ) → y < t → slice_index new y ≡ 0
+  pub stop : t < width → (0 < slice_index new t) × (slice_index owner t ≡ 0)
+  pub history_fits : Each (EntryFits p (length images)) history
+  pub row : (d : Stored p) (y : ℕ) → Congruent p (slice_index new y) (slice_index old y + added_row images d history y)
+
+-- the entries are what was in the sum, which is now clear
+pub record IsRest (p : ℕ) (old new : List ℕ) (rest : List (ℕ × ℕ)) : Type 0 where
+  pub clear : IsClear new
+  pub fits : Each (EntryFits p (length old)) rest
+  pub row : (y : ℕ) → Congruent p (value_in rest y) (slice_index old y)
+
+-- what is left in the sum, as a row to store, with the lead t
+pub record IsStoredFrom (p : ℕ) (old new : List ℕ) (t source : ℕ) (history : List (ℕ × ℕ)) (i : Stored p) : Type 0 where
+  pub clear : IsClear new
+  pub fits : StoredFits p (length old) i
+  pub place : i.place ≡ t
+  pub source_is : i.source ≡ source
+  pub history_is : i.history.items ≡ history
+  pub row : (y : ℕ) → Congruent p (value_in i.row.items y) (slice_index old y)

@@ -1,0 +1,144 @@
+ghost use Rattle.std.specs.List.{AllZip};
+ghost use Rattle.std.specs.Prelude.{◌≡◌, ℕ, ◌+◌, ◌^◌, ◌<◌, ◌≤◌, length, List, [], ◌∷◌, OnOk, IfOk, IsTrue};
+ghost use Rattle.linear_law.specs.Lists.{Each};
+ghost use Rattle.fp_field.specs.Served.{served};
+ghost use Rattle.row_reduce.specs.Stored.{EntryFits, IsClear, IsDense};
+ghost use Rattle.sparse_rows.specs.Rows.{IsBelow};
+ghost use Rattle.row_reduce.specs.Walk.{AreNumbered, IsSolved, SkipsFit};
+ghost use Rattle.row_reduce.specs.Expansion.{AreOlder, Expanding, HistoryFits, IsExpanded, IsVectorOf};
+
+use crate::reducing::add_row;
+use crate::walking::{walk_rows, zero_values};
+use crate::{Class, Stored, Walk};
+use fp_field::Fp;
+use sparse_rows::Row;
+use std::alloc::{AllocError, Global};
+
+/// Moves the weight of the k-th row to what it arose from.
+fn move_weight<const P: u32>(
+    k: usize,
+    images: &[Stored<P>],
+    weights: &mut [Fp<P>],
+    out: &mut Vec<(u32, Fp<P>)>,
+) -> Result<(), AllocError>
+    requires prime { IsTrue (served P) }
+    requires inside { k < length images.now }
+    requires older { AreOlder P images.now }
+    requires full { length weights.old ≡ length images.now }
+    requires dense { IsDense P weights.old }
+    ensures dense { OnOk result (IsDense P weights.new) }
+    ensures below { OnOk result ((count : ℕ) → AreNumbered count images.now → IsBelow count out.old.items → IsBelow count out.new.items) }
+    ensures moved { OnOk result ((place : ℕ) (history : List (ℕ × ℕ)) → Expanding P images.now place history weights.old out.old.items (k + 1) → Expanding P images.now place history weights.new out.new.items k) }
+{
+    let weight = weights[k];
+    if weight.value() != 0 {
+        out.push((images[k].source, weight))?;
+        add_row(weights, images[k].history.as_slice(), weight);
+    }
+    Ok(())
+}
+
+/// Moves all weights, from the newest row to the oldest.
+fn move_all<const P: u32>(
+    images: &[Stored<P>],
+    weights: &mut [Fp<P>],
+    out: &mut Vec<(u32, Fp<P>)>,
+) -> Result<(), AllocError>
+    requires prime { IsTrue (served P) }
+    requires older { AreOlder P images.now }
+    requires full { length weights.old ≡ length images.now }
+    requires dense { IsDense P weights.old }
+    ensures below { OnOk result ((count : ℕ) → AreNumbered count images.now → IsBelow count out.old.items → IsBelow count out.new.items) }
+    ensures expanded { OnOk result ((place : ℕ) (history : List (ℕ × ℕ)) → Expanding P images.now place history weights.old out.old.items (length images.now) → IsExpanded P images.now place history out.new.items) }
+{
+    for done in 0..images.len() {
+        move_weight(images.len() - 1 - done, images, weights, out)?;
+    }
+    Ok(())
+}
+
+/// Lets a history spread over what it arose from.
+fn expand_into<const P: u32>(
+    images: &[Stored<P>],
+    class: &Class<P>,
+    weights: &mut [Fp<P>],
+    out: &mut Vec<(u32, Fp<P>)>,
+) -> Result<(), AllocError>
+    requires prime { IsTrue (served P) }
+    requires older { AreOlder P images.now }
+    requires full { length weights.old ≡ length images.now }
+    requires clear { IsClear weights.old }
+    requires start { out.old.items ≡ (class.now.place, 1) ∷ [] }
+    requires fits { HistoryFits P (length images.now) class.now }
+    ensures below { OnOk result ((count : ℕ) → AreNumbered count images.now → class.now.place < count → IsBelow count out.new.items) }
+    ensures expanded { OnOk result (IsExpanded P images.now class.now.place class.now.history.items out.new.items) }
+{
+    add_row(weights, class.history.as_slice(), Fp::new(1));
+    move_all(images, weights, out)?;
+    Ok(())
+}
+
+/// The vector behind a class, as a row.
+fn expand<const P: u32>(
+    alloc: Global,
+    images: &[Stored<P>],
+    class: &Class<P>,
+) -> Result<Row<P>, AllocError>
+    requires prime { IsTrue (served P) }
+    requires older { AreOlder P images.now }
+    requires fits { HistoryFits P (length images.now) class.now }
+    ensures { IfOk result (IsVectorOf P images.now class.now) }
+{
+    let mut weights = zero_values(alloc, images.len())?;
+    let mut out = Vec::new(alloc);
+    out.push((class.place, Fp::new(1)))?;
+    expand_into(images, class, weights.as_mut_slice(), &mut out)?;
+    let row = Row::from_pairs(alloc, out.as_slice())?;
+    Ok(row)
+}
+
+/// The vectors behind the classes.
+fn vectors<const P: u32>(
+    alloc: Global,
+    images: &[Stored<P>],
+    classes: &[Class<P>],
+) -> Result<Vec<Row<P>>, AllocError>
+    requires prime { IsTrue (served P) }
+    requires older { AreOlder P images.now }
+    requires fits { Each (HistoryFits P (length images.now)) classes.now }
+    ensures { IfOk result (λ v. AllZip (IsVectorOf P images.now) classes.now v.items) }
+{
+    let mut rows = Vec::new(alloc);
+    for class in classes {
+        rows.push(expand(alloc, images, class)?)?;
+    }
+    Ok(rows)
+}
+
+/// The combinations of the rows that are zero, and a table that is not 0 exactly at the leads of what
+/// the rows span. `width` bounds the places of the rows. A row where `skip` is not 0 is not walked: it
+/// has to be the first row of some combination that is zero. The combinations are those of the other
+/// rows that are the first of one: each is 1 at that row and 0 at all others of these, and the list
+/// ascends by that row. Time is for the walk of the rows, with the reduced rows kept sparse.
+pub fn kernel_and_leads<const P: u32>(
+    alloc: Global,
+    rows: &[Row<P>],
+    width: usize,
+    skip: &[u32],
+) -> Result<(Vec<Row<P>>, Vec<u32>), AllocError>
+    requires prime { IsTrue (served P) }
+    requires few { length rows.now < 2 ^ 32 }
+    requires narrow { width < 2 ^ 32 }
+    requires within { Each (IsBelow width) rows.now }
+    requires skips { SkipsFit P width rows.now skip.now }
+    ensures { IfOk result (λ r. IsSolved P width rows.now skip.now r.0.items r.1.items) }
+{
+    let Walk {
+        classes,
+        stored,
+        owner,
+    } = walk_rows(alloc, rows, width, skip)?;
+    let mut kernel = vectors(alloc, stored.as_slice(), classes.as_slice())?;
+    kernel.reverse();
+    Ok((kernel, owner))
+}

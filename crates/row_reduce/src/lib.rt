@@ -1,0 +1,44 @@
+//! Elimination over a prime field, on sparse rows.
+#![tactic(auto)]
+
+mod expanding;
+mod reducing;
+mod walking;
+
+pub use expanding::kernel_and_leads;
+use fp_field::Fp;
+
+/// A row that the walk has left, with its lead and how it arose.
+#[derive(Drop)]
+pub struct Stored<const P: u32> {
+    /// The lead: the least place at which the row is not zero.
+    pub place: u32,
+    /// The factor that takes the value at the lead to -1.
+    pub factor: Fp<P>,
+    /// The values of the row, in no special order.
+    pub row: Vec<(u32, Fp<P>)>,
+    /// The number of the given row that it is left of.
+    pub source: u32,
+    /// The older stored rows that were added, by number, with their factors.
+    pub history: Vec<(u32, Fp<P>)>,
+}
+
+/// A row that went to zero, and the stored rows that were added to get there.
+#[derive(Drop)]
+pub struct Class<const P: u32> {
+    /// The number of the given row.
+    pub place: u32,
+    /// The stored rows that were added, by number, with their factors.
+    pub history: Vec<(u32, Fp<P>)>,
+}
+
+/// What a walk found.
+#[derive(Drop)]
+pub struct Walk<const P: u32> {
+    /// The rows that went to zero, from the last to the first.
+    pub classes: Vec<Class<P>>,
+    /// What is left of the others, each with a lead of its own.
+    pub stored: Vec<Stored<P>>,
+    /// For each place the number of the stored row with this lead, plus 1; 0 where there is none.
+    pub owner: Vec<u32>,
+}
