@@ -18,6 +18,16 @@ impl<T> Model for Listed<T> {
     ghost view = { λ l. l.items.items };
 }
 
+impl<T> From<Vec<T>> for Listed<T> {
+    ghost use Rattle.std.specs.Prelude.{◌≡◌};
+
+    ghost from_gives = { λ v l. l ≡ v.items };
+
+    fn from(items: Vec<T>) -> Listed<T> {
+        Listed { items }
+    }
+}
+
 impl<T> Listed<T> {
     /// The empty list. It takes no memory, and keeps the allocator with which it grows.
     pub fn new(alloc: Global) -> Listed<T>

@@ -1,0 +1,4 @@
+pub mod Steps
+pub mod FacetLemmas
+pub mod NameLemmas
+pub mod JobLemmas

@@ -1,0 +1,14 @@
+use Rattle.std.proofs.Common.{◌≡◌, ◌∙◌, List, ℕ, true, ap, subst, rules}
+use Rattle.std.specs.List.{list_all}
+use Rattle.complex_file.specs.Text.{is_allowed, words}
+use Rattle.complex_file.specs.Input.{after_line, after_words}
+use Rattle.complex_file.specs.Reading.{Gives}
+use Rattle.complex_file.specs.Views.{place_seen, texts}
+use Rattle.complex_file.proofs.input.after_line.Goals as goal
+
+pub returns : goal.returns
+unfolding after_line
+returns c =
+    let same : texts c.deref.result.now ≡ words c.args.line.now = ap texts c.deref.ensures.value ∙ c.in_ok-words.ensures in
+    let text : list_all is_allowed c.args.line.now ≡ true = search rules in
+    rw text (subst (λ (w : List (List ℕ)). Gives place_seen c.after_words.result (after_words (place_seen c.args.place) w)) same c.after_words.ensures)

@@ -1,0 +1,10 @@
+pub mod Text
+pub mod Lines
+pub mod Complexes
+pub mod Maps
+pub mod Jobs
+pub mod Input
+pub mod Kinds
+pub mod Named
+pub mod Reading
+pub mod Views

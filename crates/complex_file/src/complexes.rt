@@ -1,0 +1,71 @@
+ghost use Rattle.std.specs.Prelude.{◌≡◌, IfOk, Some, None, if◌then◌else◌};
+ghost use Rattle.complex_file.specs.Complexes.{ascending, complex_fault, has_repeat, with_facet};
+ghost use Rattle.complex_file.specs.Reading.{Gives};
+
+use crate::fault::LineFault;
+use crate::{BlockFault, ComplexBlock, InputKind};
+use simplex_set::{FacetRefused, OpenComplex, Simplex};
+use std::alloc::{AllocError, Global};
+use std::collections::BTreeSet;
+
+// The items of a set, in order.
+fn items_of(alloc: Global, set: &BTreeSet<u32>) -> Result<Vec<u32>, AllocError>
+    ensures { IfOk result (λ v. v.items ≡ set.now.keys) }
+{
+    set.iter().copied().collect(alloc)
+}
+
+/// The simplex with these vertices in ascending order, where none stands twice.
+pub fn facet_of(alloc: Global, vertices: &[u32]) -> Result<Option<Simplex>, AllocError>
+    ensures { IfOk result (λ o. o ≡ (if has_repeat vertices.now then None else Some (ascending vertices.now))) }
+{
+    let mut set = BTreeSet::new(alloc);
+    for v in vertices {
+        set.insert(*v)?;
+    }
+    if set.len() < vertices.len() {
+        return Ok(None);
+    }
+    let ascending = items_of(alloc, &set)?;
+    Ok(Some(Simplex::new(alloc, &ascending)?))
+}
+
+/// The facets with one more, or its fault.
+pub fn with_facet(
+    alloc: Global,
+    complex: OpenComplex,
+    facet: Simplex,
+) -> Result<OpenComplex, LineFault>
+    ensures { Gives (λ c. c) result (with_facet complex facet) }
+{
+    if facet.vertices().len() > 16 {
+        return Err(LineFault::Kind(InputKind::FacetTooWide));
+    }
+    match complex.with_facet(alloc, facet, 100_000) {
+        Ok(more) => Ok(more),
+        Err(FacetRefused::OutOfMemory) => Err(LineFault::Memory),
+        Err(FacetRefused::TooManySimplices) => Err(LineFault::Kind(InputKind::TooManySimplices)),
+    }
+}
+
+/// The first facet of the complex that has more than 16 vertices, or with which the complex has more than 100,000
+/// simplices, with that kind and its place. `None` exactly where there is none.
+pub fn complex_fault(alloc: Global, block: &ComplexBlock) -> Result<Option<BlockFault>, AllocError>
+    ensures { IfOk result (λ r. r ≡ complex_fault block.now.facets) }
+{
+    let mut complex = OpenComplex::new(alloc);
+    for (at, facet) in block.facets.as_slice().iter().enumerate() {
+        let copy = Simplex::new(alloc, facet.vertices())?;
+        match with_facet(alloc, complex, copy) {
+            Ok(more) => complex = more,
+            Err(LineFault::Memory) => return Err(AllocError),
+            Err(LineFault::Kind(kind)) => {
+                return Ok(Some(BlockFault {
+                    kind,
+                    at: at as u64,
+                }));
+            }
+        }
+    }
+    Ok(None)
+}

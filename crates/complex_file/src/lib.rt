@@ -1,0 +1,24 @@
+//! The input of the program: complexes and maps in lines of words.
+#![tactic(auto)]
+
+mod block;
+mod complexes;
+mod fault;
+mod found;
+mod input;
+mod job;
+mod kind;
+mod line;
+mod place;
+mod text;
+
+pub use block::{ComplexBlock, MapBlock, Name, Sent};
+pub use complexes::complex_fault;
+pub use fault::{BlockFault, JobRefused};
+pub use input::read_job;
+pub use job::Job;
+pub use kind::InputKind;
+pub use simplex_set::Simplex;
+
+#[cfg(test)]
+mod tests;
