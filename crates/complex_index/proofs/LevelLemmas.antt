@@ -223,15 +223,6 @@ all_levels ks ls h l n = elim (cases_lt n (length ls)) [
   | inr b ↦ level_past (lists ls) n (omega (arith, length_lists ls)) ∙ sym (none_of_degree ks n (length ls) l.bound b)
 ]
 
-pub index_made : (ks : List (List ℕ)) (ls : List Level) → AreLevels ks ls → IsLargest ks (length ls) → IsClosed ks → length ks < 2 ^ 32 → Each (λ s. length s ≤ 16) ks → IsIndex ls
-index_made ks ls h l c s t = record {
-  ordered = λ n. sorted_of_degree ks (level (lists ls) n) n (all_levels ks ls h l n) c;
-  sizes = λ n u m. length_of_test u (n + 1) (of_filter (λ v. eqb (length v) (n + 1)) ks u (subst (λ (vs : List (List ℕ)). Among u vs) (all_levels ks ls h l n) m)).1;
-  fits = h.fits;
-  small = λ n. few_of_degree ks (level (lists ls) n) n (all_levels ks ls h l n) s;
-  few = omega (arith, length_bound ks (length ls) t l);
-}
-
 -- ---- the levels of a complex
 
 -- a list has a sublist of each size up to its own
@@ -265,6 +256,16 @@ index_is facets ks ls a e h l =
 
 pub nothing_past : (ls : List Level) (n : ℕ) → length ls ≤ n → length (level (lists ls) n) ≡ 0
 nothing_past ls n h = ap length (level_past (lists ls) n (omega (arith, length_lists ls)))
+
+pub index_made : (facets ks : List (List ℕ)) (ls : List Level) → Each IsAscending facets → ks ≡ simplices facets → AreLevels ks ls → IsLargest ks (length ls) → IsClosed ks → length ks < 2 ^ 32 → Each (λ s. length s ≤ 16) ks → IsIndex ls
+index_made facets ks ls a e h l c s t = record {
+  complex = record { facets = facets; index = index_is facets ks ls a e h l };
+  ordered = λ n. sorted_of_degree ks (level (lists ls) n) n (all_levels ks ls h l n) c;
+  sizes = λ n u m. length_of_test u (n + 1) (of_filter (λ v. eqb (length v) (n + 1)) ks u (subst (λ (vs : List (List ℕ)). Among u vs) (all_levels ks ls h l n) m)).1;
+  fits = h.fits;
+  small = λ n. few_of_degree ks (level (lists ls) n) n (all_levels ks ls h l n) s;
+  few = omega (arith, length_bound ks (length ls) t l);
+}
 
 pub cofaces_is : (ls : List Level) (i : ℕ) (l : Level) → i < length ls → l ≡ get_or ls i l → l.cofaces.items ≡ cofaces_at ls i
 cofaces_is [] i l h e = absurd (omega arith)

@@ -1,3 +1,5 @@
 mod Searching
 mod FacePlaces
 mod LevelLemmas
+pub mod Alternating
+pub mod RowLemmas

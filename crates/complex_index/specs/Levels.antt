@@ -21,6 +21,11 @@ pub record IsIndexOf (facets : List (List ℕ)) (ls : List (List (List ℕ))) : 
   pub in_order : (n : ℕ) → IsInOrder (level ls n)
   pub inhabited : (n : ℕ) → n < length ls → 0 < length (level ls n)
 
+-- the levels are the simplices of some complex
+pub record IsComplexIndex (ls : List (List (List ℕ))) : Type 0 where
+  pub facets : List (List ℕ)
+  pub index : IsIndexOf facets ls
+
 -- ---- what the code keeps
 
 abbrev pub lists : List Level → List (List (List ℕ))
@@ -54,6 +59,7 @@ pub record IsLargest (ks : List (List ℕ)) (n : ℕ) : Type 0 where
 
 -- what an index keeps
 pub record IsIndex (ls : List Level) : Type 0 where
+  pub complex : IsComplexIndex (lists ls)
   pub ordered : (n : ℕ) → IsStrictlySortedBy simplex_cmp (level (lists ls) n)
   pub sizes : (n : ℕ) (s : List ℕ) → Among s (level (lists ls) n) → length s ≡ n + 1
   pub fits : (n : ℕ) → n + 1 < length ls → Fits (level (lists ls) n) (level (lists ls) (n + 1)) (faces_at ls (n + 1)) (cofaces_at ls (n + 1))

@@ -1,2 +1,3 @@
 pub mod Incidence
 pub mod Levels
+pub mod Chains

@@ -1,13 +1,28 @@
-ghost use Rattle.std.specs.Prelude.{◌≡◌, ℕ, ◌-◌, ◌<◌, ◌≤◌, ◌^◌, [], length, get_or, IfOk, MatchOption};
+ghost use Rattle.std.specs.Prelude.{◌≡◌, ℕ, ◌+◌, ◌-◌, ◌<◌, ◌≤◌, ◌^◌, [], length, map, get_or, IfOk, IsTrue, MatchOption};
+ghost use Rattle.std.specs.List.{AllZip};
 ghost use Rattle.linear_law.specs.Lists.{Among, Each, IsAscending};
 ghost use Rattle.simplicial_law.specs.ListedSimplices.{simplices};
-ghost use Rattle.complex_index.specs.Levels.{IsIndexOf, level};
+ghost use Rattle.simplicial_law.specs.EliminatedDegrees.{IsCoboundaryRow};
+ghost use Rattle.fp_field.specs.Served.{served};
+ghost use Rattle.sparse_rows.specs.Rows.{IsBelow, value_in};
+ghost use Rattle.complex_index.specs.Chains.{IsBoundaryOf, IsCoboundaryOf};
+ghost use Rattle.complex_index.specs.Levels.{IsComplexIndex, IsIndexOf, level};
 
+use crate::chains::{boundary_pairs, coboundary_pairs};
 use crate::levels::{Level, levels_of};
 use crate::place::place_among;
+use fp_field::Fp;
 use simplex_set::{Simplex, simplices_of};
+use sparse_rows::Row;
 use std::alloc::{AllocError, Global};
 use std::marker::Model;
+
+/// A cochain or a chain of one degree: a row of its values by place.
+#[derive(Drop)]
+pub struct Cochain<const P: u32> {
+    pub degree: u32,
+    pub row: Row<P>,
+}
 
 /// The simplices of a complex by degree and place: in each degree they stand in order, from place 0.
 #[derive(Debug, Drop)]
@@ -41,7 +56,8 @@ impl Indexed {
 
     /// The dimension plus 1, or 0 where there is no simplex.
     pub fn degrees(&self) -> u32
-        ensures { result ≡ length self.now }
+        ensures same { result ≡ length self.now }
+        ensures complex { IsComplexIndex self.now }
     {
         self.levels.len() as u32
     }
@@ -77,5 +93,100 @@ impl Indexed {
             Some(place) => Some(place as u32),
             None => None,
         }
+    }
+
+    // The row of the coboundary of a row.
+    fn coboundary_row<const P: u32>(
+        &self,
+        alloc: Global,
+        degree: u32,
+        row: &[(u32, Fp<P>)],
+    ) -> Result<Row<P>, AllocError>
+        requires prime { IsTrue (served P) }
+        requires inside { IsBelow (length (level self.now degree)) row.now }
+        ensures { IfOk result (λ r. IsCoboundaryOf P self.now degree row.now r) }
+    {
+        let above = degree as usize + 1;
+        if above >= self.levels.len() {
+            return Ok(Row::new(alloc));
+        }
+        let pairs = coboundary_pairs(alloc, &self.levels[above].cofaces, row)?;
+        Row::from_pairs(alloc, &pairs)
+    }
+
+    // The row of the boundary of a row.
+    fn boundary_row<const P: u32>(
+        &self,
+        alloc: Global,
+        degree: u32,
+        row: &[(u32, Fp<P>)],
+    ) -> Result<Row<P>, AllocError>
+        requires prime { IsTrue (served P) }
+        requires positive { 0 < degree }
+        requires inside { IsBelow (length (level self.now degree)) row.now }
+        ensures { IfOk result (λ r. IsBoundaryOf P self.now degree row.now r) }
+    {
+        if degree as usize >= self.levels.len() {
+            return Ok(Row::new(alloc));
+        }
+        let pairs = boundary_pairs(alloc, &self.levels[degree as usize].faces, row)?;
+        Row::from_pairs(alloc, &pairs)
+    }
+
+    /// The coboundary of a cochain: its value at a simplex is the alternating sum of the values at the
+    /// faces.
+    pub fn coboundary<const P: u32>(
+        &self,
+        alloc: Global,
+        cochain: &Cochain<P>,
+    ) -> Result<Cochain<P>, AllocError>
+        requires prime { IsTrue (served P) }
+        requires low { cochain.now.degree ≤ 255 }
+        requires inside { IsBelow (length (level self.now cochain.now.degree)) cochain.now.row }
+        ensures degree { IfOk result (λ d. d.degree ≡ cochain.now.degree + 1) }
+        ensures values { IfOk result (λ d. IsCoboundaryOf P self.now cochain.now.degree cochain.now.row d.row) }
+    {
+        let row = self.coboundary_row(alloc, cochain.degree, cochain.row.as_slice())?;
+        Ok(Cochain {
+            degree: cochain.degree + 1,
+            row,
+        })
+    }
+
+    /// The boundary of a chain of degree 1 or more: the alternating sums of the faces.
+    pub fn boundary<const P: u32>(
+        &self,
+        alloc: Global,
+        chain: &Cochain<P>,
+    ) -> Result<Cochain<P>, AllocError>
+        requires prime { IsTrue (served P) }
+        requires positive { 0 < chain.now.degree }
+        requires inside { IsBelow (length (level self.now chain.now.degree)) chain.now.row }
+        ensures degree { IfOk result (λ d. d.degree ≡ chain.now.degree - 1) }
+        ensures values { IfOk result (λ d. IsBoundaryOf P self.now chain.now.degree chain.now.row d.row) }
+    {
+        let row = self.boundary_row(alloc, chain.degree, chain.row.as_slice())?;
+        Ok(Cochain {
+            degree: chain.degree - 1,
+            row,
+        })
+    }
+
+    /// The coboundary from degree `n` to `n + 1` as a matrix: for each simplex of degree `n` the row of
+    /// the coboundary of the cochain that is 1 there and 0 elsewhere.
+    pub fn coboundary_rows<const P: u32>(
+        &self,
+        alloc: Global,
+        n: u32,
+    ) -> Result<Vec<Row<P>>, AllocError>
+        requires { IsTrue (served P) }
+        ensures rows { IfOk result (λ v. AllZip (IsCoboundaryRow P (level self.now (n + 1))) (map value_in v.items) (level self.now n)) }
+        ensures inside { IfOk result (λ v. Each (IsBelow (length (level self.now (n + 1)))) v.items) }
+    {
+        let mut rows = Vec::new(alloc);
+        for place in 0..self.count(n) {
+            rows.push(self.coboundary_row(alloc, n, &[(place, Fp::new(1))])?)?;
+        }
+        Ok(rows)
     }
 }

@@ -1,9 +1,10 @@
 //! The simplices of a complex by degree and place, with their faces and cofaces.
 #![tactic(auto)]
 
+mod chains;
 mod incidence;
 mod indexed;
 mod levels;
 mod place;
 
-pub use indexed::Indexed;
+pub use indexed::{Cochain, Indexed};

@@ -15,7 +15,7 @@ levels_of-requires-clause-short c =
 pub invariant_of-result : goal.invariant_of-result
 invariant_of-result c =
     let e : c.deref.result.now ≡ simplices c.args.facets.now = c.deref.ensures.value ∙ c.in_ok-all.ensures in
-    index_made c.deref.result.now c.in_ok-levels.levels.items c.in_ok-levels.ensures.levels c.in_ok-levels.ensures.len
+    index_made c.args.facets.now c.deref.result.now c.in_ok-levels.levels.items c.requires.ascending e c.in_ok-levels.ensures.levels c.in_ok-levels.ensures.len
     (subst IsClosed (sym e) (simplices_closed c.args.facets.now))
     (omega (arith, ap length e, c.requires.few))
     (subst (λ (ks : List (List ℕ)). Each (λ (s : List ℕ). length s ≤ 16) ks) (sym e) (simplices_short c.args.facets.now c.requires.short))

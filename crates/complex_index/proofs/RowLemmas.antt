@@ -1,0 +1,121 @@
+-- Rows of coboundaries and of boundaries, at a degree of an index.
+use Rattle.std.proofs.Common.{◌≡◌, ℕ, zero, suc, ◌+◌, ◌-◌, ◌*◌, ◌%◌, ◌<◌, ◌≤◌, inl, inr, arith, refl, sym, ◌∙◌, ap, subst, List, [], ◌∷◌, ◌++◌, map, take, take_all, length, get_or, cond, eqb, true, false, Result, Ok, Err, mod-eq_of_lt, sub-one}
+use native.Mathlib.Nat.{zero-mod}
+use Rattle.std.specs.Result.{IfOk}
+use Rattle.std.specs.declared.alloc.AllocError.{AllocError}
+use Rattle.std.specs.List.{AllZip}
+use Rattle.std.proofs.lemmas.Bool.{cases_lt, eq-eqb}
+use Rattle.std.proofs.lemmas.Bool.Decides.{eqb_tells}
+use Rattle.std.proofs.lemmas.List.{map-append, take_more}
+use Rattle.complex_index.specs.declared.levels.Level.{Level}
+use Rattle.linear_law.specs.Congruence.{Congruent}
+use Rattle.linear_law.specs.Lists.{Among, Each}
+use Rattle.linear_law.proofs.AlikeLemmas.{zip_push}
+use Rattle.linear_law.proofs.CongruenceLemmas.{Congruent_mod, Congruent_of, Congruent_trans}
+use Rattle.linear_law.proofs.ListLemmas.{each_among}
+use Rattle.simplicial_law.specs.Cochains.{Cochain, coboundary, unit_cochain}
+use Rattle.simplicial_law.specs.CanonicalClasses.{cochain_of}
+use Rattle.simplicial_law.specs.EliminatedDegrees.{IsCoboundaryRow, terms_of}
+use Rattle.simplicial_law.proofs.ListedSimplices.{each_of}
+use Rattle.sparse_rows.specs.Rows.{IsBelow, IsRow, value_in}
+use Rattle.complex_index.specs.Chains.{IsBoundaryOf, IsCoboundaryOf, boundary_coefficient, shrunk, spread}
+use Rattle.complex_index.specs.Incidence.{lists_of}
+use Rattle.complex_index.specs.Levels.{Fits, IsIndex, lists, level, faces_at, cofaces_at}
+use Rattle.complex_index.proofs.Alternating.{boundary_is, coboundary_is, pair_value, shrunk_below, spread_below}
+use Rattle.complex_index.proofs.FacePlaces.{each_push}
+use Rattle.complex_index.proofs.LevelLemmas.{places_length}
+
+-- ---- places in range
+
+value_beyond : (n k : ℕ) (pairs : List (ℕ × ℕ)) → IsBelow n pairs → n ≤ k → value_in pairs k ≡ 0
+value_beyond n k [] h l = refl
+value_beyond n k (e ∷ es) h l = omega (arith, sym (pair_value e.0 e.1 k) ∙ ap (λ b. cond b e.1 0) (apart e.0 k (omega (arith, h.0))), value_beyond n k es h.1 l)
+  where
+    apart : (x k : ℕ) → x < k → eqb x k ≡ false
+    apart x k l = elim (eqb_tells x k) [ inl h ↦ absurd (omega (arith, h.1)) | inr h ↦ h.0 ]
+
+-- the value at the place of a pair is not less than its own
+own_value : (e : ℕ × ℕ) (row : List (ℕ × ℕ)) → Among e row → e.1 ≤ value_in row e.0
+own_value e [] m = elim m [ ]
+own_value e (f ∷ fs) m = elim m [
+  | inl q ↦ subst (λ (g : ℕ × ℕ). g.1 ≤ value_in (f ∷ fs) g.0) q (let one : eqb f.0 f.0 ≡ true = eq-eqb f.0 f.0 refl in omega (arith, sym (pair_value f.0 f.1 f.0) ∙ ap (λ b. cond b f.1 0) one))
+  | inr n ↦ omega (arith, own_value e fs n)
+]
+
+row_below : (p n : ℕ) (row pairs : List (ℕ × ℕ)) → IsRow p row → ((k : ℕ) → value_in row k ≡ value_in pairs k % p) → IsBelow n pairs → IsBelow n row
+row_below p n row pairs h s b = each_of (λ (e : ℕ × ℕ). e.0 < n) row (λ e m. elim (cases_lt e.0 n) [
+  | inl l ↦ l
+  | inr g ↦ absurd ((each_among (λ (u : ℕ × ℕ). (u.1 ≡ 0 → ⊥) × (u.1 < p)) e row h.values m).0 (omega (arith, own_value e row m, s e.0 ∙ ap (λ v. v % p) (value_beyond n e.0 pairs b g) ∙ zero-mod p)))
+])
+
+values_of : (p k w : ℕ) (row pairs : List (ℕ × ℕ)) → ((k : ℕ) → value_in row k ≡ value_in pairs k % p) → Congruent p (value_in pairs k) w → Congruent p (value_in row k) w
+values_of p k w row pairs s h = Congruent_trans (Congruent_of (s k)) (Congruent_trans (Congruent_mod p (value_in pairs k)) h)
+
+-- ---- at a degree
+
+pub coboundary_at : (p : ℕ) (ls : List Level) (n : ℕ) (low pairs row : List (ℕ × ℕ)) → 1 < p → IsIndex ls → n + 1 < length ls → IsBelow (length (level (lists ls) n)) low
+    → pairs ≡ spread p (cofaces_at ls (n + 1)) low → ((k : ℕ) → value_in row k ≡ value_in pairs k % p) → IsRow p row → IsCoboundaryOf p (lists ls) n low row
+coboundary_at p ls n low pairs row h i l f e s r =
+    let w = i.fits n l in
+    record {
+      inside = row_below p (length (level (lists ls) (n + 1))) row pairs r s
+          (subst (IsBelow (length (level (lists ls) (n + 1)))) (sym e)
+          (spread_below p (length (level (lists ls) (n + 1))) (lists_of (faces_at ls (n + 1))) (cofaces_at ls (n + 1)) low w.cofaces (omega (arith, places_length (level (lists ls) n) (level (lists ls) (n + 1)) (lists_of (faces_at ls (n + 1))) w.places))));
+      values = λ k b. values_of p k (coboundary p (cochain_of (terms_of (level (lists ls) n) low)) (get_or (level (lists ls) (n + 1)) k [])) row pairs s
+          (subst (λ (ts : List (ℕ × ℕ)). Congruent p (value_in ts k) (coboundary p (cochain_of (terms_of (level (lists ls) n) low)) (get_or (level (lists ls) (n + 1)) k []))) (sym e)
+          (coboundary_is p (level (lists ls) n) (level (lists ls) (n + 1)) (lists_of (faces_at ls (n + 1))) (cofaces_at ls (n + 1)) low k h (i.ordered n) w.places w.cofaces f b));
+    }
+
+pub boundary_at : (p : ℕ) (ls : List Level) (m : ℕ) (high pairs row : List (ℕ × ℕ)) → 1 < p → IsIndex ls → 0 < m → m < length ls → IsBelow (length (level (lists ls) m)) high
+    → pairs ≡ shrunk p (faces_at ls m) high → ((k : ℕ) → value_in row k ≡ value_in pairs k % p) → IsRow p row → IsBoundaryOf p (lists ls) m high row
+boundary_at p ls zero high pairs row h i o l f e s r = absurd (omega arith)
+boundary_at p ls (suc n) high pairs row h i o l f e s r =
+    let q : n + 1 ≡ suc n = omega arith in
+    let w = subst (λ (m : ℕ). Fits (level (lists ls) n) (level (lists ls) m) (faces_at ls m) (cofaces_at ls m)) q (i.fits n (omega arith)) in
+    let At : ℕ → Type 0 = λ d. IsBelow (length (level (lists ls) d)) row
+    × ((k : ℕ) → k < length (level (lists ls) d) → Congruent p (value_in row k) (boundary_coefficient p (terms_of (level (lists ls) (suc n)) high) (get_or (level (lists ls) d) k []))) in
+    let made : At (suc n - 1) = subst At (sym (sub-one (suc n))) (
+      row_below p (length (level (lists ls) n)) row pairs r s
+          (subst (IsBelow (length (level (lists ls) n))) (sym e) (shrunk_below p (level (lists ls) n) (level (lists ls) (suc n)) (faces_at ls (suc n)) high w.places)),
+      λ k b. values_of p k (boundary_coefficient p (terms_of (level (lists ls) (suc n)) high) (get_or (level (lists ls) n) k [])) row pairs s
+          (subst (λ (ts : List (ℕ × ℕ)). Congruent p (value_in ts k) (boundary_coefficient p (terms_of (level (lists ls) (suc n)) high) (get_or (level (lists ls) n) k []))) (sym e)
+          (boundary_is p (level (lists ls) n) (level (lists ls) (suc n)) (faces_at ls (suc n)) high k h (i.ordered n) w.places f b)),
+    ) in
+    record { inside = made.0; values = made.1 }
+
+-- past the dimension there are no terms
+pub boundary_of_none : (p : ℕ) (ls : List (List (List ℕ))) (n : ℕ) (high row : List (ℕ × ℕ)) → length (level ls n) ≡ 0 → IsBelow (length (level ls n)) high → row ≡ [] → IsBoundaryOf p ls n high row
+boundary_of_none p ls n [] row e f g =
+    subst (IsBoundaryOf p ls n []) (sym g) (record { inside = tt; values = λ k b. Congruent_of refl })
+boundary_of_none p ls n (t ∷ ts) row e f g = absurd (omega (arith, f.0, e))
+
+-- from what is made of pairs
+pub if_made : (p : ℕ) (pairs : List (ℕ × ℕ)) (Q : List (ℕ × ℕ) → Type 0) (r : Result (List (ℕ × ℕ)) AllocError) → ((v : List (ℕ × ℕ)) → ((k : ℕ) → value_in v k ≡ value_in pairs k % p) → IsRow p v → Q v)
+    → IfOk r (λ v. (k : ℕ) → value_in v k ≡ value_in pairs k % p) → IfOk r (IsRow p) → IfOk r Q
+if_made p pairs Q (Ok v) f h k = f v h k
+if_made p pairs Q (Err e) f h k = tt
+
+-- ---- the rows of a degree
+
+single : (c : ℕ) (s : List ℕ) → c ≡ 1 → (t : List ℕ) → cochain_of ((c, s) ∷ []) t ≡ unit_cochain s t
+single c s e t = omega (arith, ap (λ m. m * unit_cochain s t) e)
+
+pub unit_row : (p : ℕ) (ls : List (List (List ℕ))) (n x c : ℕ) (row : List (ℕ × ℕ)) → 1 < p → c ≡ 1 % p → IsCoboundaryOf p ls n ((x, c) ∷ []) row
+    → IsCoboundaryRow p (level ls (n + 1)) (value_in row) (get_or (level ls n) x [])
+unit_row p ls n x c row h e r j b =
+    subst (λ (f : Cochain). Congruent p (value_in row j) (coboundary p f (get_or (level ls (n + 1)) j [])))
+    (λ i t. single c (get_or (level ls n) x []) (e ∙ mod-eq_of_lt h) t i) (r.values j b)
+
+pub rows_push : (p : ℕ) (ls : List (List (List ℕ))) (n x c : ℕ) (rows news : List (List (ℕ × ℕ))) (row : List (ℕ × ℕ)) → 1 < p → x < length (level ls n) → c ≡ 1 % p → news ≡ rows ++ row ∷ [] → IsCoboundaryOf p ls n ((x, c) ∷ []) row
+    → AllZip (IsCoboundaryRow p (level ls (n + 1))) (map value_in rows) (take x (level ls n)) → AllZip (IsCoboundaryRow p (level ls (n + 1))) (map value_in news) (take (x + 1) (level ls n))
+rows_push p ls n x c rows news row h l e q r z =
+    subst (λ (vs : List (ℕ → ℕ)). AllZip (IsCoboundaryRow p (level ls (n + 1))) vs (take (x + 1) (level ls n))) (sym (ap (map value_in) q ∙ map-append value_in rows (row ∷ [])))
+    (subst (λ (ss : List (List ℕ)). AllZip (IsCoboundaryRow p (level ls (n + 1))) (map value_in rows ++ value_in row ∷ []) ss) (sym (take_more (level ls n) x [] l))
+    (zip_push (IsCoboundaryRow p (level ls (n + 1))) (map value_in rows) (take x (level ls n)) (value_in row) (get_or (level ls n) x []) z (unit_row p ls n x c row h e r)))
+
+pub rows_inside : (bound : ℕ) (rows news : List (List (ℕ × ℕ))) (row : List (ℕ × ℕ)) → news ≡ rows ++ row ∷ [] → IsBelow bound row → Each (IsBelow bound) rows → Each (IsBelow bound) news
+rows_inside bound rows news row q b h = subst (Each (IsBelow bound)) (sym q) (each_push (IsBelow bound) rows row h b)
+
+pub rows_all : (p : ℕ) (ls : List (List (List ℕ))) (n x : ℕ) (rows : List (List (ℕ × ℕ))) → length (level ls n) ≤ x
+    → AllZip (IsCoboundaryRow p (level ls (n + 1))) (map value_in rows) (take x (level ls n)) → AllZip (IsCoboundaryRow p (level ls (n + 1))) (map value_in rows) (level ls n)
+rows_all p ls n x rows l z = subst (AllZip (IsCoboundaryRow p (level ls (n + 1))) (map value_in rows)) (take_all x (level ls n) l) z

@@ -1,0 +1,13 @@
+use Rattle.std.proofs.Common.{◌+◌, length, map, take}
+use Rattle.std.specs.List.{AllZip}
+use Rattle.linear_law.specs.Lists.{Each}
+use Rattle.simplicial_law.specs.EliminatedDegrees.{IsCoboundaryRow}
+use Rattle.sparse_rows.specs.Rows.{IsBelow, value_in}
+use Rattle.complex_index.specs.Levels.{level}
+use Rattle.complex_index.proofs.indexed.Indexed.coboundary_rows.Given as goal
+
+abbrev pub invariant-loop-place : goal.invariant-loop-place
+invariant-loop-place g l = record {
+  rows : AllZip (IsCoboundaryRow g.row.P (level l.self (l.n + 1))) (map value_in l.rows.items) (take l.place (level l.self l.n));
+  inside : Each (IsBelow (length (level l.self (l.n + 1)))) l.rows.items;
+}

@@ -1,0 +1,79 @@
+ghost use Rattle.std.specs.Prelude.{◌≡◌, ◌++◌, false, map, length, IfOk, OnOk, IsTrue};
+ghost use Rattle.fp_field.specs.Served.{served};
+ghost use Rattle.sparse_rows.specs.Rows.{IsBelow};
+ghost use Rattle.complex_index.specs.Chains.{pair_of, shrunk, signed_places, signed_value as signed_value_is, spread};
+
+use crate::incidence::Coface;
+use fp_field::Fp;
+use std::alloc::{AllocError, Global};
+
+fn signed_value<const P: u32>(value: Fp<P>, odd: bool) -> Fp<P>
+    requires { IsTrue (served P) }
+    ensures { result ≡ signed_value_is P value.entry odd }
+{
+    if odd { value.neg() } else { value }
+}
+
+fn put_cofaces<const P: u32>(
+    pairs: &mut Vec<(u32, Fp<P>)>,
+    cofaces: &[Coface],
+    value: Fp<P>,
+) -> Result<(), AllocError>
+    requires { IsTrue (served P) }
+    ensures { OnOk result (pairs.new.items ≡ pairs.old.items ++ map (pair_of P value.entry) cofaces.now) }
+{
+    for coface in cofaces {
+        pairs.push((coface.place, signed_value(value, coface.odd)))?;
+    }
+    Ok(())
+}
+
+// The pairs of the coboundary of a row.
+pub(crate) fn coboundary_pairs<const P: u32>(
+    alloc: Global,
+    above: &[Vec<Coface>],
+    row: &[(u32, Fp<P>)],
+) -> Result<Vec<(u32, Fp<P>)>, AllocError>
+    requires prime { IsTrue (served P) }
+    requires inside { IsBelow (length above.now) row.now }
+    ensures { IfOk result (λ v. v.items ≡ spread P above.now row.now) }
+{
+    let mut found = Vec::new(alloc);
+    for pair in row {
+        put_cofaces(&mut found, &above[pair.0 as usize], pair.1)?;
+    }
+    Ok(found)
+}
+
+fn put_faces<const P: u32>(
+    pairs: &mut Vec<(u32, Fp<P>)>,
+    places: &[u32],
+    value: Fp<P>,
+) -> Result<(), AllocError>
+    requires { IsTrue (served P) }
+    ensures { OnOk result (pairs.new.items ≡ pairs.old.items ++ signed_places P value.entry false places.now) }
+{
+    let mut odd = false;
+    for place in places {
+        pairs.push((*place, signed_value(value, odd)))?;
+        odd = !odd;
+    }
+    Ok(())
+}
+
+// The pairs of the boundary of a row.
+pub(crate) fn boundary_pairs<const P: u32>(
+    alloc: Global,
+    below: &[Vec<u32>],
+    row: &[(u32, Fp<P>)],
+) -> Result<Vec<(u32, Fp<P>)>, AllocError>
+    requires prime { IsTrue (served P) }
+    requires inside { IsBelow (length below.now) row.now }
+    ensures { IfOk result (λ v. v.items ≡ shrunk P below.now row.now) }
+{
+    let mut found = Vec::new(alloc);
+    for pair in row {
+        put_faces(&mut found, &below[pair.0 as usize], pair.1)?;
+    }
+    Ok(found)
+}
