@@ -1,8 +1,10 @@
 -- The simplices so far, and one more with its faces.
-use Rattle.std.proofs.Common.{◌≡◌, ℕ, zero, suc, ◌+◌, ◌-◌, ◌<◌, ◌≤◌, ◌⊎◌, inl, inr, arith, refl, sym, ◌∙◌, ap, subst, List, [], ◌∷◌, ◌++◌, map, length, take, take_all, drop, length-drop, add-one, get_or, true}
+use Rattle.std.proofs.Common.{◌≡◌, ℕ, zero, suc, ◌+◌, ◌-◌, ◌<◌, ◌≤◌, ◌⊎◌, inl, inr, arith, ◌||◌, refl, sym, ◌∙◌, ap, subst, List, [], ◌∷◌, ◌++◌, map, length, take, take_all, drop, length-drop, add-one, get_or, true}
 use Rattle.std.proofs.lemmas.Bool.{cases_eq}
 use Rattle.std.proofs.lemmas.List.{length-map}
 use Rattle.std.specs.Ordering.{is_eq}
+use Rattle.std.specs.Str.{bytes_eq}
+use Rattle.std.proofs.lemmas.Map.Text.{is_eq-slice_cmp}
 use Rattle.std.specs.Cmp.Lexicographic.{nat_list_cmp_total}
 use Rattle.std.specs.BTreeSet.{insert_key}
 use Rattle.std.specs.List.{fold, list_any}
@@ -167,3 +169,8 @@ one_more facets f ks ns h w = w ∙ ap (λ (ms : List (List ℕ)). with_facet ms
 
 pub next_more : (facets : List (List ℕ)) (i : ℕ) (f : List ℕ) (ks ns : List (List ℕ)) → i < length facets → f ≡ get_or facets i f → ks ≡ simplices (take i facets) → ns ≡ with_facet ks f → ns ≡ simplices (take (i + 1) facets)
 next_more facets i f ks ns l e h w = w ∙ ap (λ (ms : List (List ℕ)). with_facet ms f) h ∙ sym (simplices_more facets i f l e)
+
+-- the two tests for a simplex
+pub any_simplex : (s : List ℕ) (ks : List (List ℕ)) → list_any (λ y. is_eq (simplex_cmp s y)) ks ≡ list_any (bytes_eq s) ks
+any_simplex s [] = refl
+any_simplex s (k ∷ ks) = λ i. is_eq-slice_cmp s k i || any_simplex s ks i

@@ -29,6 +29,11 @@ mod tests {
         assert_eq!(rt; complex.count(), 42);
         assert_eq!(rt; first_too_many(rt.alloc(), complex.facets(), 41)?, Some(13));
         assert_eq!(rt; first_too_many(rt.alloc(), complex.facets(), 42)?, None);
+        let again = OpenComplex::of(rt.alloc(), complex.facets())?;
+        for (vertices, is_there) in [([0u32, 1, 3], true), ([0, 1, 2], false)] {
+            let simplex = Simplex::new(rt.alloc(), &vertices)?;
+            assert_eq!(rt; again.contains(&simplex), is_there);
+        }
         let facets = complex.into_facets();
         let all = simplices_of(rt.alloc(), &facets)?;
         assert_eq!(rt; all.len(), 42);

@@ -1,4 +1,6 @@
-ghost use Rattle.std.specs.Prelude.{◌≡◌, ◌≤◌, ◌<◌, ◌++◌, ◌∷◌, [], length, MatchResult};
+ghost use Rattle.std.specs.Prelude.{◌≡◌, ◌≤◌, ◌<◌, ◌++◌, ◌∷◌, [], length, MatchResult, IfOk};
+ghost use Rattle.std.specs.List.{list_any};
+ghost use Rattle.std.specs.Str.{bytes_eq};
 ghost use Rattle.simplicial_law.specs.ListedSimplices.{simplices};
 ghost use Rattle.simplex_set.specs.declared.open.FacetRefused.TheVariants.{OutOfMemory};
 
@@ -62,6 +64,29 @@ impl OpenComplex {
             facets: Vec::new(alloc),
             found: BTreeSet::new(alloc),
         }
+    }
+
+    /// The complex with these facets.
+    pub fn of(alloc: Global, facets: &[Simplex]) -> Result<OpenComplex, AllocError>
+        ensures { IfOk result (λ c. c ≡ facets.now) }
+    {
+        let mut copies = Vec::new(alloc);
+        let mut found = BTreeSet::new(alloc);
+        for facet in facets {
+            add_facet(alloc, &mut found, facet)?;
+            copies.push(Simplex::new(alloc, facet.vertices())?)?;
+        }
+        Ok(OpenComplex {
+            facets: copies,
+            found,
+        })
+    }
+
+    /// Whether this is a simplex of the complex so far.
+    pub fn contains(&self, simplex: &Simplex) -> bool
+        ensures { result ≡ list_any (bytes_eq simplex.now) (simplices self.now) }
+    {
+        self.found.contains(simplex)
     }
 
     /// The facets, in the order in which they came.
