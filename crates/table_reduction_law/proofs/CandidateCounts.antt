@@ -16,7 +16,7 @@ use Rattle.table_reduction_law.proofs.ReductionBoundary.{numbers_from-length}
 use Rattle.table_reduction_law.proofs.RowCounts.{reduced_lists-length}
 use Rattle.table_reduction_law.specs.Counts.{binomial}
 use Rattle.table_reduction_law.specs.Laws.{CandidateCountLaw, MayTermsLaw, ReducedListsLaw}
-use Rattle.table_reduction_law.specs.MayElements.{cycle_power, half, leading_entries, may_candidates, may_element, may_tuples, power_pairs}
+use Rattle.table_reduction_law.specs.MayElements.{cycle_power, pair_count, leading_entries, may_candidates, may_element, may_tuples, power_pairs}
 use Rattle.table_reduction_law.specs.Reduction.{reduced_lists}
 use Rattle.table_reduction_law.specs.Tuples.{IsTuple}
 
@@ -37,7 +37,7 @@ pairs-all p (suc k) =
     (All-weaker (P (k + k)) (λ t. P (suc k + suc k) (cycle_power p e ∷ cycle_power p (suc e) ∷ t)) (λ t h. ((power-perm p e, (power-perm p (suc e), h.0)), (let n = h.1 in omega arith))) (power_pairs p k) (pairs-all p k)))
     (All-any (numbers_from 0 p))
 
-leading-length : (p d : ℕ) → length (leading_entries p d) + (half d + half d) ≡ d + 1
+leading-length : (p d : ℕ) → length (leading_entries p d) + (pair_count d + pair_count d) ≡ d + 1
 leading-length p zero = refl
 leading-length p (suc zero) = refl
 leading-length p (suc (suc d)) = let a = leading-length p d in omega arith
@@ -45,10 +45,10 @@ leading-length p (suc (suc d)) = let a = leading-length p d in omega arith
 may_tuples-all : (p d : ℕ) → All (λ w. IsTuple p w × (length w ≡ d + 1)) (may_tuples p d)
 may_tuples-all p d =
     let P : List (List ℕ) → Type 0 = λ w. IsTuple p w × (length w ≡ d + 1) in
-    All-map P (λ t. leading_entries p d ++ t) (power_pairs p (half d))
-    (All-weaker (λ t. IsTuple p t × (length t ≡ half d + half d)) (λ t. P (leading_entries p d ++ t))
+    All-map P (λ t. leading_entries p d ++ t) (power_pairs p (pair_count d))
+    (All-weaker (λ t. IsTuple p t × (length t ≡ pair_count d + pair_count d)) (λ t. P (leading_entries p d ++ t))
     (λ t h. (tuple-append p (leading_entries p d) t (lead-tuple p d) h.0, (let a = length-append (leading_entries p d) t in let b = leading-length p d in let n = h.1 in omega arith)))
-    (power_pairs p (half d)) (pairs-all p (half d)))
+    (power_pairs p (pair_count d)) (pairs-all p (pair_count d)))
 
 -- the terms
 
@@ -108,8 +108,8 @@ candidate_count_law zero d h = absurd (omega arith)
 candidate_count_law (suc p) d h =
     let e : suc p + d - 1 ≡ p + d = omega arith in
     length-flat_map_each (λ w. IsTuple (suc p) w × (length w ≡ d + 1)) reduced_lists (binomial (p + d) d) (may_tuples (suc p) d) (λ w k. count-one p d w k.0 k.1) (may_tuples-all (suc p) d)
-    ∙ ap (λ j. j * binomial (p + d) d) (length-map (power_pairs (suc p) (half d)) (λ t. leading_entries (suc p) d ++ t) ∙ power_pairs-length (suc p) (half d))
-    ∙ ap (λ n. suc p ^ half d * binomial n d) (sym e)
+    ∙ ap (λ j. j * binomial (p + d) d) (length-map (power_pairs (suc p) (pair_count d)) (λ t. leading_entries (suc p) d ++ t) ∙ power_pairs-length (suc p) (pair_count d))
+    ∙ ap (λ n. suc p ^ pair_count d * binomial n d) (sym e)
 
 pub reduced_lists_law : ReducedListsLaw
 reduced_lists_law = record {

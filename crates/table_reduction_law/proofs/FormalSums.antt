@@ -22,7 +22,7 @@ use Rattle.table_reduction_law.proofs.ReductionBoundary.{boundary-cong, chain-la
 use Rattle.table_reduction_law.proofs.ReductionWalks.{walk-cong}
 use Rattle.table_reduction_law.proofs.TupleActions.{face_sum-degenerate, face_sum-map, vanishes}
 use Rattle.table_reduction_law.specs.Laws.{DegenerateTupleLaw, MayRelations, ReductionActionLaw, ReductionBoundaryLaw, TupleActionLaw, TupleBoundaryLaw}
-use Rattle.table_reduction_law.specs.MayElements.{cycle, cycle_power, half, leading_entries, may_candidates, may_element, may_tuples, power_pairs, turned}
+use Rattle.table_reduction_law.specs.MayElements.{cycle, cycle_power, pair_count, leading_entries, may_candidates, may_element, may_tuples, power_pairs, turned}
 use Rattle.table_reduction_law.specs.Reduction.{reduced_lists, table_reduction}
 use Rattle.table_reduction_law.specs.Tuples.{IsTuple, entry_at, is_degenerate_tuple, is_zero_tuple, permuted_tuple, tuple_boundary}
 
@@ -71,7 +71,7 @@ total-power_pairs p (suc k) h =
     ∙ ap (sum_below p) (fun_ext (λ e. let q : 0 + e ≡ e = omega arith in ap (λ j. pair_sum p k (λ t. h (f j t))) q))
 
 pub total-may_tuples : (p d : ℕ) (h : List (List ℕ) → ℤ) → total h (may_tuples p d) ≡ may_tuple_sum p d h
-total-may_tuples p d h = total-map h (λ t. leading_entries p d ++ t) (power_pairs p (half d)) ∙ total-power_pairs p (half d) (λ t. h (leading_entries p d ++ t))
+total-may_tuples p d h = total-map h (λ t. leading_entries p d ++ t) (power_pairs p (pair_count d)) ∙ total-power_pairs p (pair_count d) (λ t. h (leading_entries p d ++ t))
 
 pub value_at-may_element : (p d : ℕ) (h : List ℕ → ℤ) → value_at h (may_element p d) ≡ may_sum p d (normalized h)
 value_at-may_element p d h =

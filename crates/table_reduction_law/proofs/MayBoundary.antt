@@ -5,7 +5,7 @@ use Rattle.surjection_law.specs.Places.{without_place}
 use Rattle.table_reduction_law.proofs.Permutations.{moves-cycle, reduced-moved, tuple-moved, uncycle}
 use Rattle.table_reduction_law.proofs.PowerPairs.{even-tuples, may_sum, may_tuple_sum, odd-tuples, pairs-cong, power-perm, sum-cong, sum_below, tuple_turned, turned_tuple}
 use Rattle.table_reduction_law.proofs.ReductionBoundary.{chain-law, face_sum, reduction_sum}
-use Rattle.table_reduction_law.specs.MayElements.{cycle, half, leading_entries, turned}
+use Rattle.table_reduction_law.specs.MayElements.{cycle, pair_count, leading_entries, turned}
 use Rattle.table_reduction_law.specs.Tuples.{IsTuple}
 
 pub lead-tuple : (p d : ℕ) → IsTuple p (leading_entries p d)
@@ -19,7 +19,7 @@ tuple-append r (x ∷ v) w h k = (h.0, tuple-append r v w h.1 k)
 
 -- each tuple of the element is one of permutations of 1 to p
 pub may-cong : (p d : ℕ) (f g : List (List ℕ) → ℤ) → ((w : List (List ℕ)) → IsTuple p w → f w ≡ g w) → may_tuple_sum p d f ≡ may_tuple_sum p d g
-may-cong p d f g h = pairs-cong p (half d) (λ t. f (leading_entries p d ++ t)) (λ t. g (leading_entries p d ++ t)) (λ t k. h (leading_entries p d ++ t) (tuple-append p (leading_entries p d) t (lead-tuple p d) k))
+may-cong p d f g h = pairs-cong p (pair_count d) (λ t. f (leading_entries p d ++ t)) (λ t. g (leading_entries p d ++ t)) (λ t k. h (leading_entries p d ++ t) (tuple-append p (leading_entries p d) t (lead-tuple p d) k))
 
 turned_by-tuple : (p e : ℕ) (w : List (List ℕ)) → IsTuple p w → IsTuple p (tuple_turned p e w)
 turned_by-tuple p zero w k = k

@@ -14,7 +14,7 @@ use Rattle.table_reduction_law.proofs.ReductionBoundary.{reduced-walked, reducti
 use Rattle.table_reduction_law.proofs.ReductionWalks.{walk}
 use Rattle.table_reduction_law.specs.Counts.{in_turn}
 use Rattle.table_reduction_law.specs.Laws.{MayTwoLaw}
-use Rattle.table_reduction_law.specs.MayElements.{half, leading_entries}
+use Rattle.table_reduction_law.specs.MayElements.{pair_count, leading_entries}
 use Rattle.table_reduction_law.specs.Reduction.{cons_if_zero, unused}
 use Rattle.table_reduction_law.specs.Tuples.{IsPermutationOf, IsTuple, begins_with_entry, is_degenerate_tuple}
 
@@ -61,21 +61,21 @@ two-tuples (suc zero) g z = refl
 two-tuples (suc (suc d)) g z = go (leading_entries 2 d) (lead-either d) (two-tuples d (λ w. g (one ∷ rho ∷ w)) (λ w t e. z (one ∷ rho ∷ w) (one-perm, (rho-perm, t)) (twin-more w e)))
   where
     go : (l : List (List ℕ)) → (l ≡ one ∷ []) ⊎ (l ≡ one ∷ rho ∷ []) →
-        pair_sum 2 (half d) (λ t. g (one ∷ rho ∷ (l ++ t))) ≡ g (one ∷ rho ∷ in_turn one rho (suc d)) →
-        (pos 0 +ℤ pair_sum 2 (half d) (λ t. g (l ++ (one ∷ rho ∷ t)))) +ℤ pair_sum 2 (half d) (λ t. g (l ++ (rho ∷ one ∷ t))) ≡ g (one ∷ rho ∷ in_turn one rho (suc d))
+        pair_sum 2 (pair_count d) (λ t. g (one ∷ rho ∷ (l ++ t))) ≡ g (one ∷ rho ∷ in_turn one rho (suc d)) →
+        (pos 0 +ℤ pair_sum 2 (pair_count d) (λ t. g (l ++ (one ∷ rho ∷ t)))) +ℤ pair_sum 2 (pair_count d) (λ t. g (l ++ (rho ∷ one ∷ t))) ≡ g (one ∷ rho ∷ in_turn one rho (suc d))
     go l (inl e) ih =
-        let a : pair_sum 2 (half d) (λ t. g (one ∷ rho ∷ one ∷ t)) ≡ g (one ∷ rho ∷ in_turn one rho (suc d)) = (λ i. pair_sum 2 (half d) (λ t. g (one ∷ rho ∷ (sym e i ++ t)))) ∙ ih in
-        let b : pair_sum 2 (half d) (λ t. g (l ++ (one ∷ rho ∷ t))) ≡ pair_sum 2 (half d) (λ t. g (one ∷ one ∷ rho ∷ t)) = (λ i. pair_sum 2 (half d) (λ t. g (e i ++ (one ∷ rho ∷ t)))) in
-        let c = pairs-cong 2 (half d) (λ t. g (one ∷ one ∷ rho ∷ t)) (λ t. pos 0) (λ t k. z (one ∷ one ∷ rho ∷ t) (one-perm, (one-perm, (rho-perm, k))) refl) in
-        let f = pairs-zero 2 (half d) in
-        let h : pair_sum 2 (half d) (λ t. g (l ++ (rho ∷ one ∷ t))) ≡ pair_sum 2 (half d) (λ t. g (one ∷ rho ∷ one ∷ t)) = (λ i. pair_sum 2 (half d) (λ t. g (e i ++ (rho ∷ one ∷ t)))) in
+        let a : pair_sum 2 (pair_count d) (λ t. g (one ∷ rho ∷ one ∷ t)) ≡ g (one ∷ rho ∷ in_turn one rho (suc d)) = (λ i. pair_sum 2 (pair_count d) (λ t. g (one ∷ rho ∷ (sym e i ++ t)))) ∙ ih in
+        let b : pair_sum 2 (pair_count d) (λ t. g (l ++ (one ∷ rho ∷ t))) ≡ pair_sum 2 (pair_count d) (λ t. g (one ∷ one ∷ rho ∷ t)) = (λ i. pair_sum 2 (pair_count d) (λ t. g (e i ++ (one ∷ rho ∷ t)))) in
+        let c = pairs-cong 2 (pair_count d) (λ t. g (one ∷ one ∷ rho ∷ t)) (λ t. pos 0) (λ t k. z (one ∷ one ∷ rho ∷ t) (one-perm, (one-perm, (rho-perm, k))) refl) in
+        let f = pairs-zero 2 (pair_count d) in
+        let h : pair_sum 2 (pair_count d) (λ t. g (l ++ (rho ∷ one ∷ t))) ≡ pair_sum 2 (pair_count d) (λ t. g (one ∷ rho ∷ one ∷ t)) = (λ i. pair_sum 2 (pair_count d) (λ t. g (e i ++ (rho ∷ one ∷ t)))) in
         omega (arith, ints)
     go l (inr e) ih =
-        let a : pair_sum 2 (half d) (λ t. g (one ∷ rho ∷ one ∷ rho ∷ t)) ≡ g (one ∷ rho ∷ in_turn one rho (suc d)) = (λ i. pair_sum 2 (half d) (λ t. g (one ∷ rho ∷ (sym e i ++ t)))) ∙ ih in
-        let b : pair_sum 2 (half d) (λ t. g (l ++ (one ∷ rho ∷ t))) ≡ pair_sum 2 (half d) (λ t. g (one ∷ rho ∷ one ∷ rho ∷ t)) = (λ i. pair_sum 2 (half d) (λ t. g (e i ++ (one ∷ rho ∷ t)))) in
-        let c = pairs-cong 2 (half d) (λ t. g (one ∷ rho ∷ rho ∷ one ∷ t)) (λ t. pos 0) (λ t k. z (one ∷ rho ∷ rho ∷ one ∷ t) (one-perm, (rho-perm, (rho-perm, (one-perm, k)))) refl) in
-        let f = pairs-zero 2 (half d) in
-        let h : pair_sum 2 (half d) (λ t. g (l ++ (rho ∷ one ∷ t))) ≡ pair_sum 2 (half d) (λ t. g (one ∷ rho ∷ rho ∷ one ∷ t)) = (λ i. pair_sum 2 (half d) (λ t. g (e i ++ (rho ∷ one ∷ t)))) in
+        let a : pair_sum 2 (pair_count d) (λ t. g (one ∷ rho ∷ one ∷ rho ∷ t)) ≡ g (one ∷ rho ∷ in_turn one rho (suc d)) = (λ i. pair_sum 2 (pair_count d) (λ t. g (one ∷ rho ∷ (sym e i ++ t)))) ∙ ih in
+        let b : pair_sum 2 (pair_count d) (λ t. g (l ++ (one ∷ rho ∷ t))) ≡ pair_sum 2 (pair_count d) (λ t. g (one ∷ rho ∷ one ∷ rho ∷ t)) = (λ i. pair_sum 2 (pair_count d) (λ t. g (e i ++ (one ∷ rho ∷ t)))) in
+        let c = pairs-cong 2 (pair_count d) (λ t. g (one ∷ rho ∷ rho ∷ one ∷ t)) (λ t. pos 0) (λ t k. z (one ∷ rho ∷ rho ∷ one ∷ t) (one-perm, (rho-perm, (rho-perm, (one-perm, k)))) refl) in
+        let f = pairs-zero 2 (pair_count d) in
+        let h : pair_sum 2 (pair_count d) (λ t. g (l ++ (rho ∷ one ∷ t))) ≡ pair_sum 2 (pair_count d) (λ t. g (one ∷ rho ∷ rho ∷ one ∷ t)) = (λ i. pair_sum 2 (pair_count d) (λ t. g (e i ++ (rho ∷ one ∷ t)))) in
         omega (arith, ints)
 
 swing-tuple : (n : ℕ) (x y : List ℕ) → IsPermutationOf 2 x → IsPermutationOf 2 y → IsTuple 2 (in_turn x y n)

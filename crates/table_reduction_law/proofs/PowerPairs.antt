@@ -8,7 +8,7 @@ use Rattle.signed_sum.specs.Lists.{numbers_from, unless_empty}
 use Rattle.signed_sum.specs.Sums.{without_one}
 use Rattle.table_reduction_law.proofs.Permutations.{moves-cycle, perm-moved, pick-apart, pick-eq}
 use Rattle.table_reduction_law.proofs.ReductionBoundary.{face_sum, reduction_sum}
-use Rattle.table_reduction_law.specs.MayElements.{cycle, cycle_power, half, leading_entries}
+use Rattle.table_reduction_law.specs.MayElements.{cycle, cycle_power, pair_count, leading_entries}
 use Rattle.table_reduction_law.specs.Tuples.{IsPermutationOf, IsTuple}
 
 -- the sum of f below n
@@ -32,7 +32,7 @@ pair_sum p (suc k) h = sum_below p (λ e. pair_sum p k (λ t. h (cycle_power p e
 
 -- the sum of h over the tuples of the May element of degree d, and over the lists that come from them
 abbrev pub may_tuple_sum : ℕ → ℕ → (List (List ℕ) → ℤ) → ℤ
-may_tuple_sum p d h = pair_sum p (half d) (λ t. h (leading_entries p d ++ t))
+may_tuple_sum p d h = pair_sum p (pair_count d) (λ t. h (leading_entries p d ++ t))
 
 abbrev pub may_sum : ℕ → ℕ → (List ℕ → ℤ) → ℤ
 may_sum p d h = may_tuple_sum p d (λ w. reduction_sum w h)
@@ -153,7 +153,7 @@ turned_by-pair p (suc e) t = ap (turned_tuple p) (turned_by-pair p e t)
 
 -- the parts of an element of even degree, and of the next
 record Even (p d : ℕ) : Type 0 where
-  half_next : half (suc d) ≡ half d
+  half_next : pair_count (suc d) ≡ pair_count d
   lead_here : leading_entries p d ≡ cycle_power p 0 ∷ []
   lead_next : leading_entries p (suc d) ≡ cycle_power p 0 ∷ cycle_power p 1 ∷ []
 
@@ -165,7 +165,7 @@ even-parts p (suc (suc d)) h =
     record { half_next = ap suc k.half_next; lead_here = k.lead_here; lead_next = k.lead_next }
 
 record Odd (p d : ℕ) : Type 0 where
-  half_next : half (suc d) ≡ suc (half d)
+  half_next : pair_count (suc d) ≡ suc (pair_count d)
   lead_here : leading_entries p d ≡ cycle_power p 0 ∷ cycle_power p 1 ∷ []
   lead_next : leading_entries p (suc d) ≡ cycle_power p 0 ∷ []
 
@@ -180,7 +180,7 @@ pub even-tuples : (p d : ℕ) (h : List (List ℕ) → ℤ) → d % 2 ≡ 0 →
     may_tuple_sum p (suc d) (λ w. face_sum w h) ≡ may_tuple_sum p d (λ w. h (turned_tuple p w)) +ℤ neg_ℤ (may_tuple_sum p d h)
 even-tuples p d h q =
     let e = even-parts p d q in
-    let k : ℕ = half d in
+    let k : ℕ = pair_count d in
     let one : List ℕ = cycle_power p 0 in
     let rho : List ℕ = cycle_power p 1 in
     let w : List (List ℕ) → ℤ = λ t. without_one t (λ r. h (one ∷ rho ∷ r)) in
@@ -200,7 +200,7 @@ pub odd-tuples : (p d : ℕ) (h : List (List ℕ) → ℤ) → d % 2 ≡ 1 →
     may_tuple_sum p (suc d) (λ w. face_sum w h) ≡ sum_below p (λ e. may_tuple_sum p d (λ w. h (tuple_turned p e w)))
 odd-tuples p d h q =
     let o = odd-parts p d q in
-    let k : ℕ = half d in
+    let k : ℕ = pair_count d in
     let one : List ℕ = cycle_power p 0 in
     let g : List (List ℕ) → ℤ = λ v. unless_empty v (h v) in
     let w : List (List ℕ) → ℤ = λ t. without_one t (λ r. h (one ∷ r)) in

@@ -1,6 +1,6 @@
 -- Counting.
 use Rattle.std.specs.Prelude.{ℕ, ◌+◌, ◌*◌, ◌^◌, ◌-◌, ◌≤◌, List, [], ◌∷◌, zero, suc}
-use Rattle.table_reduction_law.specs.MayElements.{half}
+use Rattle.table_reduction_law.specs.MayElements.{pair_count}
 
 -- how many sets of k of n things there are
 abbrev pub binomial : ℕ → ℕ → ℕ
@@ -10,7 +10,7 @@ binomial (suc n) (suc k) = binomial n k + binomial n (suc k)
 
 -- how many lists the May element of degree d for p is made from
 abbrev pub candidate_count : ℕ → ℕ → ℕ
-candidate_count p d = p ^ half d * binomial (p + d - 1) d
+candidate_count p d = p ^ pair_count d * binomial (p + d - 1) d
 
 -- each number is positive
 abbrev pub ArePositive : List ℕ → Type 0

@@ -24,10 +24,10 @@ power_pairs p (suc k) =
     flat_map (λ e. map (λ t. cycle_power p e ∷ cycle_power p (suc e) ∷ t) (power_pairs p k)) (numbers_from 0 p)
 
 -- the number of pairs in degree d
-abbrev pub half : ℕ → ℕ
-half zero = 0
-half (suc zero) = 0
-half (suc (suc d)) = suc (half d)
+abbrev pub pair_count : ℕ → ℕ
+pair_count zero = 0
+pair_count (suc zero) = 0
+pair_count (suc (suc d)) = suc (pair_count d)
 
 -- the entries in front of the pairs: the identity, and in odd degrees the cycle after it
 abbrev pub leading_entries : ℕ → ℕ → List (List ℕ)
@@ -37,7 +37,7 @@ leading_entries p (suc (suc d)) = leading_entries p d
 
 -- the tuples of which the May element of degree d is the table reduction
 abbrev pub may_tuples : ℕ → ℕ → List (List (List ℕ))
-may_tuples p d = map (λ t. leading_entries p d ++ t) (power_pairs p (half d))
+may_tuples p d = map (λ t. leading_entries p d ++ t) (power_pairs p (pair_count d))
 
 -- the lists that come from these tuples
 abbrev pub may_candidates : ℕ → ℕ → List (List ℕ)
