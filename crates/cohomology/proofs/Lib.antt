@@ -1,0 +1,3 @@
+pub mod DegreeLemmas
+pub mod ClassLemmas
+pub mod CircleLemmas
