@@ -1,0 +1,240 @@
+-- The permutation law at the cycle: the last face goes to the front.
+use Rattle.std.proofs.Common.{◌≡◌, ℕ, zero, suc, ◌+◌, ◌*◌, ◌≤◌, cond, List, [], ◌∷◌, ◌++◌, map, length, refl, sym, ◌∙◌, ap, arith, append_assoc, length-append, ◌⊎◌, inl, inr, eq-eqb}
+use Rattle.std.specs.Prelude.{ℤ, pos, ◌*ℤ◌}
+use native.Mathlib.Decide.{ℕ_discrete}
+use Rattle.std.proofs.Math.IntN.{zero-*ℤ, *ℤ-zero, *ℤ_comm}
+use Rattle.std.proofs.lemmas.Bool.{ne_eqb}
+use Rattle.std.proofs.lemmas.List.{length-map}
+use Rattle.std.specs.Prelude.{pred}
+use Rattle.interval_cut_law.proofs.CochainLaws.{cut_sum-signed}
+use Rattle.interval_cut_law.proofs.GapWords.{less-yes}
+use Rattle.interval_cut_law.proofs.Relabellings.{relabelling_law}
+use Rattle.interval_cut_law.specs.Cuts.{cut_faces, cut_sum, cuts, sign_exponent, vertex_at}
+use Rattle.interval_cut_law.specs.Operations.{operation_value, value_product}
+use Rattle.interval_cut_law.specs.Relabelling.{degrees_passed, exchange_exponent, face_at, relabelled_faces}
+use Rattle.signed_sum.proofs.ListLemmas.{less-no, occurs-01, occurs-cons, occurs-later, occurs-mid}
+use Rattle.signed_sum.proofs.Ring.{mul_assoc}
+use Rattle.signed_sum.proofs.SignLemmas.{signed-signed, signed-zero}
+use Rattle.signed_sum.specs.Lists.{less, numbers_from, occurs}
+use Rattle.signed_sum.specs.Signs.{signed}
+use Rattle.signed_sum.specs.Sums.{total}
+use Rattle.simplicial_law.specs.Integral.{HasDegree, HaveDegrees, degree}
+use Rattle.surjection_law.specs.Surjections.{IsOnto, IsRelabelling}
+use Rattle.table_reduction_law.proofs.Permutations.{moves-cycle, uncycle}
+use Rattle.table_reduction_law.proofs.ReductionBoundary.{numbers_from-length}
+use Rattle.table_reduction_law.specs.MayElements.{cycle}
+
+cycle-last : (p : ℕ) → cycle p p ≡ 1
+cycle-last p = ap (λ t. cond t 1 (suc p)) (eq-eqb p p refl)
+
+cycle-other : (p v : ℕ) → (v ≡ p → ⊥) → cycle p v ≡ suc v
+cycle-other p v n = ap (λ t. cond t 1 (suc v)) (ne_eqb v p n)
+
+uncycle-first : (p : ℕ) → uncycle p 1 ≡ p
+uncycle-first p = refl
+
+uncycle-other : (p v : ℕ) → (v ≡ 1 → ⊥) → uncycle p v ≡ pred v
+uncycle-other p v n = ap (λ t. cond t p (pred v)) (ne_eqb v 1 n)
+
+less_one-suc : (v : ℕ) → 1 ≤ v → suc (pred v) ≡ v
+less_one-suc zero h = absurd (omega (arith, h))
+less_one-suc (suc v) h = refl
+
+-- a turned surjection takes the same values
+has-map : (t : ℕ → ℕ) (w : ℕ) (u : List ℕ) → occurs w u ≡ 1 → occurs (t w) (map t u) ≡ 1
+has-map t w [] h = absurd (omega (arith, h))
+has-map t w (v ∷ u) h =
+    elim (occurs-cons w v u) [
+      | inl e ↦ ap (λ j. occurs j (t v ∷ map t u)) (ap t e) ∙ occurs-mid (t v) [] (map t u)
+      | inr e ↦ occurs-later (t w) (t v ∷ []) (map t u) (has-map t w u (sym e ∙ h))
+    ]
+
+pub map-in : (t : ℕ → ℕ) (ks : List ℕ) (v : ℕ) (u : List ℕ) → ((w : ℕ) → occurs w u ≡ 1 → occurs (t w) ks ≡ 1) → occurs v (map t u) ≡ 1 → occurs v ks ≡ 1
+map-in t ks v [] s h = absurd (omega (arith, h))
+map-in t ks v (w ∷ u) s h =
+    elim (occurs-cons v (t w) (map t u)) [
+      | inl e ↦ ap (λ j. occurs j ks) e ∙ s w (occurs-mid w [] u)
+      | inr e ↦ map-in t ks v u (λ z y. s z (occurs-later z (w ∷ []) u y)) (sym e ∙ h)
+    ]
+
+pub onto-cycle : (p : ℕ) (u : List ℕ) → 1 ≤ p → IsOnto p u → IsOnto p (map (cycle p) u)
+onto-cycle p u le onto v = go (occurs-01 v (map (cycle p) u)) (occurs-01 v (numbers_from 1 p))
+  where
+    mv : IsRelabelling p (cycle p) (uncycle p)
+    mv = moves-cycle p
+
+    up : occurs v (map (cycle p) u) ≡ 1 → occurs v (numbers_from 1 p) ≡ 1
+    up h = map-in (cycle p) (numbers_from 1 p) v u (λ w y. mv.there w (sym (onto w) ∙ y)) h
+
+    down : occurs v (numbers_from 1 p) ≡ 1 → occurs v (map (cycle p) u) ≡ 1
+    down h = ap (λ j. occurs j (map (cycle p) u)) (sym (mv.back_there v h)) ∙ has-map (cycle p) (uncycle p v) u (onto (uncycle p v) ∙ mv.back v h)
+
+    go : (occurs v (map (cycle p) u) ≡ 0) ⊎ (occurs v (map (cycle p) u) ≡ 1) → (occurs v (numbers_from 1 p) ≡ 0) ⊎ (occurs v (numbers_from 1 p) ≡ 1) → occurs v (map (cycle p) u) ≡ occurs v (numbers_from 1 p)
+    go (inl a) (inl b) = a ∙ sym b
+    go (inl a) (inr b) = absurd (let d = down b in omega arith)
+    go (inr a) (inl b) = absurd (let d = up a in omega arith)
+    go (inr a) (inr b) = a ∙ sym b
+
+-- the last face goes to the front
+nth-mid : (pre : List (List ℕ)) (g : List ℕ) (gs : List (List ℕ)) → face_at (pre ++ (g ∷ gs)) (suc (length pre)) ≡ g
+nth-mid [] g gs = refl
+nth-mid (f ∷ pre) g gs = nth-mid pre g gs
+
+pick-up : (p : ℕ) (pre gs : List (List ℕ)) (f : List ℕ) (n : ℕ) → length pre ≡ n → map (λ j. face_at (pre ++ (gs ++ (f ∷ []))) (uncycle p j)) (numbers_from (suc (suc n)) (length gs)) ≡ gs
+pick-up p pre [] f n e = refl
+pick-up p pre (g ∷ gs) f n e =
+    let q = length-append pre (g ∷ []) in
+    let one : face_at (pre ++ (g ∷ (gs ++ (f ∷ [])))) (uncycle p (suc (suc n))) ≡ g =
+    ap (face_at (pre ++ (g ∷ (gs ++ (f ∷ []))))) (uncycle-other p (suc (suc n)) (λ q. absurd (omega arith)) ∙ ap suc (sym e)) ∙ nth-mid pre g (gs ++ (f ∷ [])) in
+    let two : map (λ j. face_at (pre ++ (g ∷ (gs ++ (f ∷ [])))) (uncycle p j)) (numbers_from (suc (suc (suc n))) (length gs)) ≡ gs =
+    ap (λ fs. map (λ j. face_at fs (uncycle p j)) (numbers_from (suc (suc (suc n))) (length gs))) (sym (append_assoc pre (g ∷ []) (gs ++ (f ∷ [])))) ∙ pick-up p (pre ++ (g ∷ [])) gs f (suc n) (omega arith) in
+    (λ i. one i ∷ two i)
+
+moved-cycle : (gs : List (List ℕ)) (f : List ℕ) → relabelled_faces (uncycle (suc (length gs))) (suc (length gs)) (gs ++ (f ∷ [])) ≡ f ∷ gs
+moved-cycle gs f =
+    let p : ℕ = suc (length gs) in
+    (λ i. (ap (face_at (gs ++ (f ∷ []))) (uncycle-first p) ∙ nth-mid gs f []) i ∷ pick-up p [] gs f 0 refl i)
+
+face_degrees : List (List ℕ) → ℕ
+face_degrees [] = 0
+face_degrees (g ∷ gs) = degree g + face_degrees gs
+
+passing-cycle : (p m b : ℕ) (gs : List (List ℕ)) (f : List ℕ) → b + length gs ≡ p → 2 ≤ m → m ≤ suc b → degrees_passed (cycle p) m b (gs ++ (f ∷ [])) ≡ degree f
+passing-cycle p m b [] f e h l =
+    let q : cycle p b ≡ 1 = ap (cycle p) (omega arith) ∙ cycle-last p in
+    let r : less (cycle p b) m * degree f ≡ 1 * degree f = ap (λ j. j * degree f) (ap (λ j. less j m) q ∙ less-yes 1 m h) in
+    omega arith
+passing-cycle p m b (g ∷ gs) f e h l =
+    let q : cycle p b ≡ suc b = cycle-other p b (λ z. absurd (omega arith)) in
+    let r : less (cycle p b) m * degree g ≡ 0 * degree g = ap (λ j. j * degree g) (ap (λ j. less j m) q ∙ less-no (suc b) m l) in
+    let ih = passing-cycle p m (suc b) gs f (omega arith) h (omega arith) in
+    omega arith
+
+turned-cycle : (p b : ℕ) (gs : List (List ℕ)) (f : List ℕ) → b + length gs ≡ p → 1 ≤ b → exchange_exponent (cycle p) b (gs ++ (f ∷ [])) ≡ face_degrees gs * degree f
+unfolding face_degrees
+turned-cycle p b [] f e h = omega arith
+turned-cycle p b (g ∷ gs) f e h =
+    let q : cycle p b ≡ suc b = cycle-other p b (λ z. absurd (omega arith)) in
+    let a : degrees_passed (cycle p) (cycle p b) (suc b) (gs ++ (f ∷ [])) ≡ degree f = ap (λ j. degrees_passed (cycle p) j (suc b) (gs ++ (f ∷ []))) q ∙ passing-cycle p (suc b) (suc b) gs f (omega arith) (omega arith) (omega arith) in
+    let c : degree g * degrees_passed (cycle p) (cycle p b) (suc b) (gs ++ (f ∷ [])) ≡ degree g * degree f = ap (λ j. degree g * j) a in
+    let ih = turned-cycle p (suc b) gs f (omega arith) (omega arith) in
+    omega arith
+
+product-end : (cs : List (List ℕ → ℤ)) (c : List ℕ → ℤ) (gs : List (List ℕ)) (f : List ℕ) → value_product (cs ++ (c ∷ [])) (gs ++ (f ∷ [])) ≡ value_product cs gs *ℤ c f
+product-end [] c [] f = *ℤ_comm (c f) (pos 1)
+product-end [] c (g ∷ []) f = *ℤ-zero (c g) ∙ sym (zero-*ℤ (c f))
+product-end [] c (g ∷ h ∷ gs) f = *ℤ-zero (c g) ∙ sym (zero-*ℤ (c f))
+product-end (a ∷ []) c [] f = *ℤ-zero (a f) ∙ sym (zero-*ℤ (c f))
+product-end (a ∷ b ∷ cs) c [] f = *ℤ-zero (a f) ∙ sym (zero-*ℤ (c f))
+product-end (a ∷ cs) c (g ∷ gs) f = ap (λ z. a g *ℤ z) (product-end cs c gs f) ∙ sym (mul_assoc (a g) (value_product cs gs) (c f))
+
+abbrev pub sum_of : List ℕ → ℕ
+sum_of [] = 0
+sum_of (q ∷ qs) = q + sum_of qs
+
+-- where the product is not nothing, the faces have the degrees of the cochains
+sign-one : (q m : ℕ) (c : List ℕ → ℤ) (f : List ℕ) (z : ℤ) → HasDegree q c → signed (m * degree f) (z *ℤ c f) ≡ signed (m * q) (z *ℤ c f)
+sign-one q m c f z d = go (ℕ_discrete (length f) (suc q))
+  where
+    go : Dec (length f ≡ suc q) → signed (m * degree f) (z *ℤ c f) ≡ signed (m * q) (z *ℤ c f)
+    go (yes e) = ap (λ j. signed (m * pred j) (z *ℤ c f)) e
+    go (no n) =
+        let y : z *ℤ c f ≡ pos 0 = ap (λ j. z *ℤ j) (d.other f n) ∙ *ℤ-zero z in
+        ap (signed (m * degree f)) y ∙ signed-zero (m * degree f) ∙ sym (signed-zero (m * q)) ∙ sym (ap (signed (m * q)) y)
+
+sign-all : (qs : List ℕ) (cs : List (List ℕ → ℤ)) (gs : List (List ℕ)) (m : ℕ) (z : ℤ) → HaveDegrees qs cs → signed (m * face_degrees gs) (z *ℤ value_product cs gs) ≡ signed (m * sum_of qs) (z *ℤ value_product cs gs)
+unfolding face_degrees
+sign-all [] [] [] m z d = refl
+sign-all [] [] (g ∷ gs) m z d = ap (signed (m * (degree g + face_degrees gs))) (*ℤ-zero z) ∙ signed-zero (m * (degree g + face_degrees gs)) ∙ sym (signed-zero (m * 0)) ∙ sym (ap (signed (m * 0)) (*ℤ-zero z))
+sign-all [] (a ∷ cs) gs m z d = absurd d
+sign-all (q ∷ qs) [] gs m z d = absurd d
+sign-all (q ∷ qs) (a ∷ cs) [] m z d = ap (signed (m * 0)) (*ℤ-zero z) ∙ signed-zero (m * 0) ∙ sym (signed-zero (m * (q + sum_of qs))) ∙ sym (ap (signed (m * (q + sum_of qs))) (*ℤ-zero z))
+sign-all (q ∷ qs) (a ∷ cs) (g ∷ gs) m z d =
+    let x : ℤ = value_product cs gs in
+    let y : ℤ = z *ℤ (a g *ℤ x) in
+    let e1 : m * (degree g + face_degrees gs) ≡ m * degree g + m * face_degrees gs = omega arith in
+    let e2 : m * q + m * sum_of qs ≡ m * (q + sum_of qs) = omega arith in
+    let ih = sign-all qs cs gs m (z *ℤ a g) d.1 in
+    let s1 : signed (m * face_degrees gs) y ≡ signed (m * sum_of qs) y = ap (signed (m * face_degrees gs)) (sym (mul_assoc z (a g) x)) ∙ ih ∙ ap (signed (m * sum_of qs)) (mul_assoc z (a g) x) in
+    let sw : (z *ℤ x) *ℤ a g ≡ y = mul_assoc z x (a g) ∙ ap (λ j. z *ℤ j) (*ℤ_comm x (a g)) in
+    let s2 : signed (m * degree g) y ≡ signed (m * q) y = ap (signed (m * degree g)) (sym sw) ∙ sign-one q m a g (z *ℤ x) d.0 ∙ ap (signed (m * q)) sw in
+    ap (λ j. signed j y) e1
+    ∙ sym (signed-signed (m * degree g) (m * face_degrees gs) y)
+    ∙ ap (signed (m * degree g)) s1
+    ∙ signed-signed (m * degree g) (m * sum_of qs) y
+    ∙ ap (λ j. signed j y) swap
+    ∙ sym (signed-signed (m * sum_of qs) (m * degree g) y)
+    ∙ ap (signed (m * sum_of qs)) s2
+    ∙ signed-signed (m * sum_of qs) (m * q) y
+    ∙ ap (λ j. signed j y) swap2
+    ∙ ap (λ j. signed j y) e2
+  where
+    swap : m * degree g + m * sum_of qs ≡ m * sum_of qs + m * degree g
+    swap = omega arith
+
+    swap2 : m * sum_of qs + m * q ≡ m * q + m * sum_of qs
+    swap2 = omega arith
+
+turn-product : (q : ℕ) (qs : List ℕ) (c : List ℕ → ℤ) (cs : List (List ℕ → ℤ)) (gs : List (List ℕ)) (f : List ℕ) → HasDegree q c → HaveDegrees qs cs →
+    signed (exchange_exponent (cycle (suc (length gs))) 1 (gs ++ (f ∷ []))) (value_product (c ∷ cs) (relabelled_faces (uncycle (suc (length gs))) (suc (length gs)) (gs ++ (f ∷ []))))
+    ≡ signed (q * sum_of qs) (value_product (cs ++ (c ∷ [])) (gs ++ (f ∷ [])))
+turn-product q qs c cs gs f d ds =
+    let y : ℤ = c f *ℤ value_product cs gs in
+    let t = turned-cycle (suc (length gs)) 1 gs f (omega arith) (omega arith) in
+    let sw = *ℤ_comm (c f) (value_product cs gs) in
+    let e1 : face_degrees gs * degree f ≡ degree f * face_degrees gs = omega arith in
+    let e2 : degree f * sum_of qs ≡ sum_of qs * degree f = omega arith in
+    let e3 : sum_of qs * q ≡ q * sum_of qs = omega arith in
+    (λ i. signed (t i) (value_product (c ∷ cs) (moved-cycle gs f i)))
+    ∙ ap (λ j. signed j y) e1
+    ∙ sign-all qs cs gs (degree f) (c f) ds
+    ∙ ap (λ j. signed j y) e2
+    ∙ ap (signed (sum_of qs * degree f)) sw
+    ∙ sign-one q (sum_of qs) c f (value_product cs gs) d
+    ∙ ap (λ j. signed j (value_product cs gs *ℤ c f)) e3
+    ∙ ap (signed (q * sum_of qs)) (sym (product-end cs c gs f))
+
+record LastForm (k : ℕ) (fs : List (List ℕ)) : Type 0 where
+  front : List (List ℕ)
+  final : List ℕ
+  whole : fs ≡ front ++ (final ∷ [])
+  size : length front ≡ k
+
+last-form : (k : ℕ) (fs : List (List ℕ)) → length fs ≡ suc k → LastForm k fs
+last-form k [] e = absurd (omega (arith, e))
+last-form zero (f ∷ []) e = record { front = []; final = f; whole = refl; size = refl }
+last-form zero (f ∷ g ∷ fs) e = absurd (omega (arith, e))
+last-form (suc k) (f ∷ fs) e =
+    let r = last-form k fs (omega (arith, e)) in
+    record { front = f ∷ r.front; final = r.final; whole = ap (λ j. f ∷ j) r.whole; size = ap suc r.size }
+
+length-faces : (ks u p : List ℕ) → length (cut_faces ks u p) ≡ length ks
+length-faces [] u p = refl
+length-faces (k ∷ ks) u p = ap suc (length-faces ks u p)
+
+pub cut_sum-cong : (r : ℕ) (u s : List ℕ) (phi psi : List (List ℕ) → ℤ) → ((fs : List (List ℕ)) → length fs ≡ r → phi fs ≡ psi fs) → cut_sum phi r u s ≡ cut_sum psi r u s
+cut_sum-cong r u s phi psi e =
+    ap (λ h. total h (cuts u (pred (length s))))
+    (λ i p. signed (sign_exponent u 0 p)
+    (e (map (λ f. map (λ m. vertex_at s m) f) (cut_faces (numbers_from 1 r) u p)) (length-map (cut_faces (numbers_from 1 r) u p) (λ f. map (λ m. vertex_at s m) f) ∙ length-faces (numbers_from 1 r) u p ∙ numbers_from-length 1 r) i))
+
+-- turning the surjection back is turning the cochains
+pub value-cycle : (k q : ℕ) (u s qs : List ℕ) (c : List ℕ → ℤ) (cs : List (List ℕ → ℤ)) → IsOnto (suc k) u → HasDegree q c → HaveDegrees qs cs →
+    operation_value (suc k) (map (cycle (suc k)) u) (c ∷ cs) s ≡ signed (q * sum_of qs) (operation_value (suc k) u (cs ++ (c ∷ [])) s)
+value-cycle k q u s qs c cs onto d ds =
+    relabelling_law (value_product (c ∷ cs)) (suc k) (cycle (suc k)) (uncycle (suc k)) u s (moves-cycle (suc k)) onto
+    ∙ cut_sum-cong (suc k) u s (λ fs. signed (exchange_exponent (cycle (suc k)) 1 fs) (value_product (c ∷ cs) (relabelled_faces (uncycle (suc k)) (suc k) fs))) (λ fs. signed (q * sum_of qs) (value_product (cs ++ (c ∷ [])) fs)) one
+    ∙ cut_sum-signed (suc k) u s (q * sum_of qs) (value_product (cs ++ (c ∷ [])))
+  where
+    shape : (gs : List (List ℕ)) (f : List ℕ) (j : ℕ) → length gs ≡ j →
+        signed (exchange_exponent (cycle (suc j)) 1 (gs ++ (f ∷ []))) (value_product (c ∷ cs) (relabelled_faces (uncycle (suc j)) (suc j) (gs ++ (f ∷ [])))) ≡ signed (q * sum_of qs) (value_product (cs ++ (c ∷ [])) (gs ++ (f ∷ [])))
+    shape gs f j e =
+        ap (λ r. signed (exchange_exponent (cycle (suc r)) 1 (gs ++ (f ∷ []))) (value_product (c ∷ cs) (relabelled_faces (uncycle (suc r)) (suc r) (gs ++ (f ∷ []))))) (sym e)
+        ∙ turn-product q qs c cs gs f d ds
+
+    one : (fs : List (List ℕ)) → length fs ≡ suc k → signed (exchange_exponent (cycle (suc k)) 1 fs) (value_product (c ∷ cs) (relabelled_faces (uncycle (suc k)) (suc k) fs)) ≡ signed (q * sum_of qs) (value_product (cs ++ (c ∷ [])) fs)
+    one fs e =
+        let r = last-form k fs e in
+        ap (λ gs. signed (exchange_exponent (cycle (suc k)) 1 gs) (value_product (c ∷ cs) (relabelled_faces (uncycle (suc k)) (suc k) gs))) r.whole
+        ∙ shape r.front r.final k r.size
+        ∙ ap (λ gs. signed (q * sum_of qs) (value_product (cs ++ (c ∷ [])) gs)) (sym r.whole)

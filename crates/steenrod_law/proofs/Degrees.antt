@@ -1,0 +1,328 @@
+-- The degrees of D and of the primitives.
+use Rattle.std.proofs.Common.{◌≡◌, ℕ, zero, suc, ◌+◌, ◌-◌, ◌*◌, ◌%◌, ◌≤◌, true, false, Bool, cond, ◌==◌, List, [], ◌∷◌, ◌++◌, map, length, refl, sym, ◌∙◌, ap, arith, inl, inr, length-append, eq-eqb}
+use Rattle.std.specs.Prelude.{ℤ, pos, ◌*ℤ◌}
+use native.Mathlib.Decide.{ℕ_discrete}
+use Rattle.std.proofs.Math.IntN.{zero-*ℤ, *ℤ-zero}
+use Rattle.std.proofs.lemmas.Int.{ints}
+use Rattle.std.proofs.lemmas.Bool.{ne_eqb}
+use Rattle.std.proofs.lemmas.Bool.Decides.{eqb_tells}
+use Rattle.std.proofs.lemmas.List.{length-map}
+use Rattle.interval_cut_law.proofs.BoundaryLaws.{degeneracy_law, product_normalized}
+use Rattle.interval_cut_law.proofs.CutsAsWalks.{cut_sum-walk_sum}
+use Rattle.interval_cut_law.proofs.FaceBoundary.{more}
+use Rattle.interval_cut_law.proofs.WalkBoundary.{occurs-cell_values}
+use Rattle.interval_cut_law.proofs.WalkSums.{IsWalk}
+use Rattle.interval_cut_law.proofs.Walks.{Cell, cell_value, cell_values, cell_vertex, edge, edge_count, ends, next, walk_exponent, walk_face, walk_faces, walk_sum, walk_term}
+use Rattle.interval_cut_law.specs.Operations.{operation_value, value_product}
+use Rattle.signed_sum.proofs.ListLemmas.{numbers_from-distinct, occurs-later, occurs-mid, occurs-self, one_if}
+use Rattle.signed_sum.proofs.SignLemmas.{signed-zero}
+use Rattle.signed_sum.specs.Lists.{IsDistinct, is_degenerate, numbers_from, occurs}
+use Rattle.signed_sum.specs.Signs.{signed}
+use Rattle.simplicial_law.specs.Integral.{HaveDegrees, integral_coboundary}
+use Rattle.steenrod_law.proofs.CycleFaces.{onto-cycle, sum_of}
+use Rattle.steenrod_law.proofs.Forms.{AreTerms, HasDegreeBelow, IsCochain, IsMayFamily, IsPrime, SurjectionTerm, operation_of, value_over, word_sum}
+use Rattle.steenrod_law.proofs.Staircase.{degree-copies, length-copies}
+use Rattle.steenrod_law.proofs.WordBoundary.{letters-copies, letters-normalized, some}
+use Rattle.steenrod_law.proofs.WordCochains.{coboundary-cochain, degree-sum, degrees-letters}
+use Rattle.steenrod_law.proofs.WordLemmas.{degree-append}
+use Rattle.steenrod_law.specs.Values.{cycle_less_one_power, opposite_sum, orbit_sum, staircase_sum, sum_above, sum_to, sum_value, turned_sum, word_cochains}
+use Rattle.steenrod_law.specs.Words.{HaveLength, IsOrbitTable, choice, contraction, copies, letter_degree, norm, staircase, step, turn_back, turn_back_less_one, turn_back_power, word_degree}
+use Rattle.surjection_law.specs.Boundary.{caesura_count}
+use Rattle.surjection_law.specs.Surjections.{IsOnto}
+use Rattle.table_reduction_law.proofs.ReductionBoundary.{numbers_from-length}
+use Rattle.table_reduction_law.specs.MayElements.{cycle}
+
+-- faces and caesuras, counted
+
+face_total : List ℕ → List Cell → ℕ
+face_total [] c = 0
+face_total (k ∷ ks) c = length (walk_face k c) + face_total ks c
+
+face_total-none : (ks : List ℕ) → face_total ks [] ≡ 0
+unfolding face_total
+face_total-none [] = refl
+face_total-none (k ∷ ks) = let h = face_total-none ks in omega arith
+
+face_total-cons : (ks : List ℕ) (d : Cell) (c : List Cell) → IsDistinct ks → face_total ks (d ∷ c) ≡ occurs (cell_value d) ks + face_total ks c
+unfolding face_total
+face_total-cons [] d c q = refl
+face_total-cons (k ∷ ks) d c q =
+    let ih = face_total-cons ks d c q.1 in
+    let m = more (k == cell_value d) (cell_vertex d) (walk_face k c) in
+    elim (eqb_tells (cell_value d) k) [
+      | inl e ↦
+          let a : one_if (k == cell_value d) ≡ 1 = ap one_if (eq-eqb k (cell_value d) (sym e.1)) in
+          let b : occurs (cell_value d) (k ∷ ks) ≡ 1 = ap (λ t. cond t 1 (occurs (cell_value d) ks)) e.0 in
+          let z : occurs (cell_value d) ks ≡ 0 = ap (λ j. occurs j ks) e.1 ∙ q.0 in
+          omega arith
+      | inr n ↦
+          let a : one_if (k == cell_value d) ≡ 0 = ap one_if (ne_eqb k (cell_value d) (λ e. n.1 (sym e))) in
+          let b : occurs (cell_value d) (k ∷ ks) ≡ occurs (cell_value d) ks = ap (λ t. cond t 1 (occurs (cell_value d) ks)) n.0 in
+          omega arith
+    ]
+
+face_total-cells : (ks : List ℕ) (c : List Cell) → IsDistinct ks → ((v : ℕ) → occurs v (cell_values c) ≡ 1 → occurs v ks ≡ 1) → face_total ks c ≡ edge_count c + length (ends c)
+face_total-cells ks [] q s = face_total-none ks
+face_total-cells ks (edge v x ∷ c) q s =
+    let a = face_total-cons ks (edge v x) c q in
+    let b = s v (occurs-mid v [] (cell_values c)) in
+    let ih = face_total-cells ks c q (λ z y. s z (occurs-later z (v ∷ []) (cell_values c) y)) in
+    omega arith
+face_total-cells ks (next v x ∷ c) q s =
+    let a = face_total-cons ks (next v x) c q in
+    let b = s v (occurs-mid v [] (cell_values c)) in
+    let ih = face_total-cells ks c q (λ z y. s z (occurs-later z (v ∷ []) (cell_values c) y)) in
+    omega arith
+
+has_total : List ℕ → List ℕ → ℕ
+has_total [] u = 0
+has_total (k ∷ ks) u = occurs k u + has_total ks u
+
+has_total-cons : (ks : List ℕ) (v : ℕ) (u : List ℕ) → IsDistinct ks → has_total ks (v ∷ u) + occurs v ks * occurs v u ≡ has_total ks u + occurs v ks
+unfolding has_total
+has_total-cons [] v u q = omega arith
+has_total-cons (k ∷ ks) v u q =
+    let ih = has_total-cons ks v u q.1 in
+    elim (eqb_tells v k) [
+      | inl e ↦
+          let a : occurs k (v ∷ u) ≡ 1 = ap (λ t. cond t 1 (occurs k u)) (eq-eqb k v (sym e.1)) in
+          let b : occurs v (k ∷ ks) * occurs v u ≡ 1 * occurs v u = ap (λ t. cond t 1 (occurs v ks) * occurs v u) e.0 in
+          let b2 : occurs v (k ∷ ks) ≡ 1 = ap (λ t. cond t 1 (occurs v ks)) e.0 in
+          let z : occurs v ks ≡ 0 = ap (λ j. occurs j ks) e.1 ∙ q.0 in
+          let z2 : occurs v ks * occurs v u ≡ 0 * occurs v u = ap (λ j. j * occurs v u) z in
+          let y : occurs v u ≡ occurs k u = ap (λ j. occurs j u) e.1 in
+          omega arith
+      | inr n ↦
+          let a : occurs k (v ∷ u) ≡ occurs k u = ap (λ t. cond t 1 (occurs k u)) (ne_eqb k v (λ e. n.1 (sym e))) in
+          let b : occurs v (k ∷ ks) * occurs v u ≡ occurs v ks * occurs v u = ap (λ t. cond t 1 (occurs v ks) * occurs v u) n.0 in
+          let b2 : occurs v (k ∷ ks) ≡ occurs v ks = ap (λ t. cond t 1 (occurs v ks)) n.0 in
+          omega arith
+    ]
+
+has_total-none : (ks : List ℕ) → has_total ks [] ≡ 0
+unfolding has_total
+has_total-none [] = refl
+has_total-none (k ∷ ks) = let h = has_total-none ks in omega arith
+
+has_total-caesuras : (ks u : List ℕ) → IsDistinct ks → ((v : ℕ) → occurs v u ≡ 1 → occurs v ks ≡ 1) → has_total ks u + caesura_count u ≡ length u
+has_total-caesuras ks [] q s = let z = has_total-none ks in omega arith
+has_total-caesuras ks (v ∷ u) q s =
+    let a = has_total-cons ks v u q in
+    let b = s v (occurs-mid v [] u) in
+    let b2 : occurs v ks * occurs v u ≡ 1 * occurs v u = ap (λ j. j * occurs v u) b in
+    let ih = has_total-caesuras ks u q (λ z y. s z (occurs-later z (v ∷ []) u y)) in
+    omega arith
+
+has_total-all : (ks u : List ℕ) → ((k : ℕ) → occurs k ks ≡ 1 → occurs k u ≡ 1) → has_total ks u ≡ length ks
+unfolding has_total
+has_total-all [] u s = refl
+has_total-all (k ∷ ks) u s =
+    let a = s k (occurs-mid k [] ks) in
+    let b = has_total-all ks u (λ z y. s z (occurs-later z (k ∷ []) ks y)) in
+    omega arith
+
+pub caesuras-count : (r : ℕ) (u : List ℕ) → IsOnto r u → r + caesura_count u ≡ length u
+caesuras-count r u onto =
+    let a = has_total-caesuras (numbers_from 1 r) u (numbers_from-distinct 1 r) (λ v h. sym (onto v) ∙ h) in
+    let b = has_total-all (numbers_from 1 r) u (λ k h. onto k ∙ h) in
+    let c = numbers_from-length 1 r in
+    omega arith
+
+-- products
+
+counts : List (List ℕ) → ℕ
+counts [] = 0
+counts (f ∷ fs) = length f + counts fs
+
+counts-faces : (ks : List ℕ) (c : List Cell) → counts (walk_faces ks c) ≡ face_total ks c
+unfolding counts face_total
+counts-faces [] c = refl
+counts-faces (k ∷ ks) c = ap (λ j. length (walk_face k c) + j) (counts-faces ks c)
+
+product-degree : (qs : List ℕ) (cs : List (List ℕ → ℤ)) (fs : List (List ℕ)) → HaveDegrees qs cs → (sum_of qs + length qs ≡ counts fs → ⊥) → value_product cs fs ≡ pos 0
+unfolding counts
+product-degree [] [] [] d ne = absurd (ne refl)
+product-degree [] [] (f ∷ fs) d ne = refl
+product-degree [] (a ∷ cs) fs d ne = absurd d
+product-degree (q ∷ qs) [] fs d ne = absurd d
+product-degree (q ∷ qs) (a ∷ cs) [] d ne = refl
+product-degree (q ∷ qs) (a ∷ cs) (f ∷ fs) d ne =
+    elim (ℕ_discrete (length f) (suc q)) [
+      | yes e ↦ ap (λ z. a f *ℤ z) (product-degree qs cs fs d.1 (λ h. ne (omega (arith, h, e)))) ∙ *ℤ-zero (a f)
+      | no n ↦ ap (λ z. z *ℤ value_product cs fs) (d.0.other f n) ∙ zero-*ℤ (value_product cs fs)
+    ]
+
+-- values
+
+walks-none : (u s : List ℕ) (f : List Cell → ℤ) → ((c : List Cell) → IsWalk u c → suc (edge_count c) ≡ length s → f c ≡ pos 0) → walk_sum u s f ≡ pos 0
+walks-none [] [] f h = refl
+walks-none [] (x ∷ []) f h = h [] (record { ending = refl; closed = tt }) refl
+walks-none [] (x ∷ y ∷ s) f h = refl
+walks-none (v ∷ u) [] f h = refl
+walks-none (v ∷ u) (x ∷ s) f h =
+    let a = walks-none u (x ∷ s) (λ c. f (next v x ∷ c)) (λ c k e. h (next v x ∷ c) (record { ending = ap (λ r. v ∷ r) k.ending; closed = k.closed }) e) in
+    let b = walks-none (v ∷ u) s (λ c. f (edge v x ∷ c)) (λ c k e. h (edge v x ∷ c) (record { ending = k.ending; closed = (ap (λ r. occurs v (r ++ [])) k.ending ∙ occurs-self v (u ++ []), k.closed) }) (ap suc e)) in
+    omega (arith, ints)
+
+pub value-size : (r : ℕ) (u s qs : List ℕ) (cs : List (List ℕ → ℤ)) → IsOnto r u → 1 ≤ r → 1 ≤ length s → HaveDegrees qs cs → length qs ≡ r → (length s + caesura_count u ≡ suc (sum_of qs) → ⊥) → operation_value r u cs s ≡ pos 0
+value-size r [] s qs cs onto le hs d lq ne = absurd (let h = some r [] le onto in omega (arith, h))
+value-size r (v ∷ u) [] qs cs onto le hs d lq ne = absurd (omega (arith, hs))
+value-size r (v ∷ u) (x ∷ s) qs cs onto le hs d lq ne =
+    cut_sum-walk_sum (value_product cs) r v u x s
+    ∙ walks-none (v ∷ u) (x ∷ s) (walk_term (value_product cs) (numbers_from 1 r))
+    (λ c k e. ap (signed (walk_exponent c)) (product-degree qs cs (walk_faces (numbers_from 1 r) c) d (λ h. ne (sizes c k e h))) ∙ signed-zero (walk_exponent c))
+  where
+    sizes : (c : List Cell) → IsWalk (v ∷ u) c → suc (edge_count c) ≡ length (x ∷ s) → sum_of qs + length qs ≡ counts (walk_faces (numbers_from 1 r) c) → length (x ∷ s) + caesura_count (v ∷ u) ≡ suc (sum_of qs)
+    sizes c k e h =
+        let a = counts-faces (numbers_from 1 r) c in
+        let b = face_total-cells (numbers_from 1 r) c (numbers_from-distinct 1 r) (λ z y. sym (onto z) ∙ ap (occurs z) (sym k.ending) ∙ sym (occurs-cell_values z c k.closed) ∙ y) in
+        let q = ap length k.ending in
+        let w = caesuras-count r (v ∷ u) onto in
+        omega arith
+
+pub over-none : (p m : ℕ) (x : List SurjectionTerm) (h : List ℕ → ℤ) → AreTerms p m x → ((u : List ℕ) → IsOnto p u → caesura_count u ≡ m → h u ≡ pos 0) → value_over x h ≡ pos 0
+over-none p m [] h k e = refl
+over-none p m (t ∷ x) h k e =
+    let a = ap (λ z. t.1 *ℤ z) (e t.0 k.0 k.1) ∙ *ℤ-zero t.1 in
+    let b = over-none p m x h k.2 e in
+    omega (arith, ints)
+
+module _ (p m : ℕ) (deg : Bool → ℕ) (x : List SurjectionTerm) (k : AreTerms p m x) (a b : List ℕ → ℤ) (ca : IsCochain (deg false) a) (cb : IsCochain (deg true) b) (le : 1 ≤ p) (w : List Bool) (size : length w ≡ p) where
+  word-size : (s : List ℕ) → 1 ≤ length s → (length s + m ≡ suc (word_degree deg w) → ⊥) → sum_value p x (word_cochains a b w) s ≡ pos 0
+  word-size s hs ne =
+      over-none p m x (λ u. operation_value p u (word_cochains a b w) s) k
+      (λ u o e. value-size p u s (map deg w) (word_cochains a b w) o le hs (degrees-letters deg a b ca.degree cb.degree w) (length-map w deg ∙ size)
+      (λ h. ne (let q = degree-sum deg w in omega arith)))
+
+  word-plain : (s : List ℕ) → is_degenerate s ≡ true → sum_value p x (word_cochains a b w) s ≡ pos 0
+  word-plain s r = over-none p m x (λ u. operation_value p u (word_cochains a b w) s) k (λ u o e. degeneracy_law.simplices (value_product (word_cochains a b w)) p u s (product_normalized (word_cochains a b w) (letters-normalized a b ca.plain cb.plain w)) o (some p u le o) r)
+
+-- T keeps the degree
+
+pub of-append : (p m : ℕ) (x y : List SurjectionTerm) → AreTerms p m x → AreTerms p m y → AreTerms p m (x ++ y)
+of-append p m [] y k j = j
+of-append p m (t ∷ x) y k j = (k.0, k.1, of-append p m x y k.2 j)
+
+of-turned : (p m : ℕ) (x : List SurjectionTerm) → 1 ≤ p → AreTerms p m x → AreTerms p m (turned_sum p x)
+of-turned p m [] le k = tt
+of-turned p m (t ∷ x) le k =
+    let o = onto-cycle p t.0 le k.0 in
+    let a = caesuras-count p t.0 k.0 in
+    let b = caesuras-count p (map (cycle p) t.0) o in
+    let c = length-map t.0 (cycle p) in
+    let e = k.1 in
+    (o, omega arith, of-turned p m x le k.2)
+
+of-opposite : (p m : ℕ) (x : List SurjectionTerm) → AreTerms p m x → AreTerms p m (opposite_sum x)
+of-opposite p m [] k = tt
+of-opposite p m (t ∷ x) k = (k.0, k.1, of-opposite p m x k.2)
+
+pub of-power : (p m k : ℕ) (x : List SurjectionTerm) → 1 ≤ p → AreTerms p m x → AreTerms p m (cycle_less_one_power p k x)
+of-power p m zero x le o = o
+of-power p m (suc k) x le o =
+    let r = of-power p m k x le o in
+    of-append p m (turned_sum p (cycle_less_one_power p k x)) (opposite_sum (cycle_less_one_power p k x)) (of-turned p m (cycle_less_one_power p k x) le r) (of-opposite p m (cycle_less_one_power p k x) r)
+
+pub of-upper : (p d : ℕ) (x : ℕ → List SurjectionTerm) → 1 ≤ p → IsMayFamily p x → AreTerms p (suc d) (sum_above p d x)
+of-upper p d x le may = go (d % 2)
+  where
+    go : (c : ℕ) → AreTerms p (suc d) (choice c (cycle_less_one_power p (p - 2) (x (suc d))) (x (suc d)))
+    go zero = of-power p (suc d) (p - 2) (x (suc d)) le (may.terms (suc d))
+    go (suc c) = may.terms (suc d)
+
+-- stairs
+
+abbrev Nothing : (Bool → ℕ) → ℕ → ℕ → (List Bool → ℤ) → Type 0
+Nothing deg m d h = (w : List Bool) → length w ≡ m → word_degree deg w ≡ d → h w ≡ pos 0
+
+module _ (deg : Bool → ℕ) (m d : ℕ) where
+  back-none : (h : List Bool → ℤ) → Nothing deg m d h → Nothing deg m d (turn_back deg h)
+  back-none h a [] e q = a [] e q
+  back-none h a (l ∷ w) e q =
+      ap (signed (deg l * word_degree deg w)) (a (w ++ (l ∷ [])) (let y = length-append w (l ∷ []) in omega arith) (let y = degree-append deg w (l ∷ []) in omega arith)) ∙ signed-zero (deg l * word_degree deg w)
+
+  power-none : (k : ℕ) (h : List Bool → ℤ) → Nothing deg m d h → Nothing deg m d (turn_back_power deg k h)
+  power-none zero h a = a
+  power-none (suc k) h a = back-none (turn_back_power deg k h) (power-none k h a)
+
+  norm-none : (k : ℕ) (h : List Bool → ℤ) → Nothing deg m d h → Nothing deg m d (norm deg k h)
+  norm-none zero h a w e q = refl
+  norm-none (suc k) h a w e q = let x = norm-none k h a w e q in let y = power-none k h a w e q in omega (arith, ints)
+
+  step-none : (p r : ℕ) (h : List Bool → ℤ) → Nothing deg m d h → Nothing deg m d (step deg p r h)
+  step-none p r h a w e q = go (r % 2)
+    where
+      go : (c : ℕ) → choice c (norm deg p h w) (turn_back_less_one deg h w) ≡ pos 0
+      go zero = norm-none p h a w e q
+      go (suc c) = let x = back-none h a w e q in let y = a w e q in omega (arith, ints)
+
+pub stair-only : (p n d : ℕ) → 1 ≤ p → (j : ℕ) (h : List Bool → ℤ) → ((w : List Bool) → length w ≡ p → word_degree (letter_degree n) w + suc j ≡ p * suc n → h w ≡ pos 0) → staircase p n d j h ≡ pos 0
+stair-only zero n d le j h a = absurd (omega (arith, le))
+stair-only (suc k) n d le zero h a =
+    let e : suc k - 1 ≡ k = omega arith in
+    let q = degree-copies (letter_degree n) k true in
+    ap (λ i. h (false ∷ copies i true)) e ∙ a (false ∷ copies k true) (ap suc (length-copies k true)) (omega arith)
+stair-only (suc k) n d le (suc j) h a =
+    stair-only (suc k) n d le j (step (letter_degree n) (suc k) (d - j) (contraction h))
+    (λ w e q. step-none (letter_degree n) (suc k) (word_degree (letter_degree n) w) (suc k) (d - j) (contraction h) (λ v y z. short v y (omega arith)) w e refl)
+  where
+    short : (v : List Bool) → length v ≡ suc k → word_degree (letter_degree n) v + suc j ≡ suc k * suc n → contraction h v ≡ pos 0
+    short [] e q = refl
+    short (false ∷ v) e q = refl
+    short (true ∷ v) e q = a (false ∷ v) e (omega arith)
+
+pub sum_to-none : (d : ℕ) (f : ℕ → ℤ) → ((j : ℕ) → j ≤ d → f j ≡ pos 0) → sum_to d f ≡ pos 0
+sum_to-none zero f e = e 0 (omega arith)
+sum_to-none (suc d) f e = let a = sum_to-none d f (λ j l. e j (omega arith)) in let b = e (suc d) (omega arith) in omega (arith, ints)
+
+pub word_sum-none : (p : ℕ) (ms : List (List Bool)) (h : List Bool → ℤ) → HaveLength p ms → ((w : List Bool) → length w ≡ p → h w ≡ pos 0) → word_sum ms h ≡ pos 0
+word_sum-none p [] h k e = refl
+word_sum-none p (w ∷ ms) h k e = let a = word_sum-none p ms h k.1 e in let b = e w k.0 in omega (arith, ints)
+
+degree-even : (q : ℕ) (w : List Bool) → word_degree (λ l. q) w ≡ length w * q
+degree-even q [] = omega arith
+degree-even q (l ∷ w) = let h = degree-even q w in omega arith
+
+pub operation-size : (p d q : ℕ) (x : ℕ → List SurjectionTerm) (a : List ℕ → ℤ) → IsPrime p → IsMayFamily p x → IsCochain q a → HasDegreeBelow d (p * q) (operation_of p (x d) a)
+operation-size p d q x a prime may ca =
+    let le : 1 ≤ p = (let t = prime.two in omega arith) in
+    let w : List Bool = copies p true in
+    let lw : length w ≡ p = length-copies p true in
+    let dw : word_degree (λ l. q) w ≡ p * q = degree-copies (λ l. q) p true in
+    record {
+      other = λ s hs ne. ap (λ cs. sum_value p (x d) cs s) (sym (letters-copies a a p)) ∙ word-size p d (λ l. q) (x d) (may.terms d) a a ca ca le w lw s hs (λ e. ne (omega arith));
+      plain = λ s r. ap (λ cs. sum_value p (x d) cs s) (sym (letters-copies a a p)) ∙ word-plain p d (λ l. q) (x d) (may.terms d) a a ca ca le w lw s r;
+    }
+
+pub orbit_sum-size : (p d q : ℕ) (x : ℕ → List SurjectionTerm) (ms : List (List Bool)) (a c : List ℕ → ℤ) → IsPrime p → IsMayFamily p x → IsOrbitTable p ms → IsCochain q a → IsCochain q c → HasDegreeBelow (suc d) (p * q) (orbit_sum p d x ms a c)
+orbit_sum-size p d q x ms a c prime may orbits ca cc =
+    let le : 1 ≤ p = (let t = prime.two in omega arith) in
+    record {
+      other =
+          λ s hs ne.
+          word_sum-none p ms (λ w. sum_value p (sum_above p d x) (word_cochains a c w) s) orbits.long
+          (λ w lw. word-size p (suc d) (λ l. q) (sum_above p d x) (of-upper p d x le may) a c ca cc le w lw s hs (λ e. ne (e ∙ ap suc (degree-even q w ∙ ap (λ j. j * q) lw))));
+      plain =
+          λ s r.
+          word_sum-none p ms (λ w. sum_value p (sum_above p d x) (word_cochains a c w) s) orbits.long
+          (λ w lw. word-plain p (suc d) (λ l. q) (sum_above p d x) (of-upper p d x le may) a c ca cc le w lw s r);
+    }
+
+pub staircase_sum-size : (p d n : ℕ) (x : ℕ → List SurjectionTerm) (y : List ℕ → ℤ) → IsPrime p → IsMayFamily p x → IsCochain n y → HasDegreeBelow (suc d) (p * suc n) (staircase_sum p n d x y)
+staircase_sum-size p d n x y prime may cy =
+    let le : 1 ≤ p = (let t = prime.two in omega arith) in
+    let cb = coboundary-cochain n y cy in
+    record {
+      other =
+          λ s hs ne.
+          sum_to-none d (λ j. signed (d - j) (staircase p n d j (λ w. sum_value p (x (d - j)) (word_cochains y (integral_coboundary y) w) s)))
+          (λ j lj. ap (signed (d - j)) (stair-only p n d le j (λ w. sum_value p (x (d - j)) (word_cochains y (integral_coboundary y) w) s)
+          (λ w lw dw. word-size p (d - j) (letter_degree n) (x (d - j)) (may.terms (d - j)) y (integral_coboundary y) cy cb le w lw s hs (λ e. ne (omega arith))))
+          ∙ signed-zero (d - j));
+      plain =
+          λ s r.
+          sum_to-none d (λ j. signed (d - j) (staircase p n d j (λ w. sum_value p (x (d - j)) (word_cochains y (integral_coboundary y) w) s)))
+          (λ j lj. ap (signed (d - j)) (stair-only p n d le j (λ w. sum_value p (x (d - j)) (word_cochains y (integral_coboundary y) w) s)
+          (λ w lw dw. word-plain p (d - j) (letter_degree n) (x (d - j)) (may.terms (d - j)) y (integral_coboundary y) cy cb le w lw s r))
+          ∙ signed-zero (d - j));
+    }

@@ -1,0 +1,24 @@
+-- Operations go with maps of vertices.
+use Rattle.std.proofs.Common.{◌≡◌, ℕ, zero, suc, ◌≤◌, List, [], ◌∷◌, map, length, refl, ◌∙◌, ap, arith}
+use Rattle.std.specs.Prelude.{ℤ, ◌+ℤ◌, ◌*ℤ◌}
+use Rattle.interval_cut_law.proofs.CochainLaws.{naturality_law}
+use Rattle.interval_cut_law.specs.Operations.{operation_value}
+use Rattle.steenrod_law.proofs.Forms.{AreTerms, IsMayFamily, IsPrime, SurjectionTerm, operation_of, value_over}
+use Rattle.steenrod_law.proofs.WordBoundary.{some}
+use Rattle.steenrod_law.specs.Words.{copies}
+use Rattle.surjection_law.specs.Boundary.{caesura_count}
+use Rattle.surjection_law.specs.Surjections.{IsOnto}
+
+over-equal : (p m : ℕ) (x : List SurjectionTerm) (h g : List ℕ → ℤ) → AreTerms p m x → ((u : List ℕ) → IsOnto p u → caesura_count u ≡ m → h u ≡ g u) → value_over x h ≡ value_over x g
+over-equal p m [] h g k e = refl
+over-equal p m (t ∷ x) h g k e = (λ i. (t.1 *ℤ e t.0 k.0 k.1 i) +ℤ over-equal p m x h g k.2 e i)
+
+map-copies : (f : (List ℕ → ℤ) → List ℕ → ℤ) (k : ℕ) (a : List ℕ → ℤ) → map f (copies k a) ≡ copies k (f a)
+map-copies f zero a = refl
+map-copies f (suc k) a = ap (λ r. f a ∷ r) (map-copies f k a)
+
+pub operation-map : (f : ℕ → ℕ) (p d : ℕ) (x : ℕ → List SurjectionTerm) (a : List ℕ → ℤ) (s : List ℕ) → IsPrime p → IsMayFamily p x → 1 ≤ length s → operation_of p (x d) a (map f s) ≡ operation_of p (x d) (λ g. a (map f g)) s
+operation-map f p d x a s prime may hs =
+    let t = prime.two in
+    over-equal p d (x d) (λ u. operation_value p u (copies p a) (map f s)) (λ u. operation_value p u (copies p (λ g. a (map f g))) s) (may.terms d)
+    (λ u o e. naturality_law f p u s (copies p a) hs (some p u (omega arith) o) ∙ ap (λ cs. operation_value p u cs s) (map-copies (λ b g. b (map f g)) p a))

@@ -1,0 +1,133 @@
+-- Cochains with whole values on the simplices that a test K tells, and classes of them: forms for proofs.
+use Rattle.std.proofs.Common.{Bool, ◌≡◌, ℕ, zero, suc, ◌+◌, ◌*◌, ◌%◌, ◌≤◌, ◌⊎◌, List, [], ◌∷◌, map, length}
+use Rattle.std.specs.Prelude.{ℤ, pos, ◌+ℤ◌, ◌*ℤ◌, neg_ℤ}
+use Rattle.interval_cut_law.specs.Operations.{operation_value}
+use Rattle.signed_sum.specs.Sums.{IsNormalized, total, value_at}
+use Rattle.simplicial_law.specs.Integral.{CongruentInt, HasDegree, integral_coboundary}
+use Rattle.steenrod_law.specs.Values.{sum_value}
+use Rattle.steenrod_law.specs.Words.{copies}
+use Rattle.surjection_law.specs.Boundary.{caesura_count, surjection_boundary}
+use Rattle.surjection_law.specs.Surjections.{IsOnto}
+use Rattle.table_reduction_law.specs.MayElements.{cycle, turned}
+
+abbrev pub SurjectionTerm : Type 0
+SurjectionTerm = List ℕ × ℤ
+
+-- the value of a formal sum, as a function of h
+abbrev pub value_over : {X : Type 0} → List (X × ℤ) → (X → ℤ) → ℤ
+value_over x h = value_at h x
+
+-- the sum of h over a list of words
+abbrev pub word_sum : List (List Bool) → (List Bool → ℤ) → ℤ
+word_sum ms h = total h ms
+
+-- p is a prime
+pub record IsPrime (p : ℕ) : Type 0 where
+  pub two : 2 ≤ p
+  pub only : (a b : ℕ) → a * b ≡ p → (a ≡ 1) ⊎ (a ≡ p)
+
+-- each term takes exactly the values 1 to p and has d caesuras
+abbrev pub AreTerms : ℕ → ℕ → List SurjectionTerm → Type 0
+AreTerms p d [] = Unit {0}
+AreTerms p d (t ∷ x) = IsOnto p t.0 × (caesura_count t.0 ≡ d) × AreTerms p d x
+
+-- the value of h at the boundary of the sum x
+abbrev pub boundary_over : List SurjectionTerm → (List ℕ → ℤ) → ℤ
+boundary_over x h = value_at (λ u. value_at h (surjection_boundary u)) x
+
+-- h at the turned list less h, and the sum of h over the first k turns
+abbrev pub turn_less : ℕ → (List ℕ → ℤ) → List ℕ → ℤ
+turn_less p h u = h (map (cycle p) u) +ℤ neg_ℤ (h u)
+
+abbrev pub turned_total : ℕ → ℕ → (List ℕ → ℤ) → List ℕ → ℤ
+turned_total p zero h u = pos 0
+turned_total p (suc k) h u = turned_total p k h u +ℤ h (turned p k u)
+
+-- sums of each degree with the relations of the May elements
+pub record IsMayFamily (p : ℕ) (x : ℕ → List SurjectionTerm) : Type 0 where
+  pub terms : (d : ℕ) → AreTerms p d (x d)
+  pub first : (h : List ℕ → ℤ) → boundary_over (x 0) h ≡ pos 0
+  pub even : (d : ℕ) → d % 2 ≡ 0 → (h : List ℕ → ℤ) → boundary_over (x (suc d)) h ≡ value_over (x d) (turn_less p h)
+  pub odd : (d : ℕ) → d % 2 ≡ 1 → (h : List ℕ → ℤ) → boundary_over (x (suc d)) h ≡ value_over (x d) (turned_total p p h)
+
+-- a cochain of degree q is 0 on lists of another length and on degenerate lists
+pub record IsCochain (q : ℕ) (a : List ℕ → ℤ) : Type 0 where
+  pub degree : HasDegree q a
+  pub plain : IsNormalized a
+
+-- f takes vertices of s in order, each as often as it likes
+pub data IsWeakFace : List ℕ → List ℕ → Type 0 where
+  none : {s : List ℕ} → IsWeakFace [] s
+  take : {x : ℕ} {f s : List ℕ} → IsWeakFace f (x ∷ s) → IsWeakFace (x ∷ f) (x ∷ s)
+  drop : {x : ℕ} {f s : List ℕ} → IsWeakFace f s → IsWeakFace f (x ∷ s)
+
+abbrev pub IsFaceClosed : (List ℕ → Type 0) → Type 0
+IsFaceClosed K = (f s : List ℕ) → IsWeakFace f s → K s → K f
+
+-- a cocycle on K, modulo p
+pub record IsIntegralCocycle (K : List ℕ → Type 0) (p q : ℕ) (a : List ℕ → ℤ) : Type 0 where
+  pub cochain : IsCochain q a
+  pub closed : (f : List ℕ) → K f → CongruentInt p (integral_coboundary a f) (pos 0)
+
+-- the value of the sum x on p times the cochain a
+abbrev pub operation_of : ℕ → List SurjectionTerm → (List ℕ → ℤ) → List ℕ → ℤ
+operation_of p x a s = sum_value p x (copies p a) s
+
+-- a has the degree m - k: it is 0 on simplices of another degree and on degenerate ones. Where k is
+-- m + 1 it is 0 on all simplices
+pub record HasDegreeBelow (k m : ℕ) (a : List ℕ → ℤ) : Type 0 where
+  pub other : (s : List ℕ) → 1 ≤ length s → (length s + k ≡ suc m → ⊥) → a s ≡ pos 0
+  pub plain : IsNormalized a
+
+-- a and b differ by a coboundary modulo p, of a cochain of degree m - k
+pub record Cohomologous (K : List ℕ → Type 0) (p k m : ℕ) (a b : List ℕ → ℤ) : Type 0 where
+  pub by : List ℕ → ℤ
+  pub degree : HasDegreeBelow k m by
+  pub equal : (s : List ℕ) → K s → 1 ≤ length s → CongruentInt p (a s) (b s +ℤ integral_coboundary by s)
+
+-- a sum of multiples of cochains
+pub record Part : Type 0 where
+  pub times : ℤ
+  pub of : List ℕ → ℤ
+
+abbrev pub part_sum : List Part → List ℕ → ℤ
+part_sum [] f = pos 0
+part_sum (z ∷ zs) f = (z.times *ℤ z.of f) +ℤ part_sum zs f
+
+abbrev pub operations : ℕ → List SurjectionTerm → List Part → List ℕ → ℤ
+operations p x [] s = pos 0
+operations p x (z ∷ zs) s = (z.times *ℤ operation_of p x z.of s) +ℤ operations p x zs s
+
+abbrev pub AllCocycles : (List ℕ → Type 0) → ℕ → ℕ → List Part → Type 0
+AllCocycles K p q [] = Unit {0}
+AllCocycles K p q (z ∷ zs) = IsIntegralCocycle K p q z.of × AllCocycles K p q zs
+
+-- b is the coboundary of a cochain of degree n
+pub record IsBoundedBy (K : List ℕ → Type 0) (n : ℕ) (b : List ℕ → ℤ) : Type 0 where
+  pub below : List ℕ → ℤ
+  pub cochain : IsCochain n below
+  pub is : (f : List ℕ) → K f → b f ≡ integral_coboundary below f
+
+-- b is a coboundary of degree q
+abbrev pub IsBoundary : (List ℕ → Type 0) → ℕ → (List ℕ → ℤ) → Type 0
+IsBoundary K zero b = (f : List ℕ) → K f → b f ≡ pos 0
+IsBoundary K (suc n) b = IsBoundedBy K n b
+
+-- z is the sum of the multiples of cocycles `zs` plus a coboundary, modulo p
+pub record InClass (K : List ℕ → Type 0) (p q : ℕ) (zs : List Part) (z : List ℕ → ℤ) : Type 0 where
+  pub cocycles : AllCocycles K p q zs
+  pub rest : List ℕ → ℤ
+  pub boundary : IsBoundary K q rest
+  pub equal : (f : List ℕ) → K f → CongruentInt p (z f) (part_sum zs f +ℤ rest f)
+
+-- the cup product
+abbrev pub cup : (List ℕ → ℤ) → (List ℕ → ℤ) → List ℕ → ℤ
+cup a b s = operation_value 2 (1 ∷ 2 ∷ []) (a ∷ b ∷ []) s
+
+abbrev pub products_with : (List ℕ → ℤ) → List Part → List ℕ → ℤ
+products_with a [] s = pos 0
+products_with a (w ∷ ws) s = (w.times *ℤ cup a w.of s) +ℤ products_with a ws s
+
+abbrev pub products : List Part → List Part → List ℕ → ℤ
+products [] ws s = pos 0
+products (z ∷ zs) ws s = (z.times *ℤ products_with z.of ws s) +ℤ products zs ws s

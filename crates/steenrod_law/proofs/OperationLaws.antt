@@ -1,0 +1,294 @@
+-- The laws of the May operations on cochains of residues.
+use Rattle.std.proofs.Common.{◌≡◌, ℕ, zero, suc, ◌+◌, ◌*◌, ◌<◌, ◌≤◌, ◌-◌, ◌⊎◌, inl, inr, ◌==◌, ◌&&◌, not, eqb, eq-eqb, Bool, true, false, cond, List, [], ◌∷◌, map, length, refl, sym, ◌∙◌, ap, arith}
+use Rattle.std.specs.Prelude.{ℤ, pos, ◌+ℤ◌, ◌*ℤ◌}
+use Rattle.std.proofs.Math.IntN.{pos-*ℤ-pos, *ℤ-zero}
+use Rattle.std.proofs.Math.Nat.{pow-succ', pow-zero, zero-mod}
+use Rattle.std.proofs.lemmas.Int.{ints}
+use Rattle.std.proofs.lemmas.Bool.{cases_Bool, eqb-true, or_cases, or_left, or_right}
+use Rattle.std.proofs.lemmas.List.{length-map}
+use Rattle.fp_field.specs.Element.{sign_power}
+use Rattle.interval_cut_law.specs.Operations.{operation_value}
+use Rattle.linear_law.specs.Congruence.{Congruent, IsField, negated}
+use Rattle.signed_sum.proofs.ListLemmas.{unless_empty-nothing}
+use Rattle.signed_sum.proofs.SignLemmas.{signed-zero}
+use Rattle.signed_sum.proofs.SumLemmas.{fun_ext}
+use Rattle.signed_sum.specs.Lists.{is_degenerate, unless_empty}
+use Rattle.signed_sum.specs.Signs.{signed}
+use Rattle.signed_sum.specs.Sums.{without_one}
+use Rattle.simplicial_law.proofs.IntegralBridge.{integral_congruence_law, negated_whole}
+use Rattle.simplicial_law.proofs.IntegralCongruence.{CongruentInt-neg, CongruentInt-scale, CongruentInt-signed, CongruentInt-sum, CongruentInt_of, CongruentInt_refl, CongruentInt_sym, CongruentInt_trans}
+use Rattle.simplicial_law.specs.Cochains.{AgreesOnSimplices, Cochain, IsCocycle, coboundary}
+use Rattle.simplicial_law.specs.Integral.{CongruentInt, integral_coboundary}
+use Rattle.simplicial_law.specs.Simplices.{IsSimplex}
+use Rattle.steenrod_law.proofs.AdditiveMaps.{adds-zero}
+use Rattle.steenrod_law.proofs.Additivity.{additive}
+use Rattle.steenrod_law.proofs.Classes.{operation-mod}
+use Rattle.steenrod_law.proofs.ClosedValues.{closed}
+use Rattle.steenrod_law.proofs.Complexes.{IsWeakSimplex, coboundary-residues, extended-coboundary, extended-cochain, extended-cocycle, extended-simplex, residue_cochain-same, simplex_or_none, weak-closed, weak_of_simplex}
+use Rattle.steenrod_law.proofs.Degrees.{of-upper, operation-size, orbit_sum-size, staircase_sum-size}
+use Rattle.steenrod_law.proofs.Faces.{operation-map}
+use Rattle.steenrod_law.proofs.Forms.{AreTerms, IsMayFamily, IsPrime, IsWeakFace, SurjectionTerm, drop, none, operation_of, take, value_over, word_sum}
+use Rattle.steenrod_law.proofs.MayFamily.{may_family}
+use Rattle.steenrod_law.proofs.Primes.{prime_of_field, two-or-odd}
+use Rattle.steenrod_law.proofs.Representatives.{representatives}
+use Rattle.steenrod_law.proofs.Scaling.{scales}
+use Rattle.steenrod_law.proofs.Staircase.{stair-alike, stair-sum}
+use Rattle.steenrod_law.proofs.ValuesOnFaces.{value-none-at}
+use Rattle.steenrod_law.proofs.WordBoundary.{some}
+use Rattle.steenrod_law.proofs.WordCochains.{over-same, over-sum}
+use Rattle.steenrod_law.specs.Operations.{extended, may_operation, orbit_primitive, pull_back, residue, residue_cochain, staircase_primitive}
+use Rattle.steenrod_law.specs.Values.{orbit_sum, staircase_sum, sum_above, sum_to, sum_value, word_cochains}
+use Rattle.steenrod_law.specs.Words.{HaveLength, IsOrbitTable, staircase}
+use Rattle.table_reduction_law.specs.MayElements.{may_element}
+
+-- the operation on cochains with whole values
+abbrev pub whole_operation : ℕ → ℕ → (List ℕ → ℤ) → List ℕ → ℤ
+whole_operation p d b = operation_of p (may_element p d) b
+
+module _ (p : ℕ) (field : IsField p) where
+  pub above_one : 1 < p
+  above_one = field.large
+
+  pub prime_here : IsPrime p
+  prime_here = prime_of_field p field
+
+  pub positive_here : 1 ≤ p
+  positive_here = let l = field.large in omega arith
+
+  pub family_here : IsMayFamily p (may_element p)
+  family_here = may_family p positive_here
+
+  pub value-same : (d q : ℕ) (a : Cochain) (s : List ℕ) → 1 ≤ length s → CongruentInt p (pos (may_operation p d q a s)) (whole_operation p d (extended q a) s)
+  value-same d q a s h = residue_cochain-same p (whole_operation p d (extended q a)) s above_one h
+
+  pub to_residues : {a b : ℕ} → CongruentInt p (pos a) (pos b) → Congruent p a b
+  to_residues {a} {b} h = integral_congruence_law.residues p a b h
+
+  pub vertices : (facets : List (List ℕ)) (n : ℕ) (s : List ℕ) → IsSimplex facets n s → 1 ≤ length s
+  vertices facets n s k = let e = k.size in omega arith
+
+  -- operations see the weak faces alone
+  pub operation-faces : (d : ℕ) (facets : List (List ℕ)) (a b : List ℕ → ℤ) (s : List ℕ) → IsWeakSimplex facets s → 1 ≤ length s →
+      ((f : List ℕ) → IsWeakSimplex facets f → CongruentInt p (a f) (b f)) → CongruentInt p (whole_operation p d a s) (whole_operation p d b s)
+  operation-faces d facets a b s k h e = operation-mod p d (may_element p d) a b s (family_here.terms d) positive_here h (λ f w. e f (weak-closed facets f s w k))
+
+  pub may_operation-closed : (facets : List (List ℕ)) (d q n : ℕ) (a : Cochain) → IsCocycle facets q p a → IsCocycle facets n p (may_operation p d q a)
+  may_operation-closed facets d q n a z = record {
+    at = λ s on. to_residues
+        (CongruentInt_trans (CongruentInt_sym (coboundary-residues p (whole_operation p d (extended q a)) s above_one))
+        (closed (IsWeakSimplex facets) p d q (may_element p) (extended q a) s (weak-closed facets) prime_here family_here (extended-cocycle facets q p a above_one z)
+        (weak_of_simplex facets (n + 1) s on) (vertices facets (n + 1) s on)));
+  }
+
+  extended-scale : (q c : ℕ) (a : Cochain) (f : List ℕ) → extended q (λ t. c * a t) f ≡ pos c *ℤ extended q a f
+  extended-scale q c a f = go (length f == suc q && not (is_degenerate f))
+    where
+      go : (b : Bool) → cond b (pos (c * a f)) (pos 0) ≡ pos c *ℤ cond b (pos (a f)) (pos 0)
+      go true = sym (pos-*ℤ-pos c (a f))
+      go false = sym (*ℤ-zero (pos c))
+
+  pub scaling-law : (d q c : ℕ) (a : Cochain) (s : List ℕ) → 1 ≤ length s → Congruent p (may_operation p d q (λ t. c * a t) s) (c * may_operation p d q a s)
+  scaling-law d q c a s h = to_residues
+      (CongruentInt_trans (value-same d q (λ t. c * a t) s h)
+      (CongruentInt_trans (CongruentInt_of (ap (λ g. whole_operation p d g s) (fun_ext (extended-scale q c a))))
+      (CongruentInt_trans (scales p (may_element p d) (pos c) (extended q a) s prime_here)
+      (CongruentInt_trans (CongruentInt-scale (pos c) (CongruentInt_sym (value-same d q a s h)))
+      (CongruentInt_of (pos-*ℤ-pos c (may_operation p d q a s)))))))
+
+  extended-add : (q : ℕ) (a c : Cochain) (f : List ℕ) → extended q (λ t. a t + c t) f ≡ extended q a f +ℤ extended q c f
+  extended-add q a c f = go (length f == suc q && not (is_degenerate f))
+    where
+      go : (b : Bool) → cond b (pos (a f + c f)) (pos 0) ≡ cond b (pos (a f)) (pos 0) +ℤ cond b (pos (c f)) (pos 0)
+      go true = omega (arith, ints)
+      go false = refl
+
+  sign-same : (d x : ℕ) → CongruentInt p (signed d (pos x)) (pos (sign_power p d * x))
+  sign-same zero x = CongruentInt_of (ap pos (let e : sign_power p 0 * x ≡ 1 * x = ap (λ j. j * x) (pow-zero (negated p 1)) in omega arith))
+  sign-same (suc d) x =
+      let y : ℕ = sign_power p d * x in
+      CongruentInt_trans (CongruentInt-neg (sign-same d x))
+      (CongruentInt_trans (negated_whole p y above_one)
+      (CongruentInt_of (ap pos (let e : sign_power p (suc d) * x ≡ (negated p 1 * sign_power p d) * x = ap (λ j. j * x) (pow-succ' (negated p 1) d) in omega arith))))
+
+  pub additivity-law : (facets : List (List ℕ)) (d q n : ℕ) (ms : List (List Bool)) (a c : Cochain) → IsOrbitTable p ms → IsCocycle facets q p a → IsCocycle facets q p c →
+      AgreesOnSimplices facets n p (may_operation p d q (λ t. a t + c t)) (λ s. may_operation p d q a s + may_operation p d q c s + sign_power p d * coboundary p (orbit_primitive p d q ms a c) s)
+  additivity-law facets d q n ms a c orbits za zc = record { at = λ s on. to_residues (at s (vertices facets n s on) (weak_of_simplex facets n s on)) }
+    where
+      at : (s : List ℕ) → 1 ≤ length s → IsWeakSimplex facets s →
+          CongruentInt p (pos (may_operation p d q (λ t. a t + c t) s)) (pos (may_operation p d q a s + may_operation p d q c s + sign_power p d * coboundary p (orbit_primitive p d q ms a c) s))
+      at s h k =
+          let x : ℕ = may_operation p d q a s in
+          let y : ℕ = may_operation p d q c s in
+          let w : ℕ = sign_power p d * coboundary p (orbit_primitive p d q ms a c) s in
+          let split : pos (x + y + w) ≡ (pos x +ℤ pos y) +ℤ pos w = omega (arith, ints) in
+          CongruentInt_trans (value-same d q (λ t. a t + c t) s h)
+          (CongruentInt_trans (CongruentInt_of (ap (λ g. whole_operation p d g s) (fun_ext (extended-add q a c))))
+          (CongruentInt_trans (additive (IsWeakSimplex facets) p d q (may_element p) ms (extended q a) (extended q c) s (weak-closed facets) prime_here family_here orbits (extended-cocycle facets q p a above_one za) (extended-cocycle facets q p c above_one zc) k h)
+          (CongruentInt_trans (CongruentInt-sum (CongruentInt-sum (CongruentInt_sym (value-same d q a s h)) (CongruentInt_sym (value-same d q c s h)))
+          (CongruentInt_trans (CongruentInt-signed d (coboundary-residues p (orbit_sum p d (may_element p) ms (extended q a) (extended q c)) s above_one)) (sign-same d (coboundary p (orbit_primitive p d q ms a c) s))))
+          (CongruentInt_of (sym split)))))
+
+  pub representative-law : (facets : List (List ℕ)) (d q n : ℕ) (y : Cochain) →
+      AgreesOnSimplices facets n p (may_operation p d (q + 1) (coboundary p y)) (coboundary p (staircase_primitive p d q y))
+  representative-law facets d q n y = record { at = λ s on. to_residues (at s (vertices facets n s on) (weak_of_simplex facets n s on)) }
+    where
+      e : q + 1 ≡ suc q
+      e = omega arith
+
+      at : (s : List ℕ) → 1 ≤ length s → IsWeakSimplex facets s → CongruentInt p (pos (may_operation p d (q + 1) (coboundary p y) s)) (pos (coboundary p (staircase_primitive p d q y) s))
+      at s h k =
+          CongruentInt_trans (CongruentInt_of (ap (λ j. pos (may_operation p d j (coboundary p y) s)) e))
+          (CongruentInt_trans (value-same d (suc q) (coboundary p y) s h)
+          (CongruentInt_trans (operation-faces d facets (extended (suc q) (coboundary p y)) (integral_coboundary (extended q y)) s k h (λ f w. extended-coboundary facets q p y f above_one w))
+          (CongruentInt_trans (representatives p d q (may_element p) (extended q y) s prime_here family_here (extended-cochain q y) h)
+          (coboundary-residues p (staircase_sum p q d (may_element p) (extended q y)) s above_one))))
+
+  -- degrees
+
+  pub residue-none : (b : List ℕ → ℤ) (s : List ℕ) → 1 ≤ length s → b s ≡ pos 0 → residue_cochain p b s ≡ 0
+  residue-none b [] h e = absurd (omega arith)
+  residue-none b (x ∷ s) h e = ap (residue p) e ∙ zero-mod p
+
+  pub operation-degree : (facets : List (List ℕ)) (d q n : ℕ) (a : Cochain) (s : List ℕ) → IsSimplex facets n s → (n + d ≡ p * q → ⊥) → may_operation p d q a s ≡ 0
+  operation-degree facets d q n a s k ne =
+      let l = k.size in
+      residue-none (whole_operation p d (extended q a)) s (vertices facets n s k)
+      ((operation-size p d q (may_element p) (extended q a) prime_here family_here (extended-cochain q a)).other s (vertices facets n s k) (λ e. ne (omega arith)))
+
+  pub orbit-degree : (facets : List (List ℕ)) (d q n : ℕ) (ms : List (List Bool)) (a c : Cochain) (s : List ℕ) → IsOrbitTable p ms → IsSimplex facets n s → (n + d + 1 ≡ p * q → ⊥) → orbit_primitive p d q ms a c s ≡ 0
+  orbit-degree facets d q n ms a c s orbits k ne =
+      let l = k.size in
+      residue-none (orbit_sum p d (may_element p) ms (extended q a) (extended q c)) s (vertices facets n s k)
+      ((orbit_sum-size p d q (may_element p) ms (extended q a) (extended q c) prime_here family_here orbits (extended-cochain q a) (extended-cochain q c)).other s (vertices facets n s k) (λ e. ne (omega arith)))
+
+  pub staircase-degree : (facets : List (List ℕ)) (d q n : ℕ) (y : Cochain) (s : List ℕ) → IsSimplex facets n s → (n + d + 1 ≡ p * (q + 1) → ⊥) → staircase_primitive p d q y s ≡ 0
+  staircase-degree facets d q n y s k ne =
+      let l = k.size in
+      let t : q + 1 ≡ suc q = omega arith in
+      let m = ap (λ j. p * j) t in
+      residue-none (staircase_sum p q d (may_element p) (extended q y)) s (vertices facets n s k)
+      ((staircase_sum-size p d q (may_element p) (extended q y) prime_here family_here (extended-cochain q y)).other s (vertices facets n s k) (λ e. ne (omega arith)))
+
+  -- complexes on which the cochains are 0
+
+  zero-there : (facets : List (List ℕ)) (q : ℕ) (a : Cochain) → ((s : List ℕ) → IsSimplex facets q s → a s ≡ 0) → (f : List ℕ) → IsWeakSimplex facets f → extended q a f ≡ pos 0
+  zero-there facets q a z f k = elim (simplex_or_none facets q f k) [
+    | inl s ↦ extended-simplex facets q a f s ∙ ap pos (z f s)
+    | inr n ↦ n.zero_there (extended q a) (extended-cochain q a)
+  ]
+
+  word-none : (facets : List (List ℕ)) (m : ℕ) (x : List SurjectionTerm) (a b : List ℕ → ℤ) (w : List Bool) (s : List ℕ) → AreTerms p m x → length w ≡ p → IsWeakSimplex facets s → 1 ≤ length s →
+      ((f : List ℕ) → IsWeakSimplex facets f → a f ≡ pos 0) → ((f : List ℕ) → IsWeakSimplex facets f → b f ≡ pos 0) → CongruentInt p (sum_value p x (word_cochains a b w) s) (pos 0)
+  word-none facets m x a b [] s t e k h za zb = absurd (let l = positive_here in omega (arith, l, e))
+  word-none facets m x a b (l ∷ w) s t e k h za zb =
+      CongruentInt_trans
+      (over-same p m x (λ u. operation_value p u (word_cochains a b (l ∷ w)) s) (λ u. pos 0) t
+      (λ u o c. value-none-at p p u s [] (word_cochains a b w) (cond l b a) (some p u positive_here o) h (λ f v. CongruentInt_of (either l f (weak-closed facets f s v k)))))
+      (CongruentInt_of (adds-zero (value_over x) (over-sum x)))
+    where
+      either : (l : Bool) (f : List ℕ) → IsWeakSimplex facets f → cond l b a f ≡ pos 0
+      either true f q = zb f q
+      either false f q = za f q
+
+  total-none : (ms : List (List Bool)) (h : List Bool → ℤ) → HaveLength p ms → ((w : List Bool) → length w ≡ p → CongruentInt p (h w) (pos 0)) → CongruentInt p (word_sum ms h) (pos 0)
+  total-none [] h k e = CongruentInt_refl (pos 0)
+  total-none (w ∷ ms) h k e = CongruentInt-sum (e w k.0) (total-none ms h k.1 e)
+
+  pub orbit-subcomplex : (facets : List (List ℕ)) (d q n : ℕ) (ms : List (List Bool)) (a c : Cochain) → IsOrbitTable p ms →
+      ((s : List ℕ) → IsSimplex facets q s → a s ≡ 0) → ((s : List ℕ) → IsSimplex facets q s → c s ≡ 0) → (s : List ℕ) → IsSimplex facets n s → Congruent p (orbit_primitive p d q ms a c s) 0
+  orbit-subcomplex facets d q n ms a c orbits za zc s on =
+      let h = vertices facets n s on in
+      to_residues (CongruentInt_trans (residue_cochain-same p (orbit_sum p d (may_element p) ms (extended q a) (extended q c)) s above_one h)
+      (total-none ms (λ w. sum_value p (sum_above p d (may_element p)) (word_cochains (extended q a) (extended q c) w) s) orbits.long
+      (λ w e. word-none facets (suc d) (sum_above p d (may_element p)) (extended q a) (extended q c) w s (of-upper p d (may_element p) positive_here family_here) e (weak_of_simplex facets n s on) h (zero-there facets q a za) (zero-there facets q c zc))))
+
+  weak-refl : (s : List ℕ) → IsWeakFace s s
+  weak-refl [] = none
+  weak-refl (x ∷ s) = take (drop (weak-refl s))
+
+  faces-none : (f : List ℕ) (h : List ℕ → ℤ) → ((g : List ℕ) → IsWeakFace g f → h g ≡ pos 0) → without_one f h ≡ pos 0
+  faces-none [] h e = refl
+  faces-none (x ∷ f) h e =
+      let a = e f (drop (weak-refl f)) in
+      let b = faces-none f (λ g. h (x ∷ g)) (λ g w. e (x ∷ g) (take (drop w))) in
+      omega (arith, ints)
+
+  coboundary-none : (facets : List (List ℕ)) (b : List ℕ → ℤ) → ((f : List ℕ) → IsWeakSimplex facets f → b f ≡ pos 0) → (f : List ℕ) → IsWeakSimplex facets f → integral_coboundary b f ≡ pos 0
+  coboundary-none facets b z f k = faces-none f (λ g. unless_empty g (b g)) (λ g w. ap (unless_empty g) (z g (weak-closed facets g f w k)) ∙ unless_empty-nothing g)
+
+  steps-none : (d : ℕ) (f : ℕ → ℤ) → ((j : ℕ) → CongruentInt p (f j) (pos 0)) → CongruentInt p (sum_to d f) (pos 0)
+  steps-none zero f e = e 0
+  steps-none (suc d) f e = CongruentInt-sum (steps-none d f e) (e (suc d))
+
+  pub staircase-subcomplex : (facets : List (List ℕ)) (d q n : ℕ) (y : Cochain) → ((s : List ℕ) → IsSimplex facets q s → y s ≡ 0) → (s : List ℕ) → IsSimplex facets n s → Congruent p (staircase_primitive p d q y s) 0
+  staircase-subcomplex facets d q n y zy s on =
+      let h = vertices facets n s on in
+      let z = zero-there facets q y zy in
+      let b : List ℕ → ℤ = integral_coboundary (extended q y) in
+      to_residues (CongruentInt_trans (residue_cochain-same p (staircase_sum p q d (may_element p) (extended q y)) s above_one h)
+      (steps-none d (λ j. signed (d - j) (staircase p q d j (λ w. sum_value p (may_element p (d - j)) (word_cochains (extended q y) b w) s)))
+      (λ j. CongruentInt_trans (CongruentInt-signed (d - j)
+      (CongruentInt_trans
+      (stair-alike p q (two-or-odd p prime_here) prime_here.two d j (λ w. sum_value p (may_element p (d - j)) (word_cochains (extended q y) b w) s) (λ w. pos 0)
+      (λ w e. word-none facets (d - j) (may_element p (d - j)) (extended q y) b w s (family_here.terms (d - j)) e (weak_of_simplex facets n s on) h z (coboundary-none facets (extended q y) z)))
+      (CongruentInt_of (adds-zero (staircase p q d j) (stair-sum p q (two-or-odd p prime_here) prime_here.two d j)))))
+      (CongruentInt_of (signed-zero (d - j))))))
+
+-- pull-backs
+
+-- a degenerate list has a degenerate image
+is_degenerate-under : (f : ℕ → ℕ) (g : List ℕ) → is_degenerate g ≡ true → is_degenerate (map f g) ≡ true
+is_degenerate-under f [] d = d
+is_degenerate-under f (x ∷ []) d = d
+is_degenerate-under f (x ∷ y ∷ g) d = elim (or_cases (eqb x y) (is_degenerate (y ∷ g)) d) [
+  | inl e ↦ or_left (eqb (f x) (f y)) (is_degenerate (f y ∷ map f g)) (eq-eqb (f x) (f y) (ap f (eqb-true x y e)))
+  | inr e ↦ or_right (eqb (f x) (f y)) (is_degenerate (f y ∷ map f g)) (is_degenerate-under f (y ∷ g) e)
+]
+
+pub pulled : (f : ℕ → ℕ) (q : ℕ) (a : Cochain) (g : List ℕ) → extended q a (map f g) ≡ extended q (pull_back f a) g
+pulled f q a g = go (length g == suc q) (cases_Bool (is_degenerate g))
+  where
+    same : extended q a (map f g) ≡ cond ((length g == suc q) && not (is_degenerate (map f g))) (pos (a (map f g))) (pos 0)
+    same = ap (λ n. cond ((n == suc q) && not (is_degenerate (map f g))) (pos (a (map f g))) (pos 0)) (length-map g f)
+
+    inner : (b : Bool) → cond (not b) (pos (a (map f g))) (pos 0) ≡ pos (cond b 0 (a (map f g)))
+    inner true = refl
+    inner false = refl
+
+    go : (b : Bool) → (is_degenerate g ≡ true) ⊎ (is_degenerate g ≡ false) → extended q a (map f g) ≡ extended q (pull_back f a) g
+    go b (inl d) = same
+        ∙ ap (λ c. cond ((length g == suc q) && not c) (pos (a (map f g))) (pos 0)) (is_degenerate-under f g d) ∙ both (length g == suc q)
+        ∙ sym (ap (λ c. cond ((length g == suc q) && not c) (pos (pull_back f a g)) (pos 0)) d ∙ both2 (length g == suc q))
+      where
+        both : (b : Bool) → cond (b && false) (pos (a (map f g))) (pos 0) ≡ pos 0
+        both true = refl
+        both false = refl
+
+        both2 : (b : Bool) → cond (b && false) (pos (pull_back f a g)) (pos 0) ≡ pos 0
+        both2 true = refl
+        both2 false = refl
+    go b (inr d) = same ∙ outer (length g == suc q) ∙ sym (ap (λ c. cond ((length g == suc q) && not c) (pos (pull_back f a g)) (pos 0)) d ∙ outer2 (length g == suc q))
+      where
+        outer : (b : Bool) → cond (b && not (is_degenerate (map f g))) (pos (a (map f g))) (pos 0) ≡ cond b (pos (pull_back f a g)) (pos 0)
+        outer true = inner (is_degenerate (map f g))
+        outer false = refl
+
+        outer2 : (b : Bool) → cond (b && true) (pos (pull_back f a g)) (pos 0) ≡ cond b (pos (pull_back f a g)) (pos 0)
+        outer2 true = refl
+        outer2 false = refl
+
+pub pull_back-operation : (p : ℕ) → IsField p → (f : ℕ → ℕ) (d q : ℕ) (a : Cochain) (s : List ℕ) → 1 ≤ length s → Congruent p (may_operation p d q (pull_back f a) s) (pull_back f (may_operation p d q a) s)
+pull_back-operation p field f d q a s h = elim (cases_Bool (is_degenerate (map f s))) [
+  | inl e ↦ to_residues p field
+      (CongruentInt_trans here (CongruentInt_of
+      ((operation-size p d q (may_element p) (extended q a) (prime_here p field) (family_here p field) (extended-cochain q a)).plain (map f s) e
+      ∙ ap pos (sym (ap (λ b. cond b 0 (may_operation p d q a (map f s))) e)))))
+  | inr e ↦ to_residues p field
+      (CongruentInt_trans here (CongruentInt_trans (CongruentInt_sym (value-same p field d q a (map f s) (let l = length-map s f in omega arith)))
+      (CongruentInt_of (ap pos (sym (ap (λ b. cond b 0 (may_operation p d q a (map f s))) e))))))
+]
+  where
+    here : CongruentInt p (pos (may_operation p d q (pull_back f a) s)) (whole_operation p d (extended q a) (map f s))
+    here =
+        CongruentInt_trans (value-same p field d q (pull_back f a) s h)
+        (CongruentInt_of (ap (λ g. whole_operation p d g s) (fun_ext (λ g. sym (pulled f q a g))) ∙ sym (operation-map f p d (may_element p) (extended q a) s (prime_here p field) (family_here p field) h)))

@@ -1,0 +1,5 @@
+use Rattle.steenrod_law.proofs.WordTurns.{word_laws}
+use Rattle.steenrod_law.proofs.word_laws.Goals as goal
+
+pub returns : goal.returns
+returns c = word_laws

@@ -1,0 +1,119 @@
+-- The laws of the Steenrod operations.
+use Rattle.std.specs.Prelude.{◌≡◌, ℕ, ◌+◌, ◌*◌, ◌-◌, ◌≤◌, Bool, List, ◌∷◌, length, map, ℤ, pos, ◌+ℤ◌, suc}
+use Rattle.std.specs.List.{AllZip}
+use Rattle.fp_field.specs.Element.{sign_power}
+use Rattle.linear_law.specs.Congruence.{Congruent, IsField, negated}
+use Rattle.linear_law.specs.Lists.{Each}
+use Rattle.linear_law.specs.ReducedBases.{combination}
+use Rattle.simplicial_law.specs.Simplices.{IsSimplex}
+use Rattle.simplicial_law.specs.Cochains.{AgreesOnSimplices, Cochain, HasCoordinates, IsCoboundary, IsCocycle, coboundary}
+use Rattle.steenrod_law.specs.Operations.{cup_product, matrix_times, may_operation, orbit_primitive, pull_back, scaled_operation, staircase_primitive}
+use Rattle.simplicial_law.specs.Integral.{CongruentInt}
+use Rattle.steenrod_law.specs.Words.{IsOrbitTable, contraction, letter_degree, norm, orbit_words_of_2, orbit_words_of_3, orbit_words_of_5, staircase, step, turn, turn_back, turn_power, turn_sum, word_boundary}
+
+-- Words are a cyclic model: the two turns are inverse, as many turns as there are letters do nothing,
+-- the sum of all turns is that of all inverse turns, the boundary of a boundary is zero, and the
+-- boundary commutes with turns and steps. Two steps in a row give zero. The boundary of the contraction
+-- and the contraction of the boundary sum to the identity.
+pub record WordLaws : Type 0 where
+  pub there_back : (deg : Bool → ℕ) (h : List Bool → ℤ) (w : List Bool) → turn_back deg (turn deg h) w ≡ h w
+  pub back_there : (deg : Bool → ℕ) (h : List Bool → ℤ) (w : List Bool) → turn deg (turn_back deg h) w ≡ h w
+  pub whole : (deg : Bool → ℕ) (h : List Bool → ℤ) (w : List Bool) → turn_power deg (length w) h w ≡ h w
+  pub norms : (deg : Bool → ℕ) (h : List Bool → ℤ) (w : List Bool) → turn_sum deg (length w) h w ≡ norm deg (length w) h w
+  pub twice : (n : ℕ) (h : List Bool → ℤ) (w : List Bool) → word_boundary n (word_boundary n h) w ≡ pos 0
+  pub turns : (n : ℕ) (h : List Bool → ℤ) (w : List Bool) →
+      word_boundary n (turn (letter_degree n) h) w ≡ turn (letter_degree n) (word_boundary n h) w
+  pub steps : (n p m : ℕ) (h : List Bool → ℤ) (w : List Bool) →
+      word_boundary n (step (letter_degree n) p m h) w ≡ step (letter_degree n) p m (word_boundary n h) w
+  pub nothing : (deg : Bool → ℕ) (m : ℕ) (h : List Bool → ℤ) (w : List Bool) →
+      step deg (length w) (suc m) (step deg (length w) m h) w ≡ pos 0
+  pub contracts : (n : ℕ) (h : List Bool → ℤ) (l : Bool) (w : List Bool) →
+      contraction (word_boundary n h) (l ∷ w) +ℤ word_boundary n (contraction h) (l ∷ w) ≡ h (l ∷ w)
+
+-- The boundary of each sum of the staircase is the step of the one before it, modulo p.
+abbrev pub StaircaseLaw : Type 0
+StaircaseLaw = (p n d j : ℕ) (h : List Bool → ℤ) → IsField p → suc j ≤ d →
+    CongruentInt p (staircase p n d (suc j) (word_boundary n h)) (staircase p n d j (step (letter_degree n) p (d - j) h))
+
+pub record OrbitTables : Type 0 where
+  pub two : IsOrbitTable 2 orbit_words_of_2
+  pub three : IsOrbitTable 3 orbit_words_of_3
+  pub five : IsOrbitTable 5 orbit_words_of_5
+
+-- A May operation takes cocycles to cocycles.
+abbrev pub ClosedLaw : Type 0
+ClosedLaw = (facets : List (List ℕ)) (p d q n : ℕ) (a : Cochain) → IsField p → IsCocycle facets q p a →
+    IsCocycle facets n p (may_operation p d q a)
+
+-- D_d of c times a is c times D_d of a.
+abbrev pub ScalingLaw : Type 0
+ScalingLaw = (p d q c : ℕ) (a : Cochain) (s : List ℕ) → IsField p → 1 ≤ length s →
+    Congruent p (may_operation p d q (λ t. c * a t) s) (c * may_operation p d q a s)
+
+-- The degrees of D_d and of the primitives: elsewhere they are 0. Where d is p * q, or p * (n + 1), the
+-- primitive has degree -1 and is 0.
+pub record DegreeLaw : Type 0 where
+  pub operations : (facets : List (List ℕ)) (p d q n : ℕ) (a : Cochain) (s : List ℕ) → IsField p →
+      IsSimplex facets n s → (n + d ≡ p * q → ⊥) → may_operation p d q a s ≡ 0
+  pub orbit_primitives : (facets : List (List ℕ)) (p d q n : ℕ) (ms : List (List Bool)) (a c : Cochain) (s : List ℕ) →
+      IsField p → IsOrbitTable p ms → IsSimplex facets n s → (n + d + 1 ≡ p * q → ⊥) →
+      orbit_primitive p d q ms a c s ≡ 0
+  pub staircase_primitives : (facets : List (List ℕ)) (p d q n : ℕ) (y : Cochain) (s : List ℕ) → IsField p →
+      IsSimplex facets n s → (n + d + 1 ≡ p * (q + 1) → ⊥) → staircase_primitive p d q y s ≡ 0
+  pub products : (facets : List (List ℕ)) (p q k n : ℕ) (a b : Cochain) (s : List ℕ) → IsField p →
+      IsSimplex facets n s → (n ≡ q + k → ⊥) → cup_product p q k a b s ≡ 0
+
+-- D_d of the coboundary of y is the coboundary of the primitive on the staircase.
+abbrev pub RepresentativeLaw : Type 0
+RepresentativeLaw = (facets : List (List ℕ)) (p d q n : ℕ) (y : Cochain) → IsField p →
+    AgreesOnSimplices facets n p (may_operation p d (q + 1) (coboundary p y)) (coboundary p (staircase_primitive p d q y))
+
+-- D_d of a sum of cocycles is the sum of both, plus (-1)^d times the coboundary of the primitive on the orbit words.
+abbrev pub AdditivityLaw : Type 0
+AdditivityLaw = (facets : List (List ℕ)) (p d q n : ℕ) (ms : List (List Bool)) (a c : Cochain) → IsField p →
+    IsOrbitTable p ms → IsCocycle facets q p a → IsCocycle facets q p c →
+    AgreesOnSimplices facets n p (may_operation p d q (λ t. a t + c t))
+    (λ s. may_operation p d q a s + may_operation p d q c s + sign_power p d * coboundary p (orbit_primitive p d q ms a c) s)
+
+-- The primitives are 0 on each complex on which the given cochains are 0.
+pub record SubcomplexLaw : Type 0 where
+  pub orbit_primitives : (facets : List (List ℕ)) (p d q n : ℕ) (ms : List (List Bool)) (a c : Cochain) → IsField p →
+      IsOrbitTable p ms → ((s : List ℕ) → IsSimplex facets q s → a s ≡ 0) → ((s : List ℕ) → IsSimplex facets q s → c s ≡ 0) →
+      (s : List ℕ) → IsSimplex facets n s → Congruent p (orbit_primitive p d q ms a c s) 0
+  pub staircase_primitives : (facets : List (List ℕ)) (p d q n : ℕ) (y : Cochain) → IsField p →
+      ((s : List ℕ) → IsSimplex facets q s → y s ≡ 0) →
+      (s : List ℕ) → IsSimplex facets n s → Congruent p (staircase_primitive p d q y s) 0
+
+-- On classes an operation is linear and does not depend on the representative: for each z that is the
+-- combination of the cocycles zs plus a coboundary, the operation on z is the combination of the
+-- operations on zs plus a coboundary.
+abbrev pub LinearityLaw : Type 0
+LinearityLaw = (facets : List (List ℕ)) (p d c q n : ℕ) (ms : List (List Bool)) (zs : List Cochain) (z : Cochain) (cs : List ℕ) →
+    IsField p → IsOrbitTable p ms → Each (IsCocycle facets q p) zs → HasCoordinates facets q p zs z cs →
+    IsCoboundary facets n p (λ s. scaled_operation p d c q z s + negated p (combination cs (map (scaled_operation p d c q) zs) s))
+
+-- The matrix of an operation carries the coordinates of each cocycle to those of the operation on it: its
+-- column j are the coordinates of the operation on the j-th of the cocycles zs.
+abbrev pub OperationMatrixLaw : Type 0
+OperationMatrixLaw = (facets : List (List ℕ)) (p d c q n : ℕ) (ms : List (List Bool)) (zs ws : List Cochain) (columns : List (List ℕ)) →
+    IsField p → IsOrbitTable p ms → Each (IsCocycle facets q p) zs →
+    AllZip (λ column z. HasCoordinates facets n p ws (scaled_operation p d c q z) column) columns zs →
+    (z : Cochain) (cs : List ℕ) → HasCoordinates facets q p zs z cs →
+    HasCoordinates facets n p ws (scaled_operation p d c q z) (matrix_times p (length ws) columns cs)
+
+-- The cup product of cocycles is a cocycle, and on classes it is bilinear.
+pub record ProductLaw : Type 0 where
+  pub closed : (facets : List (List ℕ)) (p q k n : ℕ) (a b : Cochain) → IsField p → IsCocycle facets q p a →
+      IsCocycle facets k p b → IsCocycle facets n p (cup_product p q k a b)
+  pub bilinear : (facets : List (List ℕ)) (p q k n : ℕ) (zs ws : List Cochain) (z w : Cochain) (cs ds : List ℕ) → IsField p →
+      Each (IsCocycle facets q p) zs → Each (IsCocycle facets k p) ws →
+      HasCoordinates facets q p zs z cs → HasCoordinates facets k p ws w ds →
+      IsCoboundary facets n p (λ s. cup_product p q k z w s
+      + negated p (combination cs (map (λ a. combination ds (map (cup_product p q k a) ws)) zs) s))
+
+-- Operations and products commute with the pull-back along each map of vertices.
+pub record PullBackLaw : Type 0 where
+  pub operations : (f : ℕ → ℕ) (p d q : ℕ) (a : Cochain) (s : List ℕ) → IsField p → 1 ≤ length s →
+      Congruent p (may_operation p d q (pull_back f a) s) (pull_back f (may_operation p d q a) s)
+  pub products : (f : ℕ → ℕ) (p q k : ℕ) (a b : Cochain) (s : List ℕ) → IsField p → 1 ≤ length s →
+      Congruent p (cup_product p q k (pull_back f a) (pull_back f b) s) (pull_back f (cup_product p q k a b) s)

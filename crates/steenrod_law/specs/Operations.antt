@@ -1,0 +1,86 @@
+-- The operations on cochains of residues: May operations, squares, powers, Bockstein powers, products and
+-- pull-backs. A cochain of degree q gives a number to each simplex of degree q.
+use Rattle.std.specs.Prelude.{ℕ, ◌+◌, ◌-◌, ◌*◌, ◌%◌, ◌≡◌, Bool, not, cond, ◌==◌, ◌&&◌, List, [], ◌∷◌, length, map, ℤ, pos, negsuc, suc}
+use Rattle.fp_field.specs.Element.{IsScale}
+use Rattle.signed_sum.specs.Lists.{is_degenerate, unless_empty}
+use Rattle.linear_law.specs.Congruence.{negated}
+use Rattle.simplicial_law.specs.Cochains.{Cochain}
+use Rattle.interval_cut_law.specs.Operations.{operation_value}
+use Rattle.table_reduction_law.specs.MayElements.{may_element}
+use Rattle.steenrod_law.specs.Words.{copies}
+use Rattle.steenrod_law.specs.Values.{orbit_sum, staircase_sum, sum_value}
+
+-- a cochain of degree q as a function of all lists of vertices: it is 0 on lists of another length and
+-- on lists in which a vertex repeats
+abbrev pub extended : ℕ → Cochain → List ℕ → ℤ
+extended q a f = cond ((length f == suc q) && not (is_degenerate f)) (pos (a f)) (pos 0)
+
+-- the residue modulo p of a whole number
+abbrev pub residue : ℕ → ℤ → ℕ
+residue p (pos n) = n % p
+residue p (negsuc n) = negated p (suc n) % p
+
+-- the residues of a function with whole values, 0 on the empty list
+abbrev pub residue_cochain : ℕ → (List ℕ → ℤ) → Cochain
+residue_cochain p b s = residue p (unless_empty s (b s))
+
+-- D_d of a cochain of degree q: the sum over the terms of the May element of degree d of the coefficient
+-- times the value of the surjection on p times the cochain. It has degree p * q - d.
+abbrev pub may_operation : ℕ → ℕ → ℕ → Cochain → Cochain
+may_operation p d q a = residue_cochain p (sum_value p (may_element p d) (copies p (extended q a)))
+
+-- c times D_d
+abbrev pub scaled_operation : ℕ → ℕ → ℕ → ℕ → Cochain → Cochain
+scaled_operation p d c q a s = c * may_operation p d q a s
+
+-- the square Sq^k on degree q, for k from 0 to q: it has degree q + k
+abbrev pub square : ℕ → ℕ → Cochain → Cochain
+square k q a = may_operation 2 (q - k) q a
+
+-- the May degree of the power P^s on degree q, for 2 * s from 0 to q
+abbrev pub power_degree : ℕ → ℕ → ℕ → ℕ
+power_degree p s q = (q - 2 * s) * (p - 1)
+
+-- b is the power P^s of a cochain a of degree q, for an odd p: D of the degree above times the constant
+-- (-1)^(s + m*q(q-1)/2) * (m!)^(-q), where m = (p - 1)/2. It has degree q + 2 * s * (p - 1).
+pub record IsPower (p s q : ℕ) (a b : Cochain) : Type 0 where
+  pub scale : ℕ
+  pub is_scale : IsScale p q s scale
+  pub value : (t : List ℕ) → b t ≡ scaled_operation p (power_degree p s q) scale q a t
+
+-- b is the Bockstein power bP^s of a, for 2 * s below q: minus the constant times D of one degree less.
+-- It has degree q + 2 * s * (p - 1) + 1.
+pub record IsBocksteinPower (p s q : ℕ) (a b : Cochain) : Type 0 where
+  pub scale : ℕ
+  pub is_scale : IsScale p q s scale
+  pub value : (t : List ℕ) → b t ≡ scaled_operation p (power_degree p s q - 1) (negated p scale) q a t
+
+-- the cup product of cochains of the degrees q and k: the value of the surjection 1 2
+abbrev pub cup_product : ℕ → ℕ → ℕ → Cochain → Cochain → Cochain
+cup_product p q k a b = residue_cochain p (operation_value 2 (1 ∷ 2 ∷ []) (extended q a ∷ extended k b ∷ []))
+
+-- the pull-back of a cochain along a map of vertices: 0 where the image repeats a vertex
+abbrev pub pull_back : (ℕ → ℕ) → Cochain → Cochain
+pull_back f a s = cond (is_degenerate (map f s)) 0 (a (map f s))
+
+-- the primitive of additivity, less its sign: the sum over the orbit words of the values on the
+-- cochains a and c of degree q. It has degree p * q - d - 1.
+abbrev pub orbit_primitive : ℕ → ℕ → ℕ → List (List Bool) → Cochain → Cochain → Cochain
+orbit_primitive p d q ms a c = residue_cochain p (orbit_sum p d (may_element p) ms (extended q a) (extended q c))
+
+-- the primitive of D_d of the coboundary of a cochain y of degree n: the values on the staircase. It has
+-- degree p * (n + 1) - d - 1.
+abbrev pub staircase_primitive : ℕ → ℕ → ℕ → Cochain → Cochain
+staircase_primitive p d n y = residue_cochain p (staircase_sum p n d (may_element p) (extended n y))
+
+-- c times the first list plus the second, place by place, modulo p
+abbrev pub plus_scaled : ℕ → ℕ → List ℕ → List ℕ → List ℕ
+plus_scaled p c [] ys = []
+plus_scaled p c (x ∷ xs) [] = []
+plus_scaled p c (x ∷ xs) (y ∷ ys) = ((c * x + y) % p) ∷ plus_scaled p c xs ys
+
+-- a matrix with h rows, given by its columns, times the list of coefficients, modulo p
+abbrev pub matrix_times : ℕ → ℕ → List (List ℕ) → List ℕ → List ℕ
+matrix_times p h [] cs = copies h 0
+matrix_times p h (column ∷ columns) [] = copies h 0
+matrix_times p h (column ∷ columns) (c ∷ cs) = plus_scaled p c column (matrix_times p h columns cs)
