@@ -1,0 +1,238 @@
+-- Permutations: what no refusal says, images under maps that keep them, compositions and powers of the cycle.
+use Rattle.std.proofs.Common.{◌≡◌, ℕ, zero, suc, ◌+◌, ◌%◌, ◌<◌, ◌≤◌, ◌≢◌, ◌==◌, ◌||◌, Bool, false, List, [], ◌∷◌, ◌++◌, length, map, get_or, None, Some, refl, sym, ap, ◌∙◌, inl, inr, arith, subst}
+use Rattle.std.specs.Prelude.{All, nat_lt}
+use Rattle.std.proofs.Math.Nat.{mod-add-mod, add-mod-mod, mod-eq_of_lt, mod-lt, mod_self}
+use Rattle.std.proofs.lemmas.Bool.{cases_Bool, cases_eq, eq-eqb, ne_eqb, eqb-false, or_parts}
+use Rattle.std.proofs.lemmas.List.{length-map, map-append}
+use Rattle.std.proofs.lemmas.List.Elements.{All-nil, All-cons, All-head, All-tail, All-map, All-weaker, All-get_or}
+use Rattle.signed_sum.specs.Lists.{IsDistinct, numbers_from, occurs}
+use Rattle.signed_sum.proofs.ListLemmas.{numbers_from-distinct, occurs-01, occurs-cons, occurs-mid, occurs-more}
+use Rattle.operad_law.specs.Refusals.{first_place_from, is_misplaced, permutation_fault, repeated_place}
+use Rattle.operad_law.specs.Permutations.{IsPerm, composed, cycle_power, cycled, identity, perm_at}
+
+-- ---- what it means that a test holds nowhere
+first_place-none : (test : List ℕ → ℕ → Bool) (before : List ℕ) (x : ℕ) (xs : List ℕ) → first_place_from test before (x ∷ xs) ≡ None →
+    (test before x ≡ false) × (first_place_from test (before ++ (x ∷ [])) xs ≡ None)
+first_place-none test before x xs e = elim (cases_Bool (test before x)) [
+  | inl t ↦ let s : first_place_from test before (x ∷ xs) ≡ Some (suc (length before)) = rw t refl in cc
+  | inr t ↦ (t, rw t at e)
+]
+
+pub nowhere-all : (P : ℕ → Type 0) (test : List ℕ → ℕ → Bool) → ((before : List ℕ) (v : ℕ) → test before v ≡ false → P v) → (before xs : List ℕ) → first_place_from test before xs ≡ None → All P xs
+nowhere-all P test h before [] e = All-nil P
+nowhere-all P test h before (x ∷ xs) e =
+    let f = first_place-none test before x xs e in
+    All-cons P x xs (h before x f.0) (nowhere-all P test h (before ++ (x ∷ [])) xs f.1)
+
+-- where no entry stands at an earlier place, the entries are distinct
+pub nowhere-distinct : (test : List ℕ → ℕ → Bool) → ((before : List ℕ) (v : ℕ) → test before v ≡ false → occurs v before ≡ 0) → (before xs : List ℕ) → first_place_from test before xs ≡ None →
+    IsDistinct xs × ((v : ℕ) → occurs v before ≡ 1 → occurs v xs ≡ 0)
+nowhere-distinct test h before [] e = (tt, λ v o. refl)
+nowhere-distinct test h before (x ∷ xs) e =
+    let f = first_place-none test before x xs e in
+    let ih : IsDistinct xs × ((v : ℕ) → occurs v (before ++ (x ∷ [])) ≡ 1 → occurs v xs ≡ 0) = nowhere-distinct test h (before ++ (x ∷ [])) xs f.1 in
+    let n : occurs x before ≡ 0 = h before x f.0 in (
+      (ih.1 x (occurs-mid x before []), ih.0),
+      λ v o. elim (occurs-cons v x xs) [
+        | inl q ↦ absurd (let k : occurs v before ≡ 0 = ap (λ w. occurs w before) q ∙ n in omega arith)
+        | inr q ↦ q ∙ ih.1 v (occurs-more v before (x ∷ []) o)
+      ],
+    )
+
+not_one : (v : ℕ) (xs : List ℕ) → (occurs v xs == 1) ≡ false → occurs v xs ≡ 0
+not_one v xs e = elim (occurs-01 v xs) [ inl z ↦ z | inr o ↦ absurd (eqb-false (occurs v xs) 1 e o) ]
+
+pub repeated-none : (xs : List ℕ) → repeated_place xs ≡ None → IsDistinct xs
+repeated-none xs e = (nowhere-distinct (λ before v. occurs v before == 1) (λ before v f. not_one v before f) [] xs e).0
+
+misplaced-parts : (n : ℕ) (before : List ℕ) (v : ℕ) → is_misplaced n before v ≡ false → ((1 ≤ v) × (v ≤ n)) × (occurs v before ≡ 0)
+misplaced-parts n before v e =
+    let a = or_parts (v == 0) (nat_lt n v || (occurs v before == 1)) e in
+    let b = or_parts (nat_lt n v) (occurs v before == 1) a.1 in
+    ((grind (arith, a.0), grind (arith, b.0)), not_one v before b.1)
+
+pub no_fault : (p : List ℕ) → permutation_fault p ≡ None → IsPerm p
+no_fault p e = elim (cases_Bool ((length p == 0) || nat_lt 32 (length p))) [
+  | inl t ↦ absurd (let s : permutation_fault p ≡ Some 0 = rw t refl in cc)
+  | inr t ↦
+      let f : first_place_from (is_misplaced (length p)) [] p ≡ None = rw t at e in
+      let b = or_parts (length p == 0) (nat_lt 32 (length p)) t in
+      record {
+        some = grind (arith, b.0);
+        short = grind (arith, b.1);
+        within = nowhere-all (λ v. (1 ≤ v) × (v ≤ length p)) (is_misplaced (length p)) (λ before v g. (misplaced-parts (length p) before v g).0) [] p f;
+        distinct = (nowhere-distinct (is_misplaced (length p)) (λ before v g. (misplaced-parts (length p) before v g).1) [] p f).0;
+      }
+]
+
+-- ---- images of distinct lists under maps that tell entries apart
+occurs-map_none : (f : ℕ → ℕ) (x : ℕ) (ys : List ℕ) → ((y : ℕ) → occurs y ys ≡ 1 → f x ≡ f y → ⊥) → occurs (f x) (map f ys) ≡ 0
+occurs-map_none f x [] h = refl
+occurs-map_none f x (y ∷ ys) h =
+    let ne : f x ≢ f y = h y (occurs-mid y [] ys) in
+    rw (ne_eqb (f x) (f y) ne) (occurs-map_none f x ys (λ z o. h z (occurs-later_one z y ys o)))
+  where
+    occurs-later_one : (z y : ℕ) (ys : List ℕ) → occurs z ys ≡ 1 → occurs z (y ∷ ys) ≡ 1
+    occurs-later_one z y ys o = elim (occurs-cons z y ys) [ inl e ↦ ap (λ w. occurs w (y ∷ ys)) e ∙ occurs-mid y [] ys | inr e ↦ e ∙ o ]
+
+pub IsDistinct-map : (f : ℕ → ℕ) (xs : List ℕ) → IsDistinct xs → ((x y : ℕ) → occurs x xs ≡ 1 → occurs y xs ≡ 1 → f x ≡ f y → x ≡ y) → IsDistinct (map f xs)
+IsDistinct-map f [] d h = tt
+IsDistinct-map f (x ∷ xs) d h = (
+  occurs-map_none f x xs (λ y o e. let q : x ≡ y = h x y (occurs-mid x [] xs) (later y o) e in
+      let z : occurs y xs ≡ 0 = ap (λ w. occurs w xs) (sym q) ∙ d.0 in absurd (omega arith)),
+  IsDistinct-map f xs d.1 (λ y z o p. h y z (later y o) (later z p)),
+)
+  where
+    later : (z : ℕ) → occurs z xs ≡ 1 → occurs z (x ∷ xs) ≡ 1
+    later z o = elim (occurs-cons z x xs) [ inl e ↦ ap (λ w. occurs w (x ∷ xs)) e ∙ occurs-mid x [] xs | inr e ↦ e ∙ o ]
+
+-- an entry of a list has what all entries have
+All-occurs : (P : ℕ → Type 0) (xs : List ℕ) (v : ℕ) → All P xs → occurs v xs ≡ 1 → P v
+All-occurs P [] v a o = absurd (omega (arith, o))
+All-occurs P (x ∷ xs) v a o = elim (occurs-cons v x xs) [
+  | inl e ↦ let b : P x = All-head P x xs a in rw e b
+  | inr e ↦ All-occurs P xs v (All-tail P x xs a) (sym e ∙ o)
+]
+
+-- f maps 1 to n to 1 to n, one to one
+pub record Permutes (f : ℕ → ℕ) (n : ℕ) : Type 0 where
+  pub within : (v : ℕ) → 1 ≤ v → v ≤ n → (1 ≤ f v) × (f v ≤ n)
+  pub apart : (v w : ℕ) → 1 ≤ v → v ≤ n → 1 ≤ w → w ≤ n → f v ≡ f w → v ≡ w
+
+pub IsPerm-map : (f : ℕ → ℕ) (p : List ℕ) → IsPerm p → Permutes f (length p) → IsPerm (map f p)
+IsPerm-map f p h m =
+    let e : length (map f p) ≡ length p = length-map p f in
+    let inside : (v : ℕ) → occurs v p ≡ 1 → (1 ≤ v) × (v ≤ length p) = λ v o. All-occurs (λ w. (1 ≤ w) × (w ≤ length p)) p v h.within o in
+    record {
+      some = omega (arith, h.some);
+      short = omega (arith, h.short);
+      within = subst (λ (m : ℕ). All (λ v. (1 ≤ v) × (v ≤ m)) (map f p)) (sym e) (All-map (λ v. (1 ≤ v) × (v ≤ length p)) f p (All-weaker (λ v. (1 ≤ v) × (v ≤ length p)) (λ v. (1 ≤ f v) × (f v ≤ length p)) (λ v b. m.within v b.0 b.1) p h.within));
+      distinct = IsDistinct-map f p h.distinct (λ x y o q. m.apart x y (inside x o).0 (inside x o).1 (inside y q).0 (inside y q).1);
+    }
+
+occurs-get_or : (p : List ℕ) (i : ℕ) → i < length p → occurs (get_or p i 0) p ≡ 1
+occurs-get_or [] i h = absurd (omega arith)
+occurs-get_or (x ∷ p) zero h = occurs-mid x [] p
+occurs-get_or (x ∷ p) (suc i) h = elim (occurs-cons (get_or p i 0) x p) [
+  | inl e ↦ ap (λ w. occurs w (x ∷ p)) e ∙ occurs-mid x [] p
+  | inr e ↦ e ∙ occurs-get_or p i (omega arith)
+]
+
+distinct-apart : (p : List ℕ) (i j : ℕ) → IsDistinct p → i < length p → j < length p → get_or p i 0 ≡ get_or p j 0 → i ≡ j
+distinct-apart [] i j d h k e = absurd (omega arith)
+distinct-apart (x ∷ p) zero zero d h k e = refl
+distinct-apart (x ∷ p) zero (suc j) d h k e = absurd (let a : occurs x p ≡ 1 = ap (λ w. occurs w p) e ∙ occurs-get_or p j (omega arith) in let b = d.0 in omega arith)
+distinct-apart (x ∷ p) (suc i) zero d h k e = absurd (let a : occurs x p ≡ 1 = ap (λ w. occurs w p) (sym e) ∙ occurs-get_or p i (omega arith) in let b = d.0 in omega arith)
+distinct-apart (x ∷ p) (suc i) (suc j) d h k e = ap suc (distinct-apart p i j d.1 (omega arith) (omega arith) e)
+
+pub Permutes-perm_at : (p : List ℕ) → IsPerm p → Permutes (perm_at p) (length p)
+Permutes-perm_at p h = record {
+  within = λ v a b. at_one v a b;
+  apart = λ v w a b c d e. at_two v w a b c d e;
+}
+  where
+    at_one : (v : ℕ) → 1 ≤ v → v ≤ length p → (1 ≤ perm_at p v) × (perm_at p v ≤ length p)
+    at_one zero a b = absurd (omega arith)
+    at_one (suc v) a b = All-get_or (λ w. (1 ≤ w) × (w ≤ length p)) p v 0 (omega arith) h.within
+
+    at_two : (v w : ℕ) → 1 ≤ v → v ≤ length p → 1 ≤ w → w ≤ length p → perm_at p v ≡ perm_at p w → v ≡ w
+    at_two zero w a b c d e = absurd (omega arith)
+    at_two (suc v) zero a b c d e = absurd (omega arith)
+    at_two (suc v) (suc w) a b c d e = ap suc (distinct-apart p v w h.distinct (omega arith) (omega arith) e)
+
+pub IsPerm-composed : (p q : List ℕ) → IsPerm p → IsPerm q → length p ≡ length q → IsPerm (composed p q)
+IsPerm-composed p q h k e = IsPerm-map (perm_at p) q k (rw (sym e) (Permutes-perm_at p h))
+
+-- ---- powers of the cycle
+pub cycled-last : (r v : ℕ) → v ≡ r → cycled r v ≡ 1
+cycled-last r v e = rw (eq-eqb v r e) refl
+
+pub cycled-other : (r v : ℕ) → v ≢ r → cycled r v ≡ suc v
+cycled-other r v n = rw (ne_eqb v r n) refl
+
+pub Permutes-cycled : (r : ℕ) → 1 ≤ r → Permutes (cycled r) r
+Permutes-cycled r h = record {
+  within = λ v a b. elim (cases_eq v r) [
+    | inl e ↦ rw (cycled-last r v e) (omega arith, omega arith)
+    | inr n ↦ rw (cycled-other r v n) (omega arith, omega arith)
+  ];
+  apart = λ v w a b c d e. elim (cases_eq v r) [
+    | inl f ↦ elim (cases_eq w r) [
+      | inl g ↦ f ∙ sym g
+      | inr n ↦ absurd (let k : 1 ≡ suc w = sym (cycled-last r v f) ∙ e ∙ cycled-other r w n in omega arith)
+    ]
+    | inr m ↦ elim (cases_eq w r) [
+      | inl g ↦ absurd (let k : suc v ≡ 1 = sym (cycled-other r v m) ∙ e ∙ cycled-last r w g in omega arith)
+      | inr n ↦ let k : suc v ≡ suc w = sym (cycled-other r v m) ∙ e ∙ cycled-other r w n in omega arith
+    ]
+  ];
+}
+
+length-numbers_from : (a n : ℕ) → length (numbers_from a n) ≡ n
+length-numbers_from a zero = refl
+length-numbers_from a (suc n) = ap suc (length-numbers_from (suc a) n)
+
+numbers_from-within : (a n m : ℕ) → 1 ≤ a → a + n ≤ suc m → All (λ v. (1 ≤ v) × (v ≤ m)) (numbers_from a n)
+numbers_from-within a zero m h k = All-nil (λ v. (1 ≤ v) × (v ≤ m))
+numbers_from-within a (suc n) m h k = All-cons (λ v. (1 ≤ v) × (v ≤ m)) a (numbers_from (suc a) n) (omega arith, omega arith) (numbers_from-within (suc a) n m (omega arith) (omega arith))
+
+pub IsPerm-identity : (r : ℕ) → 1 ≤ r → r ≤ 32 → IsPerm (identity r)
+IsPerm-identity r h k =
+    let e = length-numbers_from 1 r in
+    record { some = omega arith; short = omega arith; within = subst (λ (m : ℕ). All (λ v. (1 ≤ v) × (v ≤ m)) (numbers_from 1 r)) (sym e) (numbers_from-within 1 r r (omega arith) (omega arith)); distinct = numbers_from-distinct 1 r }
+
+pub length-cycle_power : (r n : ℕ) → length (cycle_power r n) ≡ r
+length-cycle_power r zero = length-numbers_from 1 r
+length-cycle_power r (suc n) = length-map (cycle_power r n) (cycled r) ∙ length-cycle_power r n
+
+pub IsPerm-cycle_power : (r n : ℕ) → 1 ≤ r → r ≤ 32 → IsPerm (cycle_power r n)
+IsPerm-cycle_power r zero h k = IsPerm-identity r h k
+IsPerm-cycle_power r (suc n) h k = IsPerm-map (cycled r) (cycle_power r n) (IsPerm-cycle_power r n h k) (rw (length-cycle_power r n) (Permutes-cycled r h))
+
+-- the number at place j, from 0, of a power
+abbrev pub shifted : ℕ → ℕ → ℕ → ℕ
+shifted r n j = (j + n) % r + 1
+
+cycled-shifted : (r n j : ℕ) → 1 ≤ r → cycled r (shifted r n j) ≡ shifted r (suc n) j
+cycled-shifted r n j h =
+    let m = (j + n) % r in
+    let below : m < r = mod-lt (j + n) (omega arith) in
+    let s : (j + suc n) % r ≡ (m + 1) % r = ap (λ k. k % r) (let q : j + suc n ≡ (j + n) + 1 = omega arith in q) ∙ sym (mod-add-mod (j + n) r 1) in
+    elim (cases_eq (m + 1) r) [
+      | inl e ↦ cycled-last r (m + 1) e ∙ sym (ap (λ k. k + 1) (s ∙ ap (λ k. k % r) e ∙ mod_self r))
+      | inr n' ↦ cycled-other r (m + 1) n' ∙ sym (ap (λ k. k + 1) (s ∙ mod-eq_of_lt (omega arith)) ∙ (omega arith))
+    ]
+
+map-shifted : (r n : ℕ) (js : List ℕ) → 1 ≤ r → map (cycled r) (map (shifted r n) js) ≡ map (shifted r (suc n)) js
+map-shifted r n [] h = refl
+map-shifted r n (j ∷ js) h = λ i. cycled-shifted r n j h i ∷ map-shifted r n js h i
+
+unshifted : (r a m : ℕ) → a + m ≤ r → numbers_from (suc a) m ≡ map (shifted r 0) (numbers_from a m)
+unshifted r a zero h = refl
+unshifted r a (suc m) h =
+    let e : suc a ≡ shifted r 0 a = sym (ap (λ k. k + 1) (mod-eq_of_lt (let q : a + 0 < r = omega arith in q)) ∙ omega arith) in
+    λ i. e i ∷ unshifted r (suc a) m (omega arith) i
+
+-- each power of the cycle moves the numbers on
+pub cycle_power-shifted : (r n : ℕ) → 1 ≤ r → cycle_power r n ≡ map (shifted r n) (numbers_from 0 r)
+cycle_power-shifted r zero h = unshifted r 0 r (omega arith)
+cycle_power-shifted r (suc n) h = ap (map (cycled r)) (cycle_power-shifted r n h) ∙ map-shifted r n (numbers_from 0 r) h
+
+same_shift : (r n : ℕ) (js : List ℕ) → map (shifted r (n % r)) js ≡ map (shifted r n) js
+same_shift r n [] = refl
+same_shift r n (j ∷ js) = λ i. (add-mod-mod j n r i + 1) ∷ same_shift r n js i
+
+pub cycle_power-mod : (r n : ℕ) → 1 ≤ r → cycle_power r (n % r) ≡ cycle_power r n
+cycle_power-mod r n h = cycle_power-shifted r (n % r) h ∙ same_shift r n (numbers_from 0 r) ∙ sym (cycle_power-shifted r n h)
+
+pub numbers_from-last : (a n : ℕ) → numbers_from a (n + 1) ≡ numbers_from a n ++ ((a + n) ∷ [])
+numbers_from-last a zero = let e : a + 0 ≡ a = omega arith in rw e refl
+numbers_from-last a (suc n) =
+    let e : suc n + 1 ≡ suc (n + 1) = omega arith in
+    let f : a + suc n ≡ suc a + n = omega arith in
+    rw (e, f) (ap (λ v. a ∷ v) (numbers_from-last (suc a) n))
+
+pub shifted-next : (r by i : ℕ) (values : List ℕ) → values ≡ map (shifted r by) (numbers_from 0 i) → values ++ (shifted r by i ∷ []) ≡ map (shifted r by) (numbers_from 0 (i + 1))
+shifted-next r by i values e =
+    let z : 0 + i ≡ i = omega arith in
+    ap (λ v. v ++ (shifted r by i ∷ [])) e ∙ sym (ap (map (shifted r by)) (numbers_from-last 0 i ∙ ap (λ k. numbers_from 0 i ++ (k ∷ [])) z) ∙ map-append (shifted r by) (numbers_from 0 i) (i ∷ []))

@@ -1,0 +1,11 @@
+use Rattle.std.proofs.Common.{◌≡◌, length, sym, ap, ◌∙◌}
+use Rattle.operad_law.specs.Permutations.{composed}
+use Rattle.operad_law.proofs.PermLemmas.{IsPerm-composed}
+use Rattle.operad_law.proofs.perm.Perm.compose.Goals as goal
+
+pub invariant_of-result : goal.invariant_of-result
+invariant_of-result c =
+    let same : length c.self.inside.values.items ≡ length c.other.inside.values.items = ap length c.self.view_is ∙ c.requires ∙ sym (ap length c.other.view_is) in
+    let e : c.in_ok-values.values.items ≡ composed c.self.inside.values.items c.other.inside.values.items =
+    c.in_ok-values.ensures ∙ (λ i. composed (c.as_slice.ensures i) (c.as_slice-2.ensures i)) in
+    rw e (IsPerm-composed c.self.inside.values.items c.other.inside.values.items c.self.invariant c.other.invariant same)

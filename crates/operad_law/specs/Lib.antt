@@ -1,0 +1,5 @@
+pub mod FormalSums
+pub mod Places
+pub mod Refusals
+pub mod Parity
+pub mod Permutations

@@ -1,0 +1,7 @@
+-- Parity as a test.
+use Rattle.std.specs.Prelude.{ℕ, zero, suc, Bool, false, not}
+
+-- whether a number is odd
+abbrev pub is_odd : ℕ → Bool
+is_odd zero = false
+is_odd (suc n) = not (is_odd n)
