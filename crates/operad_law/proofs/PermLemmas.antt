@@ -8,7 +8,8 @@ use Rattle.std.proofs.lemmas.List.Elements.{All-nil, All-cons, All-head, All-tai
 use Rattle.signed_sum.specs.Lists.{IsDistinct, numbers_from, occurs}
 use Rattle.signed_sum.proofs.ListLemmas.{numbers_from-distinct, occurs-01, occurs-cons, occurs-mid, occurs-more}
 use Rattle.operad_law.specs.Refusals.{first_place_from, is_misplaced, permutation_fault, repeated_place}
-use Rattle.operad_law.specs.Permutations.{IsPerm, composed, cycle_power, cycled, identity, perm_at}
+use Rattle.signed_sum.specs.Permutations.{cycle_power, cycle, entry_at}
+use Rattle.operad_law.specs.Permutations.{IsPerm, composed, identity}
 
 -- ---- what it means that a test holds nowhere
 first_place-none : (test : List ℕ → ℕ → Bool) (before : List ℕ) (x : ℕ) (xs : List ℕ) → first_place_from test before (x ∷ xs) ≡ None →
@@ -125,45 +126,45 @@ distinct-apart (x ∷ p) zero (suc j) d h k e = absurd (let a : occurs x p ≡ 1
 distinct-apart (x ∷ p) (suc i) zero d h k e = absurd (let a : occurs x p ≡ 1 = ap (λ w. occurs w p) (sym e) ∙ occurs-get_or p i (omega arith) in let b = d.0 in omega arith)
 distinct-apart (x ∷ p) (suc i) (suc j) d h k e = ap suc (distinct-apart p i j d.1 (omega arith) (omega arith) e)
 
-pub Permutes-perm_at : (p : List ℕ) → IsPerm p → Permutes (perm_at p) (length p)
-Permutes-perm_at p h = record {
+pub Permutes-entry_at : (p : List ℕ) → IsPerm p → Permutes (entry_at p) (length p)
+Permutes-entry_at p h = record {
   within = λ v a b. at_one v a b;
   apart = λ v w a b c d e. at_two v w a b c d e;
 }
   where
-    at_one : (v : ℕ) → 1 ≤ v → v ≤ length p → (1 ≤ perm_at p v) × (perm_at p v ≤ length p)
+    at_one : (v : ℕ) → 1 ≤ v → v ≤ length p → (1 ≤ entry_at p v) × (entry_at p v ≤ length p)
     at_one zero a b = absurd (omega arith)
     at_one (suc v) a b = All-get_or (λ w. (1 ≤ w) × (w ≤ length p)) p v 0 (omega arith) h.within
 
-    at_two : (v w : ℕ) → 1 ≤ v → v ≤ length p → 1 ≤ w → w ≤ length p → perm_at p v ≡ perm_at p w → v ≡ w
+    at_two : (v w : ℕ) → 1 ≤ v → v ≤ length p → 1 ≤ w → w ≤ length p → entry_at p v ≡ entry_at p w → v ≡ w
     at_two zero w a b c d e = absurd (omega arith)
     at_two (suc v) zero a b c d e = absurd (omega arith)
     at_two (suc v) (suc w) a b c d e = ap suc (distinct-apart p v w h.distinct (omega arith) (omega arith) e)
 
 pub IsPerm-composed : (p q : List ℕ) → IsPerm p → IsPerm q → length p ≡ length q → IsPerm (composed p q)
-IsPerm-composed p q h k e = IsPerm-map (perm_at p) q k (rw (sym e) (Permutes-perm_at p h))
+IsPerm-composed p q h k e = IsPerm-map (entry_at p) q k (rw (sym e) (Permutes-entry_at p h))
 
 -- ---- powers of the cycle
-pub cycled-last : (r v : ℕ) → v ≡ r → cycled r v ≡ 1
-cycled-last r v e = rw (eq-eqb v r e) refl
+pub cycle-last : (r v : ℕ) → v ≡ r → cycle r v ≡ 1
+cycle-last r v e = rw (eq-eqb v r e) refl
 
-pub cycled-other : (r v : ℕ) → v ≢ r → cycled r v ≡ suc v
-cycled-other r v n = rw (ne_eqb v r n) refl
+pub cycle-other : (r v : ℕ) → v ≢ r → cycle r v ≡ suc v
+cycle-other r v n = rw (ne_eqb v r n) refl
 
-pub Permutes-cycled : (r : ℕ) → 1 ≤ r → Permutes (cycled r) r
-Permutes-cycled r h = record {
+pub Permutes-cycle : (r : ℕ) → 1 ≤ r → Permutes (cycle r) r
+Permutes-cycle r h = record {
   within = λ v a b. elim (cases_eq v r) [
-    | inl e ↦ rw (cycled-last r v e) (omega arith, omega arith)
-    | inr n ↦ rw (cycled-other r v n) (omega arith, omega arith)
+    | inl e ↦ rw (cycle-last r v e) (omega arith, omega arith)
+    | inr n ↦ rw (cycle-other r v n) (omega arith, omega arith)
   ];
   apart = λ v w a b c d e. elim (cases_eq v r) [
     | inl f ↦ elim (cases_eq w r) [
       | inl g ↦ f ∙ sym g
-      | inr n ↦ absurd (let k : 1 ≡ suc w = sym (cycled-last r v f) ∙ e ∙ cycled-other r w n in omega arith)
+      | inr n ↦ absurd (let k : 1 ≡ suc w = sym (cycle-last r v f) ∙ e ∙ cycle-other r w n in omega arith)
     ]
     | inr m ↦ elim (cases_eq w r) [
-      | inl g ↦ absurd (let k : suc v ≡ 1 = sym (cycled-other r v m) ∙ e ∙ cycled-last r w g in omega arith)
-      | inr n ↦ let k : suc v ≡ suc w = sym (cycled-other r v m) ∙ e ∙ cycled-other r w n in omega arith
+      | inl g ↦ absurd (let k : suc v ≡ 1 = sym (cycle-other r v m) ∙ e ∙ cycle-last r w g in omega arith)
+      | inr n ↦ let k : suc v ≡ suc w = sym (cycle-other r v m) ∙ e ∙ cycle-other r w n in omega arith
     ]
   ];
 }
@@ -183,29 +184,29 @@ IsPerm-identity r h k =
 
 pub length-cycle_power : (r n : ℕ) → length (cycle_power r n) ≡ r
 length-cycle_power r zero = length-numbers_from 1 r
-length-cycle_power r (suc n) = length-map (cycle_power r n) (cycled r) ∙ length-cycle_power r n
+length-cycle_power r (suc n) = length-map (cycle_power r n) (cycle r) ∙ length-cycle_power r n
 
 pub IsPerm-cycle_power : (r n : ℕ) → 1 ≤ r → r ≤ 32 → IsPerm (cycle_power r n)
 IsPerm-cycle_power r zero h k = IsPerm-identity r h k
-IsPerm-cycle_power r (suc n) h k = IsPerm-map (cycled r) (cycle_power r n) (IsPerm-cycle_power r n h k) (rw (length-cycle_power r n) (Permutes-cycled r h))
+IsPerm-cycle_power r (suc n) h k = IsPerm-map (cycle r) (cycle_power r n) (IsPerm-cycle_power r n h k) (rw (length-cycle_power r n) (Permutes-cycle r h))
 
 -- the number at place j, from 0, of a power
 abbrev pub shifted : ℕ → ℕ → ℕ → ℕ
 shifted r n j = (j + n) % r + 1
 
-cycled-shifted : (r n j : ℕ) → 1 ≤ r → cycled r (shifted r n j) ≡ shifted r (suc n) j
-cycled-shifted r n j h =
+cycle-shifted : (r n j : ℕ) → 1 ≤ r → cycle r (shifted r n j) ≡ shifted r (suc n) j
+cycle-shifted r n j h =
     let m = (j + n) % r in
     let below : m < r = mod-lt (j + n) (omega arith) in
     let s : (j + suc n) % r ≡ (m + 1) % r = ap (λ k. k % r) (let q : j + suc n ≡ (j + n) + 1 = omega arith in q) ∙ sym (mod-add-mod (j + n) r 1) in
     elim (cases_eq (m + 1) r) [
-      | inl e ↦ cycled-last r (m + 1) e ∙ sym (ap (λ k. k + 1) (s ∙ ap (λ k. k % r) e ∙ mod_self r))
-      | inr n' ↦ cycled-other r (m + 1) n' ∙ sym (ap (λ k. k + 1) (s ∙ mod-eq_of_lt (omega arith)) ∙ (omega arith))
+      | inl e ↦ cycle-last r (m + 1) e ∙ sym (ap (λ k. k + 1) (s ∙ ap (λ k. k % r) e ∙ mod_self r))
+      | inr n' ↦ cycle-other r (m + 1) n' ∙ sym (ap (λ k. k + 1) (s ∙ mod-eq_of_lt (omega arith)) ∙ (omega arith))
     ]
 
-map-shifted : (r n : ℕ) (js : List ℕ) → 1 ≤ r → map (cycled r) (map (shifted r n) js) ≡ map (shifted r (suc n)) js
+map-shifted : (r n : ℕ) (js : List ℕ) → 1 ≤ r → map (cycle r) (map (shifted r n) js) ≡ map (shifted r (suc n)) js
 map-shifted r n [] h = refl
-map-shifted r n (j ∷ js) h = λ i. cycled-shifted r n j h i ∷ map-shifted r n js h i
+map-shifted r n (j ∷ js) h = λ i. cycle-shifted r n j h i ∷ map-shifted r n js h i
 
 unshifted : (r a m : ℕ) → a + m ≤ r → numbers_from (suc a) m ≡ map (shifted r 0) (numbers_from a m)
 unshifted r a zero h = refl
@@ -216,7 +217,7 @@ unshifted r a (suc m) h =
 -- each power of the cycle moves the numbers on
 pub cycle_power-shifted : (r n : ℕ) → 1 ≤ r → cycle_power r n ≡ map (shifted r n) (numbers_from 0 r)
 cycle_power-shifted r zero h = unshifted r 0 r (omega arith)
-cycle_power-shifted r (suc n) h = ap (map (cycled r)) (cycle_power-shifted r n h) ∙ map-shifted r n (numbers_from 0 r) h
+cycle_power-shifted r (suc n) h = ap (map (cycle r)) (cycle_power-shifted r n h) ∙ map-shifted r n (numbers_from 0 r) h
 
 same_shift : (r n : ℕ) (js : List ℕ) → map (shifted r (n % r)) js ≡ map (shifted r n) js
 same_shift r n [] = refl

@@ -3,7 +3,7 @@ use Rattle.std.proofs.Common.{◌≡◌, ℕ, suc, ◌+◌, ◌≤◌, ◌^◌, 
 use Rattle.std.specs.Prelude.{ℤ, negsuc, ◌*ℤ◌, nat_abs}
 use Rattle.std.proofs.lemmas.Int.{ints, to_z-of_z}
 use Rattle.signed_sum.specs.Sums.{value_at, weight_of}
-use Rattle.signed_sum.specs.Turns.{IsSign, difference, power_sum, turned}
+use Rattle.signed_sum.specs.Turns.{IsSign, difference, power_sum, after_turns}
 use Rattle.operad_law.specs.FormalSums.{IsSameSum, plus_term}
 use Rattle.operad_law.proofs.PlusTerm.{weight_of-plus_term}
 use Rattle.operad_law.proofs.Unique.{summed, value_at-summed}
@@ -32,15 +32,15 @@ times_sign a b h k =
     ]
 
 -- one more power in the sum
-pub power-next : {X : Type 0} (cmp : X → X → Ordering) (turn : X → X × ℤ) (n : ℕ) (x element : X) (sign : ℤ) (now new : List (X × ℤ)) → turned turn n x ≡ (element, sign) →
+pub power-next : {X : Type 0} (cmp : X → X → Ordering) (turn : X → X × ℤ) (n : ℕ) (x element : X) (sign : ℤ) (now new : List (X × ℤ)) → after_turns turn n x ≡ (element, sign) →
     now ≡ summed cmp (power_sum turn n x) → new ≡ plus_term cmp now element sign → new ≡ summed cmp (power_sum turn (n + 1) x)
 power-next cmp turn n x element sign now new t e f =
     let s : n + 1 ≡ suc n = omega arith in
     rw s (f ∙ (λ i. plus_term cmp (e i) ((sym t) i).0 ((sym t) i).1))
 
-pub turned-next : {X : Type 0} (turn : X → X × ℤ) (n : ℕ) (x element next : X) (sign step product : ℤ) → turned turn n x ≡ (element, sign) → (next, step) ≡ turn element → product ≡ sign *ℤ step →
-    turned turn (n + 1) x ≡ (next, product)
-turned-next turn n x element next sign step product t e p =
+pub after_turns-next : {X : Type 0} (turn : X → X × ℤ) (n : ℕ) (x element next : X) (sign step product : ℤ) → after_turns turn n x ≡ (element, sign) → (next, step) ≡ turn element → product ≡ sign *ℤ step →
+    after_turns turn (n + 1) x ≡ (next, product)
+after_turns-next turn n x element next sign step product t e p =
     let s : n + 1 ≡ suc n = omega arith in
     let b : (next, sign *ℤ step) ≡ (next, product) = λ i. (next, (sym p) i) in
     rw s ((λ i. ((turn (t i).0).0, (t i).1 *ℤ (turn (t i).0).1)) ∙ (λ i. (((sym e) i).0, sign *ℤ ((sym e) i).1)) ∙ b)

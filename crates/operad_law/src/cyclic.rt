@@ -1,7 +1,7 @@
 //! Bases with a turn of which a power is the identity.
 ghost use Rattle.std.specs.Prelude.{◌≡◌, ◌≤◌, ◌<◌, ◌+◌, ◌*ℤ◌, ◌^◌, ℕ, ℤ, Bool, pos, List, IfOk, OnOk, All, IsTrue, nat_abs};
 ghost use Rattle.signed_sum.specs.Sums.{value_at, weight_of};
-ghost use Rattle.signed_sum.specs.Turns.{IsSign, difference, power_sum, turned};
+ghost use Rattle.signed_sum.specs.Turns.{IsSign, difference, power_sum, after_turns};
 ghost use Rattle.signed_sum.proofs.TurnLemmas.{turn_norm as turn_norm_law, norm_turn as norm_turn_law, boundary-difference, boundary-powers};
 ghost use Rattle.operad_law.specs.FormalSums.{IsSameSum, plus_term};
 
@@ -20,7 +20,7 @@ pub trait CyclicModel<const P: u32>: SignedBasis {
     fn fits(&self) -> bool
         ensures { result ≡ fits self.now };
 
-    /// The turned element, and a sign.
+    /// The after_turns element, and a sign.
     fn turn(&self, alloc: Global) -> Result<(Self, i64), AllocError>
         requires { IsTrue (fits self.now) }
         ensures { IfOk result (λ r. r ≡ turn self.now) };
@@ -70,7 +70,7 @@ pub trait CyclicModel<const P: u32>: SignedBasis {
     ghost boundary_fits: { (x : Self) → Self.is_valid x → IsTrue (fits x) → All (λ t. IsTrue (fits t.0)) (Self.boundary x) };
 
     // P turns are the identity, and the turn commutes with the boundary.
-    ghost turned_round: { (x : Self) → Self.is_valid x → IsTrue (fits x) → turned turn P x ≡ (x, pos 1) };
+    ghost turned_round: { (x : Self) → Self.is_valid x → IsTrue (fits x) → after_turns turn P x ≡ (x, pos 1) };
 
     ghost boundary_turn: { (phi : Self → ℤ) (x : Self) → Self.is_valid x → IsTrue (fits x) → (turn x).1 *ℤ value_at phi (Self.boundary (turn x).0) ≡ value_at (λ y. (turn y).1 *ℤ phi (turn y).0) (Self.boundary x) };
 

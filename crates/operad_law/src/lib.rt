@@ -11,3 +11,5 @@ pub mod odd_word;
 pub mod perm;
 mod scaled;
 pub mod symmetric;
+#[cfg(test)]
+mod tests;

@@ -6,7 +6,8 @@ ghost use Rattle.std.specs.Cmp.Rules.{comparing};
 ghost use Rattle.std.specs.Cmp.Lexicographic.{slice_cmp};
 ghost use Rattle.std.specs.Ordering.{nat_cmp, eq_by_cmp, as_partial_cmp};
 ghost use Rattle.signed_sum.specs.Lists.{occurs};
-ghost use Rattle.operad_law.specs.Permutations.{IsPerm, composed, cycle_power, perm_at};
+ghost use Rattle.signed_sum.specs.Permutations.{cycle_power, entry_at};
+ghost use Rattle.operad_law.specs.Permutations.{IsPerm, composed};
 ghost use Rattle.operad_law.specs.Refusals.{permutation_fault};
 
 use smallvec::SmallVec;
@@ -120,7 +121,7 @@ impl Perm {
     pub fn at(&self, i: u8) -> u8
         requires some { 1 ≤ i }
         requires within { i ≤ length self.now }
-        ensures { result ≡ perm_at self.now i }
+        ensures { result ≡ entry_at self.now i }
     {
         self.values.as_slice()[usize::from(i) - 1]
     }

@@ -4,20 +4,20 @@ use Rattle.std.proofs.Common.{◌≡◌, ℕ, zero, suc, List, [], ◌∷◌, re
 use Rattle.std.specs.Prelude.{ℤ, pos, ◌+ℤ◌, ◌-ℤ◌, ◌*ℤ◌}
 use Rattle.std.proofs.lemmas.Int.{ints}
 use Rattle.signed_sum.specs.Sums.{value_at}
-use Rattle.signed_sum.specs.Turns.{difference, power_sum, turned}
+use Rattle.signed_sum.specs.Turns.{difference, power_sum, after_turns}
 use Rattle.signed_sum.proofs.Ring.{mul-add, mul-sub, mul_assoc, mul_comm, one-mul}
 use Rattle.signed_sum.proofs.SumLemmas.{value_at-sub}
 
 -- phi at the element after n turns, with the sign
 abbrev pub at_turn : {X : Type 0} → (X → X × ℤ) → ℕ → (X → ℤ) → X → ℤ
-at_turn turn n phi x = let p = turned turn n x in p.1 *ℤ phi p.0
+at_turn turn n phi x = let p = after_turns turn n x in p.1 *ℤ phi p.0
 
 pub value_at-difference : {X : Type 0} (turn : X → X × ℤ) (phi : X → ℤ) (x : X) → value_at phi (difference turn x) ≡ (turn x).1 *ℤ phi (turn x).0 -ℤ phi x
 value_at-difference turn phi x = omega (arith, ints)
 
 -- one more turn
-turn_more : {X : Type 0} (turn : X → X × ℤ) (n : ℕ) (phi : X → ℤ) (x : X) → (turned turn n x).1 *ℤ ((turn (turned turn n x).0).1 *ℤ phi (turn (turned turn n x).0).0) ≡ at_turn turn (suc n) phi x
-turn_more turn n phi x = sym (mul_assoc (turned turn n x).1 (turn (turned turn n x).0).1 (phi (turn (turned turn n x).0).0))
+turn_more : {X : Type 0} (turn : X → X × ℤ) (n : ℕ) (phi : X → ℤ) (x : X) → (after_turns turn n x).1 *ℤ ((turn (after_turns turn n x).0).1 *ℤ phi (turn (after_turns turn n x).0).0) ≡ at_turn turn (suc n) phi x
+turn_more turn n phi x = sym (mul_assoc (after_turns turn n x).1 (turn (after_turns turn n x).0).1 (phi (turn (after_turns turn n x).0).0))
 
 -- one more turn, made first
 turn_before : {X : Type 0} (turn : X → X × ℤ) (n : ℕ) (phi : X → ℤ) (x : X) → (turn x).1 *ℤ at_turn turn n phi (turn x).0 ≡ at_turn turn (suc n) phi x
@@ -36,8 +36,8 @@ difference-powers turn phi (suc n) x =
       ints,
       difference-powers turn phi n x,
       turn_more turn n phi x,
-      ap (λ v. (turned turn n x).1 *ℤ v) (value_at-difference turn phi (turned turn n x).0),
-      mul-sub (turned turn n x).1 ((turn (turned turn n x).0).1 *ℤ phi (turn (turned turn n x).0).0) (phi (turned turn n x).0),
+      ap (λ v. (after_turns turn n x).1 *ℤ v) (value_at-difference turn phi (after_turns turn n x).0),
+      mul-sub (after_turns turn n x).1 ((turn (after_turns turn n x).0).1 *ℤ phi (turn (after_turns turn n x).0).0) (phi (after_turns turn n x).0),
     )
 
 -- the powers of the difference: all but the ends cancel
@@ -52,15 +52,15 @@ powers-difference turn phi (suc n) x =
       mul-add (turn x).1 (at_turn turn n phi (turn x).0) (value_at phi (power_sum turn n (turn x).0)),
     )
 
-ends : {X : Type 0} (turn : X → X × ℤ) (phi : X → ℤ) (n : ℕ) (x : X) → turned turn n x ≡ (x, pos 1) → at_turn turn n phi x ≡ phi x
+ends : {X : Type 0} (turn : X → X × ℤ) (phi : X → ℤ) (n : ℕ) (x : X) → after_turns turn n x ≡ (x, pos 1) → at_turn turn n phi x ≡ phi x
 ends turn phi n x r = ap (λ (p : _ × ℤ). p.1 *ℤ phi p.0) r ∙ one-mul (phi x)
 
 -- the difference of the sum of the powers is zero, where n turns are the identity
-pub turn_norm : {X : Type 0} (turn : X → X × ℤ) (phi : X → ℤ) (n : ℕ) (x : X) → turned turn n x ≡ (x, pos 1) → value_at (λ y. value_at phi (difference turn y)) (power_sum turn n x) ≡ pos 0
+pub turn_norm : {X : Type 0} (turn : X → X × ℤ) (phi : X → ℤ) (n : ℕ) (x : X) → after_turns turn n x ≡ (x, pos 1) → value_at (λ y. value_at phi (difference turn y)) (power_sum turn n x) ≡ pos 0
 turn_norm turn phi n x r = omega (arith, ints, difference-powers turn phi n x, ends turn phi n x r)
 
 -- the sum of the powers of the difference is zero, where n turns are the identity
-pub norm_turn : {X : Type 0} (turn : X → X × ℤ) (phi : X → ℤ) (n : ℕ) (x : X) → turned turn n x ≡ (x, pos 1) → value_at (λ y. value_at phi (power_sum turn n y)) (difference turn x) ≡ pos 0
+pub norm_turn : {X : Type 0} (turn : X → X × ℤ) (phi : X → ℤ) (n : ℕ) (x : X) → after_turns turn n x ≡ (x, pos 1) → value_at (λ y. value_at phi (power_sum turn n y)) (difference turn x) ≡ pos 0
 norm_turn turn phi n x r =
     omega (arith, ints, powers-difference turn phi n x, ends turn phi n x r, value_at-difference turn (λ y. value_at phi (power_sum turn n y)) x)
 
@@ -78,9 +78,9 @@ boundary-difference {X = X} turn boundary Kind c phi x k =
     λ i. value_at (λ y. value_at-difference turn phi y i) (boundary x) in
     omega (arith, ints, value_at-difference turn (λ y. value_at phi (boundary y)) x, c.commutes phi x k, same, value_at-sub f phi (boundary x))
 
-kept_on : {X : Type 0} (turn : X → X × ℤ) (boundary : X → List (X × ℤ)) (Kind : X → Type 0) → CommutesWithTurn turn boundary Kind → (n : ℕ) (x : X) → Kind x → Kind (turned turn n x).0
+kept_on : {X : Type 0} (turn : X → X × ℤ) (boundary : X → List (X × ℤ)) (Kind : X → Type 0) → CommutesWithTurn turn boundary Kind → (n : ℕ) (x : X) → Kind x → Kind (after_turns turn n x).0
 kept_on turn boundary Kind c zero x k = k
-kept_on turn boundary Kind c (suc n) x k = c.kept (turned turn n x).0 (kept_on turn boundary Kind c n x k)
+kept_on turn boundary Kind c (suc n) x k = c.kept (after_turns turn n x).0 (kept_on turn boundary Kind c n x k)
 
 -- the boundary after n turns
 boundary-turned : {X : Type 0} (turn : X → X × ℤ) (boundary : X → List (X × ℤ)) (Kind : X → Type 0) → CommutesWithTurn turn boundary Kind → (phi : X → ℤ) (n : ℕ) (x : X) → Kind x →
@@ -89,7 +89,7 @@ boundary-turned turn boundary Kind c phi zero x k =
     let e : value_at (λ y. at_turn turn 0 phi y) (boundary x) ≡ value_at phi (boundary x) = λ i. value_at (λ y. one-mul (phi y) i) (boundary x) in
     one-mul (value_at phi (boundary x)) ∙ sym e
 boundary-turned {X = X} turn boundary Kind c phi (suc n) x k =
-    let p = turned turn n x in
+    let p = after_turns turn n x in
     let f : X → ℤ = λ y. (turn y).1 *ℤ phi (turn y).0 in
     sym (turn_more turn n (λ y. value_at phi (boundary y)) x)
     ∙ ap (λ v. p.1 *ℤ v) (c.commutes phi p.0 (kept_on turn boundary Kind c n x k))

@@ -1,6 +1,6 @@
 use Rattle.std.proofs.Common.{◌≡◌, map, take}
-use Rattle.operad_law.specs.Permutations.{perm_at}
+use Rattle.signed_sum.specs.Permutations.{entry_at}
 use Rattle.operad_law.proofs.perm.values_at.Given as goal
 
 abbrev pub invariant-loop-value : goal.invariant-loop-value
-invariant-loop-value l = l.values.items ≡ map (perm_at l.outer) (take l.value-index l.inner)
+invariant-loop-value l = l.values.items ≡ map (entry_at l.outer) (take l.value-index l.inner)

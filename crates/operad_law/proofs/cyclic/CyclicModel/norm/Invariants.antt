@@ -1,6 +1,6 @@
 use Rattle.std.proofs.Common.{◌≡◌, ◌≤◌, IsTrue}
 use Rattle.signed_sum.specs.Sums.{weight_of}
-use Rattle.signed_sum.specs.Turns.{IsSign, power_sum, turned}
+use Rattle.signed_sum.specs.Turns.{IsSign, power_sum, after_turns}
 use Rattle.operad_law.proofs.Unique.{summed}
 use Rattle.operad_law.proofs.cyclic.CyclicModel.norm.Given as goal
 
@@ -9,7 +9,7 @@ abbrev pub invariant-loop-power : goal.invariant-loop-power
 invariant-loop-power g l = record {
   valid : g.Self.SignedBasis.is_valid l.element;
   fits : IsTrue (g.Self.CyclicModel.fits l.element);
-  next : turned g.Self.CyclicModel.turn l._power l.self ≡ (l.element, l.sign);
+  next : after_turns g.Self.CyclicModel.turn l._power l.self ≡ (l.element, l.sign);
   signed : IsSign l.sign;
   so_far : l.sum ≡ summed g.Self.Ord.cmp (power_sum g.Self.CyclicModel.turn l._power l.self);
   light : weight_of l.sum ≤ l._power;
