@@ -1,6 +1,7 @@
 -- What a row has at each place.
 use Rattle.std.proofs.Common.{◌≡◌, ◌≢◌, ℕ, zero, suc, ◌+◌, ◌*◌, ◌%◌, ◌<◌, ◌≤◌, List, [], ◌∷◌, map, take, length, get_or, arith, refl, sym, ◌∙◌, ap, ap₂, subst, inl, inr, ◌-◌, drop, take_all, length-drop, add-one}
-use Rattle.std.proofs.lemmas.Bool.{cases_eq}
+use Rattle.std.specs.Prelude.{Result, Ok, Err, IfOk}
+use Rattle.std.proofs.lemmas.Bool.{cases_eq, cases_lt}
 use Rattle.std.proofs.Math.Nat.{mod-eq_of_lt}
 use native.Mathlib.Nat.{add-mod, zero-mod}
 use Rattle.linear_law.specs.Congruence.{sum_over}
@@ -8,7 +9,7 @@ use Rattle.linear_law.specs.Lists.{Each, IsAscending}
 use Rattle.linear_law.specs.Listing.{unit_vector}
 use Rattle.linear_law.proofs.ListLemmas.{each_map, each_get_or, each_unmap}
 use Rattle.linear_law.proofs.RowCombinations.{unit_one, unit_other}
-use Rattle.sparse_rows.specs.Rows.{IsFirst, IsRow, pairing, value_in}
+use Rattle.sparse_rows.specs.Rows.{IsBelow, IsFirst, IsRow, pairing, value_in}
 use Rattle.sparse_rows.specs.Merging.{position_of}
 
 pub sum_take : {X : Type 0} (f : X → ℕ) (xs : List X) (i : ℕ) (d : X) → i < length xs → sum_over f (take (i + 1) xs) ≡ sum_over f (take i xs) + f (get_or xs i d)
@@ -120,3 +121,30 @@ halves_sum p k half pairs row rest one sum large o a b s =
     let unit : one ≡ 1 = o ∙ mod-eq_of_lt large in
     let c : value_in row k + one * value_in rest k ≡ value_in (take half pairs) k % p + value_in (drop half pairs) k % p = rw unit (omega (arith, a, b)) in
     s ∙ ap (λ x. x % p) c ∙ sym (add-mod (value_in (take half pairs) k) (value_in (drop half pairs) k) p) ∙ ap (λ x. x % p) (sym (value_in-halves pairs half k))
+
+each_by_index : (P : ℕ × ℕ → Type 0) (row : List (ℕ × ℕ)) → ((i : ℕ) → i < length row → P (get_or row i (0, 0))) → Each P row
+each_by_index P [] h = tt
+each_by_index P (e ∷ es) h = (h 0 (omega arith), each_by_index P es (λ i b. h (suc i) (omega arith)))
+
+-- a row that is the sum of the pairs has no position beyond theirs
+pub below_of_sum : (p : ℕ) (pairs row : List (ℕ × ℕ)) → IsRow p row → ((k : ℕ) → value_in row k ≡ value_in pairs k % p) → (bound : ℕ) → IsBelow bound pairs → IsBelow bound row
+below_of_sum p pairs row h s bound below = each_by_index (λ e. e.0 < bound) row (λ i b. elim (cases_lt (get_or row i (0, 0)).0 bound) [
+  | inl l ↦ l
+  | inr m ↦ absurd (nonzero i b (sym (value_in-at row i (0, 0) h.ascends b) ∙ s (get_or row i (0, 0)).0
+      ∙ ap (λ x. x % p) (value_in-none pairs (get_or row i (0, 0)).0 (each_map (away (get_or row i (0, 0)).0 m) pairs below)) ∙ zero-mod p))
+])
+  where
+    nonzero : (i : ℕ) → i < length row → (get_or row i (0, 0)).1 ≢ 0
+    nonzero i b = (each_get_or (λ e. (e.1 ≢ 0) × (e.1 < p)) row i (0, 0) b h.values).0
+
+    away : (k : ℕ) → bound ≤ k → (e : ℕ × ℕ) → e.0 < bound → e.0 ≢ k
+    away k m e l q = absurd (omega arith)
+
+pub below_of_pair : {E : Type 0} (p : ℕ) (pairs : List (ℕ × ℕ)) (d e : ℕ × ℕ) (r : Result (List (ℕ × ℕ)) E) → length pairs ≡ 1
+    → IfOk r (λ row. (k : ℕ) → value_in row k ≡ ((get_or pairs 0 d).1 * unit_vector (get_or pairs 0 e).0 k) % p) → IfOk r (λ row. IsRow p row)
+    → IfOk r (λ row. (bound : ℕ) → IsBelow bound pairs → IsBelow bound row)
+below_of_pair p [] d e r l s h = absurd (omega arith)
+below_of_pair p (x ∷ y ∷ ys) d e r l s h = absurd (omega arith)
+below_of_pair p (x ∷ []) d e (Err f) l s h = tt
+below_of_pair p (x ∷ []) d e (Ok row) l s h =
+    below_of_sum p (x ∷ []) row h (λ k. let same : x.1 * unit_vector x.0 k ≡ value_in (x ∷ []) k = omega arith in s k ∙ ap (λ n. n % p) same)

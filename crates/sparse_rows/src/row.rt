@@ -37,6 +37,7 @@ impl<const P: u32> Row<P> {
         requires { IsTrue (served P) }
         ensures sum { IfOk result (λ r. (k : ℕ) → value_in r k ≡ value_in pairs.now k % P) }
         ensures row { IfOk result (λ r. IsRow P r) }
+        ensures below { IfOk result (λ r. (bound : ℕ) → IsBelow bound pairs.now → IsBelow bound r) }
     {
         if pairs.is_empty() {
             return Ok(Row::new(alloc));
