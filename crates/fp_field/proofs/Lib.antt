@@ -1,3 +1,4 @@
 pub mod ServedLemmas
 pub mod PowerLemmas
 pub mod ScaleLemmas
+pub mod OrbitLemmas

@@ -2,12 +2,14 @@
 #![tactic(auto)]
 
 mod element;
+mod orbits;
 mod tables;
 
 ghost use Rattle.std.specs.Prelude.{◌≡◌};
 ghost use Rattle.fp_field.specs.Served.{served};
 
 pub use element::Fp;
+pub use orbits::NormOrbits;
 
 /// Whether `p` is a prime that the tables of this crate serve.
 pub fn served(p: u32) -> bool
@@ -55,5 +57,19 @@ mod tests {
         assert_eq!(rt; Fp::<3>::scale(1, 0).value(), 1);
         assert_eq!(rt; Fp::<3>::scale(2, 0).value(), 2);
         assert_eq!(rt; Fp::<5>::scale(1, 0).value(), 3);
+    }
+
+    #[test]
+    fn lists_the_orbits(rt: HostRuntime) {
+        assert_eq!(rt; NormOrbits::<2>::orbit_count(), 1);
+        assert_eq!(rt; NormOrbits::<2>::orbit_mask(0), 1);
+        assert_eq!(rt; NormOrbits::<3>::orbit_count(), 2);
+        for (at, want) in [(0, 1), (1, 3)] {
+            assert_eq!(rt; NormOrbits::<3>::orbit_mask(at), want);
+        }
+        assert_eq!(rt; NormOrbits::<5>::orbit_count(), 6);
+        for (at, want) in [(0, 1), (1, 3), (2, 5), (3, 7), (4, 11), (5, 15)] {
+            assert_eq!(rt; NormOrbits::<5>::orbit_mask(at), want);
+        }
     }
 }
