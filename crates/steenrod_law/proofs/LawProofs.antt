@@ -1,8 +1,9 @@
 -- The laws of this crate.
+use Rattle.std.proofs.Common.{◌≡◌, ℕ, zero, suc, ◌+◌, ◌-◌, ◌*◌, ◌≤◌, sym, ◌∙◌, ap, ap₂, arith}
 use Rattle.simplicial_law.proofs.Bases.{cocycles}
 use Rattle.steenrod_law.proofs.ClassLaws.{bilinear-law, linearity-law, matrix-law, product-closed, product-degree, pull_back-product}
 use Rattle.steenrod_law.proofs.OperationLaws.{additivity-law, may_operation-closed, operation-degree, orbit-degree, orbit-subcomplex, pull_back-operation, representative-law, scaling-law, staircase-degree, staircase-subcomplex}
-use Rattle.steenrod_law.specs.Laws.{AdditivityLaw, ClosedLaw, DegreeLaw, LinearityLaw, OperationMatrixLaw, ProductLaw, PullBackLaw, RepresentativeLaw, ScalingLaw, SubcomplexLaw}
+use Rattle.steenrod_law.specs.Laws.{AdditivityLaw, ClosedLaw, DegreeLaw, LinearityLaw, OperationMatrixLaw, ProductLaw, PullBackLaw, RepresentativeLaw, ScalingLaw, SubcomplexLaw, TargetLaw}
 
 pub closed_law : ClosedLaw
 closed_law facets p d q n a field = may_operation-closed p field facets d q n a
@@ -46,4 +47,21 @@ pub pull_back_law : PullBackLaw
 pull_back_law = record {
   operations = λ f p d q a s field. pull_back-operation p field f d q a s;
   products = λ f p q k a b s field. pull_back-product p field f q k a b s;
+}
+
+powers : (p s q : ℕ) → 1 ≤ p → 2 * s ≤ q → (q + 2 * s * (p - 1)) + (q - 2 * s) * (p - 1) ≡ p * q
+powers p s q a b = go (p - 1) (q - 2 * s) (omega arith) (omega arith)
+  where
+    go : (r e : ℕ) → p ≡ r + 1 → q ≡ 2 * s + e → (q + 2 * s * r) + e * r ≡ p * q
+    go r e x y = ap (λ j. (j + 2 * s * r) + e * r) y ∙ (let z : ((2 * s + e) + 2 * s * r) + e * r ≡ (r + 1) * (2 * s + e) = omega arith in z) ∙ sym (ap₂ (λ i j. i * j) x y)
+
+positive : (a b : ℕ) → 1 ≤ a → 1 ≤ b → 1 ≤ a * b
+positive zero b h k = absurd (omega arith)
+positive (suc a) b h k = omega arith
+
+pub target_law : TargetLaw
+target_law = record {
+  squares = λ k q h. omega arith;
+  powers = powers;
+  bockstein_powers = λ p s q h k. (let a = powers p s q (omega arith) (omega arith) in let b = positive (q - 2 * s) (p - 1) (omega arith) (omega arith) in omega arith);
 }

@@ -2,9 +2,10 @@
 use Rattle.std.proofs.Common.{◌≡◌, true, false, Bool, List, [], ◌∷◌, refl, arith}
 use Rattle.std.specs.Prelude.{ℤ, pos, ◌+ℤ◌}
 use Rattle.std.proofs.lemmas.Int.{ints}
+use Rattle.fp_field.proofs.ServedLemmas.{for_served}
 use Rattle.steenrod_law.proofs.Forms.{word_sum}
 use Rattle.steenrod_law.specs.Laws.{OrbitTables}
-use Rattle.steenrod_law.specs.Words.{all_words, copies, norm, orbit_words_of_2, orbit_words_of_3, orbit_words_of_5}
+use Rattle.steenrod_law.specs.Words.{IsOrbitTable, all_words, copies, norm, orbit_words_of_2, orbit_words_of_3, orbit_words_of_5}
 
 once_2 : (h : List Bool → ℤ) → all_words 2 h ≡ (h (copies 2 false) +ℤ h (copies 2 true)) +ℤ word_sum orbit_words_of_2 (norm (λ l. 0) 2 h)
 once_2 h = omega (arith, ints)
@@ -72,9 +73,19 @@ once_5 h =
     (orbit_4 h)
     (orbit_5 h)
 
+two_words : IsOrbitTable 2 orbit_words_of_2
+two_words = record { long = (refl, tt); once = once_2 }
+
+three_words : IsOrbitTable 3 orbit_words_of_3
+three_words = record { long = (refl, (refl, tt)); once = once_3 }
+
+five_words : IsOrbitTable 5 orbit_words_of_5
+five_words = record { long = (refl, (refl, (refl, (refl, (refl, (refl, tt)))))); once = once_5 }
+
 pub orbit_tables : OrbitTables
 orbit_tables = record {
-  two = record { long = (refl, tt); once = once_2 };
-  three = record { long = (refl, (refl, tt)); once = once_3 };
-  five = record { long = (refl, (refl, (refl, (refl, (refl, (refl, tt)))))); once = once_5 };
+  two = two_words;
+  three = three_words;
+  five = five_words;
+  all_served = λ p h. for_served (λ p. (ms : List (List Bool)) × IsOrbitTable p ms) p (orbit_words_of_2, two_words) (orbit_words_of_3, three_words) (orbit_words_of_5, five_words) h;
 }

@@ -1,13 +1,14 @@
 -- The laws of the Steenrod operations.
-use Rattle.std.specs.Prelude.{◌≡◌, ℕ, ◌+◌, ◌*◌, ◌-◌, ◌≤◌, Bool, List, ◌∷◌, length, map, ℤ, pos, ◌+ℤ◌, suc}
+use Rattle.std.specs.Prelude.{◌≡◌, ℕ, ◌+◌, ◌*◌, ◌-◌, ◌≤◌, Bool, List, ◌∷◌, length, map, ℤ, pos, ◌+ℤ◌, suc, IsTrue, ◌<◌}
 use Rattle.std.specs.List.{AllZip}
 use Rattle.fp_field.specs.Element.{sign_power}
+use Rattle.fp_field.specs.Served.{served}
 use Rattle.linear_law.specs.Congruence.{Congruent, IsField, negated}
 use Rattle.linear_law.specs.Lists.{Each}
 use Rattle.linear_law.specs.ReducedBases.{combination}
 use Rattle.simplicial_law.specs.Simplices.{IsSimplex}
 use Rattle.simplicial_law.specs.Cochains.{AgreesOnSimplices, Cochain, HasCoordinates, IsCoboundary, IsCocycle, coboundary}
-use Rattle.steenrod_law.specs.Operations.{cup_product, matrix_times, may_operation, orbit_primitive, pull_back, scaled_operation, staircase_primitive}
+use Rattle.steenrod_law.specs.Operations.{cup_product, matrix_times, may_operation, orbit_primitive, power_degree, pull_back, scaled_operation, staircase_primitive}
 use Rattle.simplicial_law.specs.Integral.{CongruentInt}
 use Rattle.steenrod_law.specs.Words.{IsOrbitTable, contraction, letter_degree, norm, orbit_words_of_2, orbit_words_of_3, orbit_words_of_5, staircase, step, turn, turn_back, turn_power, turn_sum, word_boundary}
 
@@ -35,10 +36,12 @@ abbrev pub StaircaseLaw : Type 0
 StaircaseLaw = (p n d j : ℕ) (h : List Bool → ℤ) → IsField p → suc j ≤ d →
     CongruentInt p (staircase p n d (suc j) (word_boundary n h)) (staircase p n d j (step (letter_degree n) p (d - j) h))
 
+-- The orbit words of 2, 3 and 5; so each prime that is served has some.
 pub record OrbitTables : Type 0 where
   pub two : IsOrbitTable 2 orbit_words_of_2
   pub three : IsOrbitTable 3 orbit_words_of_3
   pub five : IsOrbitTable 5 orbit_words_of_5
+  pub all_served : (p : ℕ) → IsTrue (served p) → (ms : List (List Bool)) × IsOrbitTable p ms
 
 -- A May operation takes cocycles to cocycles.
 abbrev pub ClosedLaw : Type 0
@@ -117,3 +120,10 @@ pub record PullBackLaw : Type 0 where
       Congruent p (may_operation p d q (pull_back f a) s) (pull_back f (may_operation p d q a) s)
   pub products : (f : ℕ → ℕ) (p q k : ℕ) (a b : Cochain) (s : List ℕ) → IsField p → 1 ≤ length s →
       Congruent p (cup_product p q k (pull_back f a) (pull_back f b) s) (pull_back f (cup_product p q k a b) s)
+
+-- The degree of the target and the May degree of an operation sum to p * q: squares, powers and
+-- Bockstein powers have the degrees that their definitions say.
+pub record TargetLaw : Type 0 where
+  pub squares : (k q : ℕ) → k ≤ q → (q + k) + (q - k) ≡ 2 * q
+  pub powers : (p s q : ℕ) → 1 ≤ p → 2 * s ≤ q → (q + 2 * s * (p - 1)) + power_degree p s q ≡ p * q
+  pub bockstein_powers : (p s q : ℕ) → 2 ≤ p → 2 * s < q → (q + 2 * s * (p - 1) + 1) + (power_degree p s q - 1) ≡ p * q

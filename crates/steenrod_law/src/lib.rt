@@ -1,7 +1,7 @@
 //! The Steenrod operations on cochains and on classes: definitions and laws.
 #![tactic(auto)]
 
-ghost use Rattle.steenrod_law.specs.Laws.{AdditivityLaw, ClosedLaw, DegreeLaw, LinearityLaw, OperationMatrixLaw, OrbitTables, ProductLaw, PullBackLaw, RepresentativeLaw, ScalingLaw, StaircaseLaw, SubcomplexLaw, WordLaws};
+ghost use Rattle.steenrod_law.specs.Laws.{AdditivityLaw, ClosedLaw, DegreeLaw, LinearityLaw, OperationMatrixLaw, OrbitTables, ProductLaw, PullBackLaw, RepresentativeLaw, ScalingLaw, StaircaseLaw, SubcomplexLaw, TargetLaw, WordLaws};
 
 /// Words are a cyclic model.
 pub fn word_laws()
@@ -66,4 +66,9 @@ pub fn product_law()
 /// Operations and products commute with pull-backs.
 pub fn pull_back_law()
     ensures { PullBackLaw }
+{}
+
+/// The degrees of squares, powers and Bockstein powers.
+pub fn target_law()
+    ensures { TargetLaw }
 {}
