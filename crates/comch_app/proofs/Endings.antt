@@ -1,0 +1,61 @@
+-- How a run ends, by the text that was to be written.
+use Rattle.std.proofs.Common.{◌≡◌, List, ℕ, inl, inr, refl, subst, Some, None, Ok, Err, IfSome, length}
+use Rattle.std.specs.Prelude.{Bool, Result, nat_lt, true, false, if◌then◌else◌}
+use Rattle.std.specs.declared.option.Option.{Option}
+use Rattle.std.specs.Io.KnownBytes.{Appends}
+use Rattle.comch_io.specs.Reading.{ReadsAs, read_answer}
+use Rattle.comch_io.specs.declared.read_end.ReadEnd.{ReadEnd}
+use Rattle.comch_io.specs.declared.read_end.ReadEnd.TheVariants as end
+use Rattle.complex_file.specs.Input.{input_of}
+use Rattle.complex_file.specs.declared.kind.InputKind.TheVariants.{TooLong}
+use Rattle.comch_app.specs.Answers.{BasisAnswers, Ends, RefusesWords}
+use Rattle.comch_app.specs.Refusals.{refusal}
+use Rattle.comch_app.specs.Steps.{SaysIt}
+use Rattle.comch_app.specs.declared.status.Status.{Status}
+use Rattle.comch_app.specs.declared.status.Status.TheVariants.{BadWords, InputRefused, OutOfMemory, ReadFault, WriteFault}
+
+-- a text that was written whole
+whole : (answers : Status → List ℕ → Type 0) (s : Status) (text : List ℕ) (old new : Option (List ℕ)) → (answers WriteFault text → ⊥) → answers s text → Appends old new text → Ends answers old new s
+whole answers WriteFault text old new never a appends = absurd (never a)
+whole answers _ text old new never a appends = (text, a, appends)
+
+-- a text that may be answered, and was written whole or up to a failed write
+said_ends : (answers : Status → List ℕ → Type 0) (s : Status) (text : List ℕ) (old new : Option (List ℕ)) (r : Status) → (answers WriteFault text → ⊥) → answers s text → SaysIt s text old new r → Ends answers old new r
+said_ends answers s text old new r never a (inl h) = rw h.0 (whole answers s text old new never a h.1)
+said_ends answers s text old new r never a (inr h) = rw h.0 (s, text, a, h.1)
+
+pub basis_ends : (bytes : List ℕ) (s : Status) (text : List ℕ) (old new : Option (List ℕ)) (r : Status) → BasisAnswers bytes s text → SaysIt s text old new r → Ends (BasisAnswers bytes) old new r
+basis_ends bytes s text old new r a says = said_ends (BasisAnswers bytes) s text old new r (λ h. h) a says
+
+pub memory_ends_basis : (bytes : List ℕ) (old new : Option (List ℕ)) (r : Status) → SaysIt OutOfMemory (refusal OutOfMemory) old new r → Ends (BasisAnswers bytes) old new r
+memory_ends_basis bytes old new r says = basis_ends bytes OutOfMemory (refusal OutOfMemory) old new r refl says
+
+pub read_ends_basis : (bytes : List ℕ) (old new : Option (List ℕ)) (r : Status) → SaysIt ReadFault (refusal ReadFault) old new r → Ends (BasisAnswers bytes) old new r
+read_ends_basis bytes old new r says = basis_ends bytes ReadFault (refusal ReadFault) old new r refl says
+
+pub memory_ends_words : (old new : Option (List ℕ)) (r : Status) → SaysIt OutOfMemory (refusal OutOfMemory) old new r → Ends RefusesWords old new r
+memory_ends_words old new r says = said_ends RefusesWords OutOfMemory (refusal OutOfMemory) old new r (λ h. h) refl says
+
+pub words_end : (old new : Option (List ℕ)) (r : Status) → SaysIt BadWords (refusal BadWords) old new r → Ends RefusesWords old new r
+words_end old new r says = said_ends RefusesWords BadWords (refusal BadWords) old new r (λ h. h) refl says
+
+-- what holds for all values holds for the one that there may be
+pub for_each : {X : Type 0} (o : Option X) (P : X → Type 0) → ((x : X) → P x) → IfSome o P
+for_each None P f = tt
+for_each (Some x) P f = f x
+
+-- an input that is too long is refused as such
+by_test : {X Y : Type 0} (long : Bool) (xs : List ℕ) (e : X) (y : Result Y X) → (if long then Err end.TooLong else Ok xs) ≡ Err end.TooLong → (if long then Err e else y) ≡ Err e
+by_test true xs e y h = refl
+by_test false xs e y h = cc
+
+refused_as_long : (bytes : List ℕ) → read_answer 1048576 bytes ≡ Err end.TooLong → input_of bytes ≡ Err (record { kind = TooLong; line = 0 })
+unfolding input_of
+refused_as_long bytes h = by_test (nat_lt 1048576 (length bytes)) bytes _ _ h
+
+pub long_answers : (o : Option (List ℕ)) (e : ReadEnd) (s : Status) (text : List ℕ) → e ≡ end.TooLong → IfSome o (λ xs. ReadsAs (Err e) (read_answer 1048576 xs))
+    → s ≡ InputRefused TooLong 0 → text ≡ refusal (InputRefused TooLong 0) → IfSome o (λ bytes. BasisAnswers bytes s text)
+long_answers None e s text long h same text_is = tt
+long_answers (Some bytes) e s text long h same text_is =
+    let answer : ReadsAs (Err end.TooLong) (read_answer 1048576 bytes) = subst (λ (x : ReadEnd). ReadsAs (Err x) (read_answer 1048576 bytes)) long h in
+    rw same (refused_as_long bytes answer, text_is)

@@ -1,0 +1,19 @@
+-- The line of each refusal.
+use Rattle.std.specs.Prelude.{ℕ, List, [], ◌∷◌, ◌++◌, codes}
+use Rattle.std.specs.Fmt.{decimal}
+use Rattle.complex_file.specs.Kinds.{kind_number}
+use Rattle.comch_app.specs.declared.status.Status.{Status}
+use Rattle.comch_app.specs.declared.status.Status.TheVariants.{Done, BadWords, InputRefused, OutOfMemory, ReadFault, WriteFault}
+
+-- a line with its byte 10
+abbrev pub ended : List ℕ → List ℕ
+ended text = text ++ 10 ∷ []
+
+-- nothing for the statuses that are no refusal
+abbrev pub refusal : Status → List ℕ
+refusal BadWords = ended (codes "refused words")
+refusal (InputRefused kind line) = ended (codes "refused input " ++ decimal (kind_number kind) ++ codes " line " ++ decimal line)
+refusal OutOfMemory = ended (codes "refused memory")
+refusal ReadFault = ended (codes "refused read")
+refusal WriteFault = []
+refusal Done = []

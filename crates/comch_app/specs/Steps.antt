@@ -1,0 +1,34 @@
+-- What the steps of a run give: forms for the contracts of private functions.
+use Rattle.std.specs.Prelude.{◌≡◌, ◌⊎◌, ℕ, ◌≤◌, List, Err, Result}
+use Rattle.std.specs.declared.option.Option.{Option}
+use Rattle.std.specs.Io.KnownBytes.{Appends, IsAtEnd}
+use Rattle.comch_io.specs.Causes.{Rose}
+use Rattle.comch_io.specs.Reading.{AppendsPrefix}
+use Rattle.comch_app.specs.declared.status.Status.{Status}
+use Rattle.comch_app.specs.declared.status.Status.TheVariants.{Done, InputRefused, WriteFault}
+use Rattle.comch_app.specs.declared.answer.Stop.{Stop}
+use Rattle.comch_app.specs.declared.answer.Stop.TheVariants as stop
+use Rattle.comch_app.specs.Refusals.{refusal}
+
+-- a stop at a read comes only where the count of faults rose, and everything else leaves the count
+abbrev pub StopCause : {X : Type 0} → ℕ → ℕ → Result X Stop → Type 0
+StopCause before now (Err stop.Read) = (before ≤ now) × Rose before now
+StopCause before now _ = now ≡ before
+
+-- Statuses that the work itself gives: no fault and no want of memory. A refusal has its line as text.
+abbrev pub IsMade : Status → List ℕ → Type 0
+IsMade Done text = Unit {0}
+IsMade (InputRefused kind line) text = text ≡ refusal (InputRefused kind line)
+IsMade _ text = ⊥
+
+-- nothing is left where the run is done
+abbrev pub IsReadWhole : Option (List ℕ) → Status → Type 0
+IsReadWhole left Done = IsAtEnd left
+IsReadWhole left _ = Unit {0}
+
+-- the text was written, or a front of it
+abbrev pub SaysIt : Status → List ℕ → Option (List ℕ) → Option (List ℕ) → Status → Type 0
+SaysIt status text old new result = ((result ≡ status) × Appends old new text) ⊎ ((result ≡ WriteFault) × AppendsPrefix old new text)
+
+abbrev pub SaidCause : Status → ℕ → ℕ → Status → Type 0
+SaidCause status before now result = ((result ≡ status) × (now ≡ before)) ⊎ ((result ≡ WriteFault) × (before ≤ now) × Rose before now)

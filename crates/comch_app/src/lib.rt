@@ -1,0 +1,17 @@
+//! The top call: from words and bytes to a status and a text.
+#![tactic(auto)]
+
+mod answer;
+mod chains;
+mod refusal;
+mod report;
+mod request;
+mod status;
+mod top;
+mod words;
+
+pub use status::Status;
+pub use top::run;
+
+#[cfg(test)]
+mod tests;

@@ -1,0 +1,29 @@
+ghost use Rattle.std.specs.Prelude.{◌≡◌, ◌++◌, IfOk};
+ghost use Rattle.std.specs.Fmt.{decimal};
+ghost use Rattle.comch_app.specs.Refusals.{refusal};
+
+use crate::Status;
+use comch_io::Bytes;
+use complex_file::InputKind;
+use std::alloc::{AllocError, Global};
+
+// Adds the digits of a number.
+fn add_number(alloc: Global, text: &mut Bytes, n: u64) -> Result<(), AllocError>
+    ensures { IfOk result (λ _. text.new ≡ text.old ++ decimal n) }
+{
+    let digits = n.to_string(alloc)?;
+    text.extend(digits.as_bytes())
+}
+
+/// The line of a refused input.
+pub fn input_refusal(alloc: Global, kind: InputKind, line: u64) -> Result<Bytes, AllocError>
+    ensures { IfOk result (λ b. b ≡ refusal (Status.InputRefused kind line)) }
+{
+    let mut text = Bytes::new(alloc);
+    text.extend(b"refused input ")?;
+    add_number(alloc, &mut text, u64::from(kind.number()))?;
+    text.extend(b" line ")?;
+    add_number(alloc, &mut text, line)?;
+    text.push(b'\n')?;
+    Ok(text)
+}

@@ -1,0 +1,37 @@
+ghost use Rattle.std.specs.Prelude.{◌≡◌};
+ghost use Rattle.comch_app.specs.Codes.{code_of};
+
+use complex_file::InputKind;
+
+/// How a run ended.
+#[derive(Clone, Copy, Debug, PartialEq, Eq)]
+pub enum Status {
+    /// The whole text was written.
+    Done,
+    /// The words ask for nothing that there is.
+    BadWords,
+    /// The input spells no job: the kind of its first fault, and its line.
+    InputRefused { kind: InputKind, line: u64 },
+    /// There was no memory for the answer.
+    OutOfMemory,
+    /// A read failed.
+    ReadFault,
+    /// A write failed.
+    WriteFault,
+}
+
+impl Status {
+    /// The exit code of the program.
+    pub fn code(&self) -> u8
+        ensures { result ≡ code_of self.now }
+    {
+        match self {
+            Status::Done => 0,
+            Status::BadWords => 2,
+            Status::InputRefused { .. } => 3,
+            Status::OutOfMemory => 5,
+            Status::ReadFault => 6,
+            Status::WriteFault => 7,
+        }
+    }
+}
