@@ -3,3 +3,4 @@ mod FacePlaces
 mod LevelLemmas
 pub mod Alternating
 pub mod RowLemmas
+mod Triangle

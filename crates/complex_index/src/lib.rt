@@ -8,3 +8,6 @@ mod levels;
 mod place;
 
 pub use indexed::{Cochain, Indexed};
+
+#[cfg(test)]
+mod tests;
