@@ -1,12 +1,12 @@
 -- The laws of operations and products on classes of cochains of residues.
-use Rattle.std.proofs.Common.{◌≡◌, ℕ, zero, suc, ◌+◌, ◌*◌, ◌<◌, ◌≤◌, ◌-◌, inl, inr, Bool, cond, List, [], ◌∷◌, map, length, refl, sym, ◌∙◌, ap, ap₂, arith, subst}
+use Rattle.std.proofs.Common.{◌≡◌, ℕ, zero, suc, ◌+◌, ◌*◌, ◌<◌, ◌≤◌, ◌-◌, inl, inr, Bool, cond, List, [], ◌∷◌, ◌++◌, map, length, refl, sym, ◌∙◌, ap, ap₂, arith, subst}
 use Rattle.std.specs.Prelude.{ℤ, pos, ◌+ℤ◌, ◌*ℤ◌, neg_ℤ}
 use Rattle.std.specs.List.{AllZip}
 use Rattle.std.proofs.Common.{mod-lt}
 use Rattle.std.proofs.Math.IntN.{pos-*ℤ-pos}
 use Rattle.std.proofs.lemmas.Int.{ints}
 use Rattle.std.proofs.lemmas.Bool.{cases_Bool}
-use Rattle.std.proofs.lemmas.List.{length-map}
+use Rattle.std.proofs.lemmas.List.{length-append, length-map}
 use Rattle.interval_cut_law.proofs.CochainLaws.{naturality_law}
 use Rattle.linear_law.proofs.CongruenceLemmas.{Congruent_add, Congruent_from, Congruent_mod, Congruent_mul, Congruent_of, Congruent_refl, Congruent_scale, Congruent_sym, Congruent_trans, add-negated}
 use Rattle.linear_law.specs.Congruence.{Congruent, IsField, negated}
@@ -20,18 +20,18 @@ use Rattle.simplicial_law.specs.Cochains.{Cochain, HasCoordinates, IsCoboundary,
 use Rattle.simplicial_law.specs.Integral.{CongruentInt, integral_coboundary}
 use Rattle.simplicial_law.specs.Simplices.{IsSimplex}
 use Rattle.steenrod_law.proofs.Classes.{cocycle-combination, on-classes}
-use Rattle.steenrod_law.proofs.Complexes.{IsNoSimplex, IsWeakSimplex, coboundary-extended, coboundary-residues, difference-same, extended-cochain, extended-cocycle, extended-simplex, residue_cochain-empty, residue_cochain-same, simplex_or_none, weak-closed, weak_of_simplex}
+use Rattle.steenrod_law.proofs.Complexes.{IsNoSimplex, coboundary-extended, coboundary-residues, difference-same, extended-cochain, extended-cocycle, extended-simplex, residue_cochain-empty, residue_cochain-same, simplex_or_none, weak-closed, weak_of_simplex}
 use Rattle.steenrod_law.proofs.Forms.{AllCocycles, Cohomologous, InClass, IsCochain, Part, cup, operations, part_sum, products, products_with}
 use Rattle.steenrod_law.proofs.OperationLaws.{above_one, family_here, prime_here, pulled, residue-none, to_residues, value-same, vertices, whole_operation}
 use Rattle.steenrod_law.proofs.Products.{cup-closed, cup-degree, cup-on-classes}
 use Rattle.steenrod_law.proofs.Staircase.{length-copies}
 use Rattle.steenrod_law.proofs.WordCochains.{coboundary-cochain}
-use Rattle.steenrod_law.specs.Operations.{cup_product, extended, matrix_times, may_operation, plus_scaled, pull_back, residue_cochain, scaled_operation}
+use Rattle.steenrod_law.specs.Operations.{IsWeakSimplex, cochain_products, coefficient_products, cup_product, extended, matrix_times, may_operation, plus_scaled, pull_back, residue_cochain, scaled_operation}
 use Rattle.steenrod_law.specs.Words.{IsOrbitTable, copies}
 use Rattle.table_reduction_law.specs.MayElements.{may_element}
 
 -- in degree 0 a coboundary is 0
-coboundary-vertex : (p : ℕ) (y : Cochain) (f : List ℕ) → length f ≡ 1 → y [] ≡ 0 → coboundary p y f ≡ 0
+pub coboundary-vertex : (p : ℕ) (y : Cochain) (f : List ℕ) → length f ≡ 1 → y [] ≡ 0 → coboundary p y f ≡ 0
 coboundary-vertex p y [] l e = absurd (omega (arith, l))
 coboundary-vertex p y (v ∷ []) l e = omega (arith, e)
 coboundary-vertex p y (v ∷ w ∷ f) l e = absurd (omega (arith, l))
@@ -55,6 +55,47 @@ record IsColumn (facets : List (List ℕ)) (n p : ℕ) (ws : List Cochain) (F : 
   size : length column ≡ length ws
   small : Each (λ c. c < p) column
   rest : IsCoboundary facets n p (λ s. F s + negated p (combination column ws s))
+
+zip-map : {A X Y : Type 0} (R : A → Y → Type 0) (f : X → Y) (rs : List A) (xs : List X) → AllZip (λ a x. R a (f x)) rs xs → AllZip R rs (map f xs)
+zip-map R f [] [] h = h
+zip-map R f [] (x ∷ xs) h = absurd h
+zip-map R f (a ∷ rs) [] h = absurd h
+zip-map R f (a ∷ rs) (x ∷ xs) h = (h.0, zip-map R f rs xs h.1)
+
+-- combinations of products
+combination-append : (cs ds : List ℕ) (Fs Gs : List Cochain) (s : List ℕ) → length cs ≡ length Fs → combination (cs ++ ds) (Fs ++ Gs) s ≡ combination cs Fs s + combination ds Gs s
+combination-append [] ds [] Gs s e = omega arith
+combination-append [] ds (F ∷ Fs) Gs s e = absurd (omega (arith, e))
+combination-append (c ∷ cs) ds [] Gs s e = absurd (omega (arith, e))
+combination-append (c ∷ cs) ds (F ∷ Fs) Gs s e = let h = combination-append cs ds Fs Gs s (omega (arith, e)) in omega arith
+
+combination-times : (c : ℕ) (ds : List ℕ) (Fs : List Cochain) (s : List ℕ) → combination (map (λ d. c * d) ds) Fs s ≡ c * combination ds Fs s
+combination-times c [] Fs s = omega arith
+combination-times c (d ∷ ds) [] s = omega arith
+combination-times c (d ∷ ds) (F ∷ Fs) s = let h = combination-times c ds Fs s in omega arith
+
+combination-products : (p q k : ℕ) (cs ds : List ℕ) (zs ws : List Cochain) (s : List ℕ) → length cs ≡ length zs → length ds ≡ length ws →
+    combination (coefficient_products cs ds) (cochain_products p q k zs ws) s ≡ combination cs (map (λ a. combination ds (map (cup_product p q k a) ws)) zs) s
+combination-products p q k [] ds [] ws s e g = refl
+combination-products p q k [] ds (z ∷ zs) ws s e g = absurd (omega (arith, e))
+combination-products p q k (c ∷ cs) ds [] ws s e g = absurd (omega (arith, e))
+combination-products p q k (c ∷ cs) ds (z ∷ zs) ws s e g =
+    let a = combination-append (map (λ d. c * d) ds) (coefficient_products cs ds) (map (cup_product p q k z) ws) (cochain_products p q k zs ws) s (length-map ds (λ d. c * d) ∙ g ∙ sym (length-map ws (cup_product p q k z))) in
+    let b = combination-times c ds (map (cup_product p q k z) ws) s in
+    let h = combination-products p q k cs ds zs ws s (omega (arith, e)) g in
+    omega arith
+
+products-length : (p q k : ℕ) (cs ds : List ℕ) (zs ws : List Cochain) → length cs ≡ length zs → length ds ≡ length ws → length (coefficient_products cs ds) ≡ length (cochain_products p q k zs ws)
+products-length p q k [] ds [] ws e g = refl
+products-length p q k [] ds (z ∷ zs) ws e g = absurd (omega (arith, e))
+products-length p q k (c ∷ cs) ds [] ws e g = absurd (omega (arith, e))
+products-length p q k (c ∷ cs) ds (z ∷ zs) ws e g =
+    let a = length-append (map (λ d. c * d) ds) (coefficient_products cs ds) in
+    let b = length-append (map (cup_product p q k z) ws) (cochain_products p q k zs ws) in
+    let m = length-map ds (λ d. c * d) in
+    let l = length-map ws (cup_product p q k z) in
+    let h = products-length p q k cs ds zs ws (omega (arith, e)) g in
+    omega arith
 
 module _ (p : ℕ) (field : IsField p) (facets : List (List ℕ)) where
   parts-cocycles : (q : ℕ) (cs : List ℕ) (zs : List Cochain) → Each (IsCocycle facets q p) zs → AllCocycles (IsWeakSimplex facets) p q (parts q cs zs)
@@ -192,10 +233,9 @@ module _ (p : ℕ) (field : IsField p) (facets : List (List ℕ)) where
       Congruent_trans (Congruent_add (Congruent_mul (Congruent_mod p (c * x + y)) (Congruent_refl (w s))) (combination-plus c xs ys ws s (omega (arith, e))))
       (Congruent_of (omega arith))
 
-  columns : (d c q n : ℕ) (ws zs : List Cochain) (As : List (List ℕ)) (cs : List ℕ) → length cs ≡ length zs →
-      AllZip (λ column z. HasCoordinates facets n p ws (scaled_operation p d c q z) column) As zs →
-      IsColumn facets n p ws (combination cs (map (scaled_operation p d c q) zs)) (matrix_times p (length ws) As cs)
-  columns d c q n ws [] [] cs e h = record {
+  columns : (n : ℕ) (ws Fs : List Cochain) (As : List (List ℕ)) (cs : List ℕ) → length cs ≡ length Fs →
+      AllZip (λ column F. HasCoordinates facets n p ws F column) As Fs → IsColumn facets n p ws (combination cs Fs) (matrix_times p (length ws) As cs)
+  columns n ws [] [] cs e h = record {
     size = length-copies (length ws) 0;
     small = copies-small (length ws);
     rest = (spaces n).alike (λ s. combination {X = List ℕ} cs [] s + negated p (combination (copies (length ws) 0) ws s)) (λ s. 0)
@@ -205,38 +245,44 @@ module _ (p : ℕ) (field : IsField p) (facets : List (List ℕ)) where
       none : (cs : List ℕ) (s : List ℕ) → combination {X = List ℕ} cs [] s ≡ 0
       none [] s = refl
       none (c ∷ cs) s = refl
-  columns d c q n ws [] (A ∷ As) cs e h = absurd h
-  columns d c q n ws (z ∷ zs) [] cs e h = absurd h
-  columns d c q n ws (z ∷ zs) (A ∷ As) [] e h = absurd (omega (arith, e))
-  columns d c q n ws (z ∷ zs) (A ∷ As) (x ∷ cs) e h =
-      let op : Cochain → Cochain = scaled_operation p d c q in
+  columns n ws [] (A ∷ As) cs e h = absurd h
+  columns n ws (F ∷ Fs) [] cs e h = absurd h
+  columns n ws (F ∷ Fs) (A ∷ As) [] e h = absurd (omega (arith, e))
+  columns n ws (F ∷ Fs) (A ∷ As) (x ∷ cs) e h =
       let R : List ℕ = matrix_times p (length ws) As cs in
-      let k = columns d c q n ws zs As cs (omega (arith, e)) h.1 in
+      let k = columns n ws Fs As cs (omega (arith, e)) h.1 in
       let l : length A ≡ length R = h.0.count ∙ sym k.size in
       record {
         size = plus_scaled-length x A R l ∙ k.size;
         small = plus_scaled-small x A R;
-        rest = (spaces n).alike (λ s. (x * op z s + combination cs (map op zs) s) + negated p (combination (plus_scaled p x A R) ws s))
-            (λ s. (combination cs (map op zs) s + negated p (combination R ws s)) + x * (op z s + negated p (combination A ws s)))
-            (record { at = λ s on. Congruent_trans (Congruent_add (Congruent_refl (x * op z s + combination cs (map op zs) s)) (Congruent_scale (p - 1) (combination-plus x A R ws s l))) (Congruent_of (omega arith)) })
-            ((spaces n).plus x (λ s. combination cs (map op zs) s + negated p (combination R ws s)) (λ s. op z s + negated p (combination A ws s)) k.rest h.0.rest);
+        rest = (spaces n).alike (λ s. (x * F s + combination cs Fs s) + negated p (combination (plus_scaled p x A R) ws s))
+            (λ s. (combination cs Fs s + negated p (combination R ws s)) + x * (F s + negated p (combination A ws s)))
+            (record { at = λ s on. Congruent_trans (Congruent_add (Congruent_refl (x * F s + combination cs Fs s)) (Congruent_scale (p - 1) (combination-plus x A R ws s l))) (Congruent_of (omega arith)) })
+            ((spaces n).plus x (λ s. combination cs Fs s + negated p (combination R ws s)) (λ s. F s + negated p (combination A ws s)) k.rest h.0.rest);
+      }
+
+  -- a cochain that differs from a combination of cochains with coordinates by a coboundary
+  pub from_columns : (n : ℕ) (ws Fs : List Cochain) (As : List (List ℕ)) (cs : List ℕ) (F : Cochain) → length cs ≡ length Fs →
+      AllZip (λ column F. HasCoordinates facets n p ws F column) As Fs → IsCoboundary facets n p (λ s. F s + negated p (combination cs Fs s)) →
+      HasCoordinates facets n p ws F (matrix_times p (length ws) As cs)
+  from_columns n ws Fs As cs F e h b =
+      let x : Cochain = combination cs Fs in
+      let y : Cochain = combination (matrix_times p (length ws) As cs) ws in
+      let m = columns n ws Fs As cs e h in
+      record {
+        count = m.size;
+        small = m.small;
+        rest = (spaces n).alike (λ s. F s + negated p (y s)) (λ s. (F s + negated p (x s)) + 1 * (x s + negated p (y s)))
+            (record { at = λ s on. Congruent_sym (Congruent_from (add-negated p (x s) (above_one p field)) (omega arith)) })
+            ((spaces n).plus 1 (λ s. F s + negated p (x s)) (λ s. x s + negated p (y s)) b m.rest);
       }
 
   pub matrix-law : (d c q n : ℕ) (ms : List (List Bool)) (zs ws : List Cochain) (As : List (List ℕ)) → IsOrbitTable p ms → Each (IsCocycle facets q p) zs →
       AllZip (λ column z. HasCoordinates facets n p ws (scaled_operation p d c q z) column) As zs → (z : Cochain) (cs : List ℕ) → HasCoordinates facets q p zs z cs →
       HasCoordinates facets n p ws (scaled_operation p d c q z) (matrix_times p (length ws) As cs)
   matrix-law d c q n ms zs ws As orbits cocycles h z cs k =
-      let op : Cochain → Cochain = scaled_operation p d c q in
-      let x : Cochain = combination cs (map op zs) in
-      let y : Cochain = combination (matrix_times p (length ws) As cs) ws in
-      let m = columns d c q n ws zs As cs k.count h in
-      record {
-        count = m.size;
-        small = m.small;
-        rest = (spaces n).alike (λ s. op z s + negated p (y s)) (λ s. (op z s + negated p (x s)) + 1 * (x s + negated p (y s)))
-            (record { at = λ s on. Congruent_sym (Congruent_from (add-negated p (x s) (above_one p field)) (omega arith)) })
-            ((spaces n).plus 1 (λ s. op z s + negated p (x s)) (λ s. x s + negated p (y s)) (linearity-law d c q n ms zs z cs orbits cocycles k) m.rest);
-      }
+      from_columns n ws (map (scaled_operation p d c q) zs) As cs (scaled_operation p d c q z) (k.count ∙ sym (length-map zs (scaled_operation p d c q)))
+      (zip-map (λ column F. HasCoordinates facets n p ws F column) (scaled_operation p d c q) As zs h) (linearity-law d c q n ms zs z cs orbits cocycles k)
 
   -- products
 
@@ -274,6 +320,16 @@ module _ (p : ℕ) (field : IsField p) (facets : List (List ℕ)) where
       (cup-on-classes (IsWeakSimplex facets) p q k (extended q z) (extended k w) (parts q cs zs) (parts k ds ws) (weak-closed facets) (in_class q zs z cs cz hz) (in_class k ws w ds cw hw))
       (λ s on l. difference-same p (cup_product p q k z w s) (combination cs (map (λ a. combination ds (map (cup_product p q k a) ws)) zs) s) (cup (extended q z) (extended k w) s) (products (parts q cs zs) (parts k ds ws) s) (above_one p field)
       (cup-same q k z w s l) (products-same q k cs zs ds ws s l))
+
+  pub product-matrix : (q k n : ℕ) (zs ws us : List Cochain) (As : List (List ℕ)) → Each (IsCocycle facets q p) zs → Each (IsCocycle facets k p) ws →
+      AllZip (λ column u. HasCoordinates facets n p us u column) As (cochain_products p q k zs ws) → (z w : Cochain) (cs ds : List ℕ) → HasCoordinates facets q p zs z cs → HasCoordinates facets k p ws w ds →
+      HasCoordinates facets n p us (cup_product p q k z w) (matrix_times p (length us) As (coefficient_products cs ds))
+  product-matrix q k n zs ws us As cz cw h z w cs ds hz hw =
+      from_columns n us (cochain_products p q k zs ws) As (coefficient_products cs ds) (cup_product p q k z w) (products-length p q k cs ds zs ws hz.count hw.count) h
+      ((spaces n).alike (λ s. cup_product p q k z w s + negated p (combination (coefficient_products cs ds) (cochain_products p q k zs ws) s))
+      (λ s. cup_product p q k z w s + negated p (combination cs (map (λ a. combination ds (map (cup_product p q k a) ws)) zs) s))
+      (record { at = λ s on. Congruent_of (ap (λ j. cup_product p q k z w s + (p - 1) * j) (combination-products p q k cs ds zs ws s hz.count hw.count)) })
+      (bilinear-law q k n zs ws z w cs ds cz cw hz hw))
 
   pub product-closed : (q k n : ℕ) (a b : Cochain) → IsCocycle facets q p a → IsCocycle facets k p b → IsCocycle facets n p (cup_product p q k a b)
   product-closed q k n a b za zb = record {

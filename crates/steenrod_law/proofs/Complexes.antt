@@ -18,19 +18,7 @@ use Rattle.simplicial_law.specs.Integral.{CongruentInt, integral_coboundary}
 use Rattle.simplicial_law.specs.Simplices.{IsSimplex}
 use Rattle.steenrod_law.proofs.Forms.{IsCochain, IsFaceClosed, IsIntegralCocycle, IsWeakFace, drop, none, take}
 use Rattle.steenrod_law.proofs.WordCochains.{coboundary-cochain}
-use Rattle.steenrod_law.specs.Operations.{extended, residue, residue_cochain}
-
--- no number is below the one before it
-abbrev pub IsRising : List ℕ → Type 0
-IsRising [] = Unit {0}
-IsRising (v ∷ vs) = Each (λ w. v ≤ w) vs × IsRising vs
-
--- a simplex of the complex in which vertices may repeat
-pub record IsWeakSimplex (facets : List (List ℕ)) (f : List ℕ) : Type 0 where
-  pub rising : IsRising f
-  pub facet : List ℕ
-  pub listed : Among facet facets
-  pub within : Each (λ v. Among v facet) f
+use Rattle.steenrod_law.specs.Operations.{IsRising, IsWeakSimplex, extended, residue, residue_cochain}
 
 Each-weak : (P : ℕ → Type 0) (f s : List ℕ) → IsWeakFace f s → Each P s → Each P f
 Each-weak P _ s none h = tt

@@ -1,9 +1,10 @@
 -- The laws of this crate.
 use Rattle.std.proofs.Common.{◌≡◌, ℕ, zero, suc, ◌+◌, ◌-◌, ◌*◌, ◌≤◌, sym, ◌∙◌, ap, ap₂, arith}
 use Rattle.simplicial_law.proofs.Bases.{cocycles}
-use Rattle.steenrod_law.proofs.ClassLaws.{bilinear-law, linearity-law, matrix-law, product-closed, product-degree, pull_back-product}
+use Rattle.steenrod_law.proofs.ClassLaws.{bilinear-law, linearity-law, matrix-law, product-closed, product-degree, product-matrix, pull_back-product}
+use Rattle.steenrod_law.proofs.InducedMaps.{pull_back-coboundary, pull_back-cocycle, pull_back-matrix}
 use Rattle.steenrod_law.proofs.OperationLaws.{additivity-law, may_operation-closed, operation-degree, orbit-degree, orbit-subcomplex, pull_back-operation, representative-law, scaling-law, staircase-degree, staircase-subcomplex}
-use Rattle.steenrod_law.specs.Laws.{AdditivityLaw, ClosedLaw, DegreeLaw, LinearityLaw, OperationMatrixLaw, ProductLaw, PullBackLaw, RepresentativeLaw, ScalingLaw, SubcomplexLaw, TargetLaw}
+use Rattle.steenrod_law.specs.Laws.{AdditivityLaw, ClosedLaw, DegreeLaw, InducedMapLaw, LinearityLaw, OperationMatrixLaw, ProductLaw, PullBackLaw, RepresentativeLaw, ScalingLaw, SubcomplexLaw, TargetLaw}
 
 pub closed_law : ClosedLaw
 closed_law facets p d q n a field = may_operation-closed p field facets d q n a
@@ -41,6 +42,7 @@ pub product_law : ProductLaw
 product_law = record {
   closed = λ facets p q k n a b field. product-closed p field facets q k n a b;
   bilinear = λ facets p q k n zs ws z w cs ds field. bilinear-law p field facets q k n zs ws z w cs ds;
+  matrix = λ facets p q k n zs ws us columns field cz cw h. product-matrix p field facets q k n zs ws us columns cz cw h;
 }
 
 pub pull_back_law : PullBackLaw
@@ -64,4 +66,11 @@ target_law = record {
   squares = λ k q h. omega arith;
   powers = powers;
   bockstein_powers = λ p s q h k. (let a = powers p s q (omega arith) (omega arith) in let b = positive (q - 2 * s) (p - 1) (omega arith) (omega arith) in omega arith);
+}
+
+pub induced_map_law : InducedMapLaw
+induced_map_law = record {
+  coboundaries = λ f from to p q y field simplicial. pull_back-coboundary f from to p field simplicial q y;
+  cocycles = λ f from to p q a field simplicial. pull_back-cocycle f from to p field simplicial q a;
+  matrix = λ f from to p q zs ws columns field simplicial h. pull_back-matrix f from to p field simplicial q zs ws columns h;
 }

@@ -22,4 +22,5 @@ pub mod MayFamily
 pub mod Complexes
 pub mod OperationLaws
 pub mod ClassLaws
+pub mod InducedMaps
 pub mod LawProofs

@@ -24,7 +24,7 @@ use Rattle.steenrod_law.proofs.AdditiveMaps.{adds-zero}
 use Rattle.steenrod_law.proofs.Additivity.{additive}
 use Rattle.steenrod_law.proofs.Classes.{operation-mod}
 use Rattle.steenrod_law.proofs.ClosedValues.{closed}
-use Rattle.steenrod_law.proofs.Complexes.{IsWeakSimplex, coboundary-residues, extended-coboundary, extended-cochain, extended-cocycle, extended-simplex, residue_cochain-same, simplex_or_none, weak-closed, weak_of_simplex}
+use Rattle.steenrod_law.proofs.Complexes.{coboundary-residues, extended-coboundary, extended-cochain, extended-cocycle, extended-simplex, residue_cochain-same, simplex_or_none, weak-closed, weak_of_simplex}
 use Rattle.steenrod_law.proofs.Degrees.{of-upper, operation-size, orbit_sum-size, staircase_sum-size}
 use Rattle.steenrod_law.proofs.Faces.{operation-map}
 use Rattle.steenrod_law.proofs.Forms.{AreTerms, IsMayFamily, IsPrime, IsWeakFace, SurjectionTerm, drop, none, operation_of, take, value_over, word_sum}
@@ -36,7 +36,7 @@ use Rattle.steenrod_law.proofs.Staircase.{stair-alike, stair-sum}
 use Rattle.steenrod_law.proofs.ValuesOnFaces.{value-none-at}
 use Rattle.steenrod_law.proofs.WordBoundary.{some}
 use Rattle.steenrod_law.proofs.WordCochains.{over-same, over-sum}
-use Rattle.steenrod_law.specs.Operations.{extended, may_operation, orbit_primitive, pull_back, residue, residue_cochain, staircase_primitive}
+use Rattle.steenrod_law.specs.Operations.{IsWeakSimplex, extended, may_operation, orbit_primitive, pull_back, residue, residue_cochain, staircase_primitive}
 use Rattle.steenrod_law.specs.Values.{orbit_sum, staircase_sum, sum_above, sum_to, sum_value, word_cochains}
 use Rattle.steenrod_law.specs.Words.{HaveLength, IsOrbitTable, staircase}
 use Rattle.table_reduction_law.specs.MayElements.{may_element}

@@ -8,7 +8,7 @@ use Rattle.linear_law.specs.Lists.{Each}
 use Rattle.linear_law.specs.ReducedBases.{combination}
 use Rattle.simplicial_law.specs.Simplices.{IsSimplex}
 use Rattle.simplicial_law.specs.Cochains.{AgreesOnSimplices, Cochain, HasCoordinates, IsCoboundary, IsCocycle, coboundary}
-use Rattle.steenrod_law.specs.Operations.{cup_product, matrix_times, may_operation, orbit_primitive, power_degree, pull_back, scaled_operation, staircase_primitive}
+use Rattle.steenrod_law.specs.Operations.{IsSimplicial, cochain_products, coefficient_products, cup_product, matrix_times, may_operation, orbit_primitive, power_degree, pull_back, scaled_operation, staircase_primitive}
 use Rattle.simplicial_law.specs.Integral.{CongruentInt}
 use Rattle.steenrod_law.specs.Words.{IsOrbitTable, contraction, letter_degree, norm, orbit_words_of_2, orbit_words_of_3, orbit_words_of_5, staircase, step, turn, turn_back, turn_power, turn_sum, word_boundary}
 
@@ -104,7 +104,9 @@ OperationMatrixLaw = (facets : List (List ℕ)) (p d c q n : ℕ) (ms : List (Li
     (z : Cochain) (cs : List ℕ) → HasCoordinates facets q p zs z cs →
     HasCoordinates facets n p ws (scaled_operation p d c q z) (matrix_times p (length ws) columns cs)
 
--- The cup product of cocycles is a cocycle, and on classes it is bilinear.
+-- The cup product of cocycles is a cocycle, and on classes it is bilinear: the matrix of the products, with a
+-- column for each pair by the first and then the second, carries the products of the coordinates of two
+-- cocycles to the coordinates of their product.
 pub record ProductLaw : Type 0 where
   pub closed : (facets : List (List ℕ)) (p q k n : ℕ) (a b : Cochain) → IsField p → IsCocycle facets q p a →
       IsCocycle facets k p b → IsCocycle facets n p (cup_product p q k a b)
@@ -113,6 +115,11 @@ pub record ProductLaw : Type 0 where
       HasCoordinates facets q p zs z cs → HasCoordinates facets k p ws w ds →
       IsCoboundary facets n p (λ s. cup_product p q k z w s
       + negated p (combination cs (map (λ a. combination ds (map (cup_product p q k a) ws)) zs) s))
+  pub matrix : (facets : List (List ℕ)) (p q k n : ℕ) (zs ws us : List Cochain) (columns : List (List ℕ)) → IsField p →
+      Each (IsCocycle facets q p) zs → Each (IsCocycle facets k p) ws →
+      AllZip (λ column u. HasCoordinates facets n p us u column) columns (cochain_products p q k zs ws) →
+      (z w : Cochain) (cs ds : List ℕ) → HasCoordinates facets q p zs z cs → HasCoordinates facets k p ws w ds →
+      HasCoordinates facets n p us (cup_product p q k z w) (matrix_times p (length us) columns (coefficient_products cs ds))
 
 -- Operations and products commute with the pull-back along each map of vertices.
 pub record PullBackLaw : Type 0 where
@@ -127,3 +134,17 @@ pub record TargetLaw : Type 0 where
   pub squares : (k q : ℕ) → k ≤ q → (q + k) + (q - k) ≡ 2 * q
   pub powers : (p s q : ℕ) → 1 ≤ p → 2 * s ≤ q → (q + 2 * s * (p - 1)) + power_degree p s q ≡ p * q
   pub bockstein_powers : (p s q : ℕ) → 2 ≤ p → 2 * s < q → (q + 2 * s * (p - 1) + 1) + (power_degree p s q - 1) ≡ p * q
+
+-- The pull-back along an order-preserving simplicial map commutes with the coboundary, and takes cocycles to
+-- cocycles. Its matrix carries the coordinates of each cocycle to those of its pull-back, and commutes with
+-- the matrices of an operation.
+pub record InducedMapLaw : Type 0 where
+  pub coboundaries : (f : ℕ → ℕ) (from to : List (List ℕ)) (p q : ℕ) (y : Cochain) → IsField p → IsSimplicial f from to →
+      AgreesOnSimplices from (q + 1) p (coboundary p (pull_back f y)) (pull_back f (coboundary p y))
+  pub cocycles : (f : ℕ → ℕ) (from to : List (List ℕ)) (p q : ℕ) (a : Cochain) → IsField p → IsSimplicial f from to →
+      IsCocycle to q p a → IsCocycle from q p (pull_back f a)
+  pub matrix : (f : ℕ → ℕ) (from to : List (List ℕ)) (p q : ℕ) (zs ws : List Cochain) (columns : List (List ℕ)) → IsField p →
+      IsSimplicial f from to →
+      AllZip (λ column u. HasCoordinates from q p zs u column) columns (map (pull_back f) ws) →
+      (w : Cochain) (cs : List ℕ) → HasCoordinates to q p ws w cs →
+      HasCoordinates from q p zs (pull_back f w) (matrix_times p (length zs) columns cs)

@@ -1,9 +1,11 @@
 -- The operations on cochains of residues: May operations, squares, powers, Bockstein powers, products and
 -- pull-backs. A cochain of degree q gives a number to each simplex of degree q.
-use Rattle.std.specs.Prelude.{ℕ, ◌+◌, ◌-◌, ◌*◌, ◌%◌, ◌≡◌, Bool, not, cond, ◌==◌, ◌&&◌, List, [], ◌∷◌, length, map, ℤ, pos, negsuc, suc}
+use Rattle.std.specs.Prelude.{ℕ, ◌≤◌, ◌+◌, ◌-◌, ◌*◌, ◌%◌, ◌≡◌, Bool, not, cond, ◌==◌, ◌&&◌, List, [], ◌∷◌, flat_map, length, map, ℤ, pos, negsuc, suc}
 use Rattle.fp_field.specs.Element.{IsScale}
 use Rattle.signed_sum.specs.Lists.{is_degenerate, unless_empty}
 use Rattle.linear_law.specs.Congruence.{negated}
+use Rattle.linear_law.specs.Lists.{Among, Each}
+use Rattle.simplicial_law.specs.Simplices.{IsSimplex}
 use Rattle.simplicial_law.specs.Cochains.{Cochain}
 use Rattle.interval_cut_law.specs.Operations.{operation_value}
 use Rattle.table_reduction_law.specs.MayElements.{may_element}
@@ -63,6 +65,22 @@ cup_product p q k a b = residue_cochain p (operation_value 2 (1 ∷ 2 ∷ []) (e
 abbrev pub pull_back : (ℕ → ℕ) → Cochain → Cochain
 pull_back f a s = cond (is_degenerate (map f s)) 0 (a (map f s))
 
+-- no number is below the one before it
+abbrev pub IsRising : List ℕ → Type 0
+IsRising [] = Unit {0}
+IsRising (v ∷ vs) = Each (λ w. v ≤ w) vs × IsRising vs
+
+-- a simplex of the complex with these facets, in which vertices may repeat
+pub record IsWeakSimplex (facets : List (List ℕ)) (s : List ℕ) : Type 0 where
+  pub rising : IsRising s
+  pub facet : List ℕ
+  pub listed : Among facet facets
+  pub within : Each (λ v. Among v facet) s
+
+-- f is an order-preserving simplicial map from the complex with the facets `from` to that with the facets `to`
+abbrev pub IsSimplicial : (ℕ → ℕ) → List (List ℕ) → List (List ℕ) → Type 0
+IsSimplicial f from to = (n : ℕ) (s : List ℕ) → IsSimplex from n s → IsWeakSimplex to (map f s)
+
 -- the primitive of additivity, less its sign: the sum over the orbit words of the values on the
 -- cochains a and c of degree q. It has degree p * q - d - 1.
 abbrev pub orbit_primitive : ℕ → ℕ → ℕ → List (List Bool) → Cochain → Cochain → Cochain
@@ -84,3 +102,11 @@ abbrev pub matrix_times : ℕ → ℕ → List (List ℕ) → List ℕ → List 
 matrix_times p h [] cs = copies h 0
 matrix_times p h (column ∷ columns) [] = copies h 0
 matrix_times p h (column ∷ columns) (c ∷ cs) = plus_scaled p c column (matrix_times p h columns cs)
+
+-- the products of the coefficients, by the first list and then the second
+abbrev pub coefficient_products : List ℕ → List ℕ → List ℕ
+coefficient_products cs ds = flat_map (λ c. map (λ d. c * d) ds) cs
+
+-- the cup products of the cochains, by the first list and then the second
+abbrev pub cochain_products : ℕ → ℕ → ℕ → List Cochain → List Cochain → List Cochain
+cochain_products p q k zs ws = flat_map (λ z. map (λ w. cup_product p q k z w) ws) zs

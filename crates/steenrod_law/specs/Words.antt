@@ -108,7 +108,7 @@ pub record IsOrbitTable (p : ℕ) (ms : List (List Bool)) : Type 0 where
   pub once : (h : List Bool → ℤ) →
       all_words p h ≡ (h (copies p false) +ℤ h (copies p true)) +ℤ total (norm (λ l. 0) p h) ms
 
--- the orbit words of 2, 3 and 5
+-- The orbit words of 2, 3 and 5: the least turn of each orbit, where the first letter is the lowest bit.
 abbrev pub orbit_words_of_2 : List (List Bool)
 orbit_words_of_2 = (true ∷ false ∷ []) ∷ []
 
