@@ -5,22 +5,24 @@ use Rattle.std.specs.List.{AllZip}
 use Rattle.std.proofs.lemmas.Int.{ints}
 use Rattle.std.proofs.lemmas.Bool.{cases_Bool}
 use Rattle.std.proofs.lemmas.List.{length-map}
-use Rattle.linear_law.proofs.CongruenceLemmas.{Congruent_of, Congruent_sym, Congruent_trans}
+use Rattle.linear_law.proofs.CongruenceLemmas.{Congruent_add, Congruent_of, Congruent_refl, Congruent_scale, Congruent_sym, Congruent_trans}
 use Rattle.linear_law.specs.Congruence.{Congruent, IsField, negated}
+use Rattle.linear_law.specs.Lists.{Each}
 use Rattle.linear_law.specs.ReducedBases.{combination}
 use Rattle.signed_sum.proofs.SumLemmas.{fun_ext}
 use Rattle.signed_sum.specs.Lists.{is_degenerate, unless_empty}
 use Rattle.signed_sum.specs.Sums.{without_one}
-use Rattle.simplicial_law.proofs.Bases.{coboundaries}
+use Rattle.simplicial_law.proofs.Bases.{coboundaries, cocycles}
 use Rattle.simplicial_law.proofs.IntegralCongruence.{CongruentInt_of, CongruentInt_sym, CongruentInt_trans}
-use Rattle.simplicial_law.specs.Cochains.{AgreesOnSimplices, Cochain, HasCoordinates, IsCoboundary, IsCocycle, coboundary}
+use Rattle.simplicial_law.specs.Cochains.{AgreesOnSimplices, Cochain, HasCoordinates, IsCoboundary, IsCocycle, IsCohomologyBasis, coboundary}
 use Rattle.simplicial_law.specs.Integral.{CongruentInt, integral_coboundary}
 use Rattle.simplicial_law.specs.Simplices.{IsSimplex}
-use Rattle.steenrod_law.proofs.ClassLaws.{coboundary-vertex, from_columns}
+use Rattle.steenrod_law.proofs.ClassLaws.{coboundary-vertex, from_columns, matrix-law}
 use Rattle.steenrod_law.proofs.Complexes.{coboundary-extended, extended-cochain, simplex_of_weak}
-use Rattle.steenrod_law.proofs.OperationLaws.{above_one, pulled, to_residues}
+use Rattle.steenrod_law.proofs.OperationLaws.{above_one, may_operation-closed, pull_back-operation, pulled, to_residues, vertices}
 use Rattle.steenrod_law.proofs.WordCochains.{coboundary-cochain}
-use Rattle.steenrod_law.specs.Operations.{IsSimplicial, extended, matrix_times, pull_back}
+use Rattle.steenrod_law.specs.Operations.{IsSimplicial, extended, matrix_times, may_operation, pull_back, scaled_operation}
+use Rattle.steenrod_law.specs.Words.{IsOrbitTable}
 
 -- the coboundary at an image
 without_one-under : (f : ℕ → ℕ) (s : List ℕ) (h : List ℕ → ℤ) → without_one (map f s) h ≡ without_one s (λ g. h (map f g))
@@ -136,3 +138,52 @@ module _ (f : ℕ → ℕ) (from to : List (List ℕ)) (p : ℕ) (field : IsFiel
       ((coboundaries from q p (above_one p field)).alike (λ s. pull_back f w s + negated p (combination cs (map (pull_back f) ws) s)) (pull_back f (λ t. w t + negated p (combination cs ws t)))
       (record { at = λ s on. Congruent_of (ap (λ j. pull_back f w s + (p - 1) * j) (sym (pull_back-combination cs ws s)) ∙ sym (pull_back-minus w (combination cs ws) s)) })
       (pull_back-bound q (λ t. w t + negated p (combination cs ws t)) k.rest))
+
+  -- operations and induced matrices
+
+  scaled-cocycle : (ts : List (List ℕ)) (d c q n : ℕ) (a : Cochain) → IsCocycle ts q p a → IsCocycle ts n p (scaled_operation p d c q a)
+  scaled-cocycle ts d c q n a z =
+      let m = cocycles ts n p (above_one p field) in
+      m.alike (scaled_operation p d c q a) (λ s. 0 + c * may_operation p d q a s) (record { at = λ s on. Congruent_of (omega arith) })
+      (m.plus c (λ s. 0) (may_operation p d q a) m.zero_in (may_operation-closed p field ts d q n a z))
+
+  scaled-pull_back : (d c q n : ℕ) (a : Cochain) → AgreesOnSimplices from n p (pull_back f (scaled_operation p d c q a)) (scaled_operation p d c q (pull_back f a))
+  scaled-pull_back d c q n a = record {
+    at = λ s on.
+        Congruent_trans (Congruent_of (out s)) (Congruent_scale c (Congruent_sym (pull_back-operation p field f d q a s (vertices p field from n s on))));
+  }
+    where
+      out : (s : List ℕ) → pull_back f (scaled_operation p d c q a) s ≡ c * pull_back f (may_operation p d q a) s
+      out s = go (is_degenerate (map f s))
+        where
+          go : (b : Bool) → cond b 0 (c * may_operation p d q a (map f s)) ≡ c * cond b 0 (may_operation p d q a (map f s))
+          go true = omega arith
+          go false = refl
+
+  coordinates-alike : (n : ℕ) (us : List Cochain) (v w : Cochain) (cs : List ℕ) → AgreesOnSimplices from n p v w → HasCoordinates from n p us w cs → HasCoordinates from n p us v cs
+  coordinates-alike n us v w cs e h = record {
+    count = h.count;
+    small = h.small;
+    rest = (coboundaries from n p (above_one p field)).alike (λ s. v s + negated p (combination cs us s)) (λ s. w s + negated p (combination cs us s))
+        (record { at = λ s on. Congruent_add (e.at s on) (Congruent_refl (negated p (combination cs us s))) }) h.rest;
+  }
+
+  pub matrices-commute : (d c q n : ℕ) (ms : List (List Bool)) → IsOrbitTable p ms → (zs us zs' us' : List Cochain) (ops induced_q ops' induced_n : List (List ℕ)) →
+      Each (IsCocycle from q p) zs → IsCohomologyBasis from n p us → Each (IsCocycle to q p) zs' →
+      AllZip (λ column z. HasCoordinates from n p us (scaled_operation p d c q z) column) ops zs →
+      AllZip (λ column z. HasCoordinates to n p us' (scaled_operation p d c q z) column) ops' zs' →
+      AllZip (λ column u. HasCoordinates from q p zs u column) induced_q (map (pull_back f) zs') →
+      AllZip (λ column u. HasCoordinates from n p us u column) induced_n (map (pull_back f) us') →
+      map (λ column. matrix_times p (length us) induced_n column) ops' ≡ map (λ column. matrix_times p (length us) ops column) induced_q
+  matrices-commute d c q n ms orbits zs us [] us' ops [] [] induced_n cz basis cz' h h' g g' = refl
+  matrices-commute d c q n ms orbits zs us [] us' ops [] (a ∷ ops') induced_n cz basis cz' h h' g g' = absurd h'
+  matrices-commute d c q n ms orbits zs us [] us' ops (i ∷ induced_q) ops' induced_n cz basis cz' h h' g g' = absurd g
+  matrices-commute d c q n ms orbits zs us (z ∷ zs') us' ops induced_q [] induced_n cz basis cz' h h' g g' = absurd h'
+  matrices-commute d c q n ms orbits zs us (z ∷ zs') us' ops [] (a ∷ ops') induced_n cz basis cz' h h' g g' = absurd g
+  matrices-commute d c q n ms orbits zs us (z ∷ zs') us' ops (i ∷ induced_q) (a ∷ ops') induced_n cz basis cz' h h' g g' =
+      let v : Cochain = pull_back f (scaled_operation p d c q z) in
+      let left = pull_back-matrix n us us' induced_n g' (scaled_operation p d c q z) a h'.0 in
+      let right = matrix-law p field from d c q n ms zs us ops orbits cz h (pull_back f z) i g.0 in
+      let e = basis.only v (matrix_times p (length us) induced_n a) (matrix_times p (length us) ops i) (pull_back-cocycle n (scaled_operation p d c q z) (scaled-cocycle to d c q n z cz'.0)) left
+      (coordinates-alike n us v (scaled_operation p d c q (pull_back f z)) (matrix_times p (length us) ops i) (scaled-pull_back d c q n z) right) in
+      (λ j. e j ∷ matrices-commute d c q n ms orbits zs us zs' us' ops induced_q ops' induced_n cz basis cz'.1 h h'.1 g.1 g' j)

@@ -2,9 +2,9 @@
 use Rattle.std.proofs.Common.{◌≡◌, ℕ, zero, suc, ◌+◌, ◌-◌, ◌*◌, ◌≤◌, sym, ◌∙◌, ap, ap₂, arith}
 use Rattle.simplicial_law.proofs.Bases.{cocycles}
 use Rattle.steenrod_law.proofs.ClassLaws.{bilinear-law, linearity-law, matrix-law, product-closed, product-degree, product-matrix, pull_back-product}
-use Rattle.steenrod_law.proofs.InducedMaps.{pull_back-coboundary, pull_back-cocycle, pull_back-matrix}
+use Rattle.steenrod_law.proofs.InducedMaps.{matrices-commute, pull_back-coboundary, pull_back-cocycle, pull_back-matrix}
 use Rattle.steenrod_law.proofs.OperationLaws.{additivity-law, may_operation-closed, operation-degree, orbit-degree, orbit-subcomplex, pull_back-operation, representative-law, scaling-law, staircase-degree, staircase-subcomplex}
-use Rattle.steenrod_law.specs.Laws.{AdditivityLaw, ClosedLaw, DegreeLaw, InducedMapLaw, LinearityLaw, OperationMatrixLaw, ProductLaw, PullBackLaw, RepresentativeLaw, ScalingLaw, SubcomplexLaw, TargetLaw}
+use Rattle.steenrod_law.specs.Laws.{AdditivityLaw, ClosedLaw, DegreeLaw, InducedMapLaw, LinearityLaw, NaturalityLaw, OperationMatrixLaw, ProductLaw, PullBackLaw, RepresentativeLaw, ScalingLaw, SubcomplexLaw, TargetLaw}
 
 pub closed_law : ClosedLaw
 closed_law facets p d q n a field = may_operation-closed p field facets d q n a
@@ -74,3 +74,6 @@ induced_map_law = record {
   cocycles = λ f from to p q a field simplicial. pull_back-cocycle f from to p field simplicial q a;
   matrix = λ f from to p q zs ws columns field simplicial h. pull_back-matrix f from to p field simplicial q zs ws columns h;
 }
+
+pub naturality_law : NaturalityLaw
+naturality_law f from to p d c q n ms field orbits simplicial = matrices-commute f from to p field simplicial d c q n ms orbits

@@ -7,7 +7,7 @@ use Rattle.linear_law.specs.Congruence.{Congruent, IsField, negated}
 use Rattle.linear_law.specs.Lists.{Each}
 use Rattle.linear_law.specs.ReducedBases.{combination}
 use Rattle.simplicial_law.specs.Simplices.{IsSimplex}
-use Rattle.simplicial_law.specs.Cochains.{AgreesOnSimplices, Cochain, HasCoordinates, IsCoboundary, IsCocycle, coboundary}
+use Rattle.simplicial_law.specs.Cochains.{AgreesOnSimplices, Cochain, HasCoordinates, IsCoboundary, IsCocycle, IsCohomologyBasis, coboundary}
 use Rattle.steenrod_law.specs.Operations.{IsSimplicial, cochain_products, coefficient_products, cup_product, matrix_times, may_operation, orbit_primitive, power_degree, pull_back, scaled_operation, staircase_primitive}
 use Rattle.simplicial_law.specs.Integral.{CongruentInt}
 use Rattle.steenrod_law.specs.Words.{IsOrbitTable, contraction, letter_degree, norm, orbit_words_of_2, orbit_words_of_3, orbit_words_of_5, staircase, step, turn, turn_back, turn_power, turn_sum, word_boundary}
@@ -148,3 +148,16 @@ pub record InducedMapLaw : Type 0 where
       AllZip (λ column u. HasCoordinates from q p zs u column) columns (map (pull_back f) ws) →
       (w : Cochain) (cs : List ℕ) → HasCoordinates to q p ws w cs →
       HasCoordinates from q p zs (pull_back f w) (matrix_times p (length zs) columns cs)
+
+-- The matrices of an operation commute with induced matrices: for a map of complexes and bases of their
+-- cohomology in the degrees q and n, the induced matrix in degree n times each column of the operation on the
+-- target is the matrix of the operation on the source times the same column of the induced matrix in degree q.
+abbrev pub NaturalityLaw : Type 0
+NaturalityLaw = (f : ℕ → ℕ) (from to : List (List ℕ)) (p d c q n : ℕ) (ms : List (List Bool)) → IsField p → IsOrbitTable p ms →
+    IsSimplicial f from to → (zs us zs' us' : List Cochain) (ops induced_q ops' induced_n : List (List ℕ)) →
+    Each (IsCocycle from q p) zs → IsCohomologyBasis from n p us → Each (IsCocycle to q p) zs' →
+    AllZip (λ column z. HasCoordinates from n p us (scaled_operation p d c q z) column) ops zs →
+    AllZip (λ column z. HasCoordinates to n p us' (scaled_operation p d c q z) column) ops' zs' →
+    AllZip (λ column u. HasCoordinates from q p zs u column) induced_q (map (pull_back f) zs') →
+    AllZip (λ column u. HasCoordinates from n p us u column) induced_n (map (pull_back f) us') →
+    map (λ column. matrix_times p (length us) induced_n column) ops' ≡ map (λ column. matrix_times p (length us) ops column) induced_q

@@ -1,7 +1,7 @@
 //! The Steenrod operations on cochains and on classes: definitions and laws.
 #![tactic(auto)]
 
-ghost use Rattle.steenrod_law.specs.Laws.{AdditivityLaw, ClosedLaw, DegreeLaw, InducedMapLaw, LinearityLaw, OperationMatrixLaw, OrbitTables, ProductLaw, PullBackLaw, RepresentativeLaw, ScalingLaw, StaircaseLaw, SubcomplexLaw, TargetLaw, WordLaws};
+ghost use Rattle.steenrod_law.specs.Laws.{AdditivityLaw, ClosedLaw, DegreeLaw, InducedMapLaw, LinearityLaw, NaturalityLaw, OperationMatrixLaw, OrbitTables, ProductLaw, PullBackLaw, RepresentativeLaw, ScalingLaw, StaircaseLaw, SubcomplexLaw, TargetLaw, WordLaws};
 
 /// Words are a cyclic model.
 pub fn word_laws()
@@ -76,4 +76,9 @@ pub fn target_law()
 /// Induced maps: pull-backs of cocycles, and their matrices.
 pub fn induced_map_law()
     ensures { InducedMapLaw }
+{}
+
+/// Matrices of operations commute with induced matrices.
+pub fn naturality_law()
+    ensures { NaturalityLaw }
 {}
