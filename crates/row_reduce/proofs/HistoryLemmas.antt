@@ -70,7 +70,7 @@ added_zero p k fs d (g ∷ hs) x z h = Congruent_from (Congruent_add (Congruent_
 pub from_more : (p k : ℕ) (fs : List (ℕ → ℕ)) (f : ℕ → ℕ) (source : ℕ) (hs : List (ℕ × ℕ)) (v : ℕ → ℕ) → k ≤ length fs → IsFrom p k fs source hs v → IsFrom p k (fs ++ (f ∷ [])) source hs v
 from_more p k fs f source hs v b h = record { fits = h.fits; sum = λ d x. Congruent_trans (h.sum d x) (Congruent_of (ap (λ n. unit_vector source x + n) (sym (added_more p k fs f d hs x b h.fits)))) }
 
-entry_wider : (p k n : ℕ) → k ≤ n → (hs : List (ℕ × ℕ)) → Each (EntryFits p k) hs → Each (EntryFits p n) hs
+pub entry_wider : (p k n : ℕ) → k ≤ n → (hs : List (ℕ × ℕ)) → Each (EntryFits p k) hs → Each (EntryFits p n) hs
 entry_wider p k n b [] h = tt
 entry_wider p k n b (g ∷ hs) h = (record { inside = let q = h.0.inside in omega arith; small = h.0.small }, entry_wider p k n b hs h.1)
 

@@ -4,3 +4,4 @@ pub mod StoredLemmas
 pub mod StepLemmas
 pub mod ExpansionLemmas
 pub mod SolvedLemmas
+pub mod EchelonLemmas

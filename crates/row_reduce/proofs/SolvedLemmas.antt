@@ -13,7 +13,9 @@ use Rattle.row_reduce.specs.declared.Class.{Class}
 use Rattle.row_reduce.specs.declared.Stored.{Stored}
 use Rattle.row_reduce.specs.Stored.{stored_place}
 use Rattle.row_reduce.specs.Walk.{IsFrom, IsSolved, Reached, image_of, images_of, kernel_of, owned_in}
-use Rattle.row_reduce.specs.Expansion.{AreOlder, HistoryFits, IsVectorOf}
+use Rattle.row_reduce.specs.declared.EchelonRow.{EchelonRow}
+use Rattle.row_reduce.specs.Echelon.{AreEchelon, IsSolvedWhole}
+use Rattle.row_reduce.specs.Expansion.{AreOlder, HistoryFits, IsVectorOfClass}
 use Rattle.row_reduce.proofs.ExpansionLemmas.{zip_reversed}
 use Rattle.row_reduce.proofs.HistoryLemmas.{among_images}
 
@@ -50,12 +52,12 @@ module _ (p width : ℕ) (rows : List (List (ℕ × ℕ))) (skip : List ℕ) (cl
     is_row : IsRow p r
     below : k.place < length rows → IsBelow (length rows) r
 
-  pub solved : (found : List (List (ℕ × ℕ))) → AllZip (IsVectorOf p stored) classes found → IsSolved p width rows skip (reverse found) owner
+  pub solved : (found : List (List (ℕ × ℕ))) → AllZip (IsVectorOfClass p stored) classes found → IsSolved p width rows skip (reverse found) owner
   solved found h =
       let kernel = kernel_of classes reached.vectors [] in
       let all : AllZip IsSolution kernel (reverse found) =
       subst (AllZip IsSolution kernel) (append-nil (reverse found))
-      (zip_reversed (λ (c : Class p) v. IsFrom p (length stored) reached.sources c.place c.history.items v) (IsVectorOf p stored) IsSolution
+      (zip_reversed (λ (c : Class p) v. IsFrom p (length stored) reached.sources c.place c.history.items v) (IsVectorOfClass p stored) IsSolution
       (λ c v r mine is. record {
         vector = λ x. Congruent_sym (is.expanded.is reached.sources v reached.sources_are mine x);
         is_row = is.is_row;
@@ -94,3 +96,8 @@ module _ (p width : ℕ) (rows : List (List (ℕ × ℕ))) (skip : List ℕ) (cl
       among_there : (ss : List (Stored p)) (k y : ℕ) → k < length ss → ((d : Stored p) → (get_or ss k d).place ≡ y) → Among y (map stored_place ss)
       among_there [] k y b e = absurd (omega arith)
       among_there (s ∷ ss) k y b e = among_at (s ∷ ss) k y s b (e s)
+
+  pub solved_whole : (found : List (List (ℕ × ℕ))) (echelon : List (EchelonRow p)) → AllZip (IsVectorOfClass p stored) classes found → AreEchelon p width rows skip (kernel_of classes reached.vectors []) owner 0 echelon
+      → IsSolvedWhole p width rows skip (reverse found) owner echelon
+  unfolding solved
+  solved_whole found echelon h e = record { solved = solved found h; reduced = e }

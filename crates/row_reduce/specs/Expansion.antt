@@ -19,7 +19,7 @@ pub record Expanding (p : ℕ) (images : List (Stored p)) (place : ℕ) (history
   pub sum : (sources : List (ℕ → ℕ)) (v d : ℕ → ℕ) → AreSources p images sources → IsFrom p (length images) sources place history v
       → (x : ℕ) → Congruent p (v x) (value_in out x + weighted k weights sources d x)
 
--- `out` is the vector behind a class
+-- `out` is the vector behind what the given row at `place` and the history have become
 pub record IsExpanded (p : ℕ) (images : List (Stored p)) (place : ℕ) (history out : List (ℕ × ℕ)) : Type 0 where
   pub is : (sources : List (ℕ → ℕ)) (v : ℕ → ℕ) → AreSources p images sources → IsFrom p (length images) sources place history v
       → (x : ℕ) → Congruent p (v x) (value_in out x)
@@ -28,11 +28,14 @@ pub record IsExpanded (p : ℕ) (images : List (Stored p)) (place : ℕ) (histor
 abbrev pub HistoryFits : (p k : ℕ) → Class p → Type 0
 HistoryFits p k class = Each (EntryFits p k) class.history.items
 
--- `row` is the vector behind a class
-pub record IsVectorOf (p : ℕ) (images : List (Stored p)) (class : Class p) (row : List (ℕ × ℕ)) : Type 0 where
-  pub expanded : IsExpanded p images class.place class.history.items row
+-- `row` is the vector behind what the given row at `place` and the history have become
+pub record IsVectorOf (p : ℕ) (images : List (Stored p)) (place : ℕ) (history : List (ℕ × ℕ)) (row : List (ℕ × ℕ)) : Type 0 where
+  pub expanded : IsExpanded p images place history row
   pub is_row : IsRow p row
-  pub below : (count : ℕ) → AreNumbered count images → class.place < count → IsBelow count row
+  pub below : (count : ℕ) → AreNumbered count images → place < count → IsBelow count row
+
+abbrev pub IsVectorOfClass : (p : ℕ) → List (Stored p) → Class p → List (ℕ × ℕ) → Type 0
+IsVectorOfClass p images class row = IsVectorOf p images class.place class.history.items row
 
 -- each history names older rows
 pub record AreOlder (p : ℕ) (images : List (Stored p)) : Type 0 where

@@ -1,3 +1,4 @@
 pub mod Stored
 pub mod Walk
 pub mod Expansion
+pub mod Echelon

@@ -5,7 +5,7 @@ ghost use Rattle.fp_field.specs.Served.{served};
 ghost use Rattle.row_reduce.specs.Stored.{EntryFits, IsClear, IsDense};
 ghost use Rattle.sparse_rows.specs.Rows.{IsBelow};
 ghost use Rattle.row_reduce.specs.Walk.{AreNumbered, IsSolved, SkipsFit};
-ghost use Rattle.row_reduce.specs.Expansion.{AreOlder, Expanding, HistoryFits, IsExpanded, IsVectorOf};
+ghost use Rattle.row_reduce.specs.Expansion.{AreOlder, Expanding, HistoryFits, IsExpanded, IsVectorOf, IsVectorOfClass};
 
 use crate::reducing::add_row;
 use crate::walking::{walk_rows, zero_values};
@@ -60,7 +60,7 @@ fn move_all<const P: u32>(
 /// Lets a history spread over what it arose from.
 fn expand_into<const P: u32>(
     images: &[Stored<P>],
-    class: &Class<P>,
+    history: &[(u32, Fp<P>)],
     weights: &mut [Fp<P>],
     out: &mut Vec<(u32, Fp<P>)>,
 ) -> Result<(), AllocError>
@@ -68,37 +68,37 @@ fn expand_into<const P: u32>(
     requires older { AreOlder P images.now }
     requires full { length weights.old ≡ length images.now }
     requires clear { IsClear weights.old }
-    requires start { out.old.items ≡ (class.now.place, 1) ∷ [] }
-    requires fits { HistoryFits P (length images.now) class.now }
-    ensures below { OnOk result ((count : ℕ) → AreNumbered count images.now → class.now.place < count → IsBelow count out.new.items) }
-    ensures expanded { OnOk result (IsExpanded P images.now class.now.place class.now.history.items out.new.items) }
+    requires fits { Each (EntryFits P (length images.now)) history.now }
+    ensures below { OnOk result ((count : ℕ) → AreNumbered count images.now → IsBelow count out.old.items → IsBelow count out.new.items) }
+    ensures expanded { OnOk result ((place : ℕ) → out.old.items ≡ (place, 1) ∷ [] → IsExpanded P images.now place history.now out.new.items) }
 {
-    add_row(weights, class.history.as_slice(), Fp::new(1));
+    add_row(weights, history, Fp::new(1));
     move_all(images, weights, out)?;
     Ok(())
 }
 
-/// The vector behind a class, as a row.
-fn expand<const P: u32>(
+/// The vector behind what a given row and this history have become, as a row.
+pub fn expand<const P: u32>(
     alloc: Global,
     images: &[Stored<P>],
-    class: &Class<P>,
+    place: u32,
+    history: &[(u32, Fp<P>)],
 ) -> Result<Row<P>, AllocError>
     requires prime { IsTrue (served P) }
     requires older { AreOlder P images.now }
-    requires fits { HistoryFits P (length images.now) class.now }
-    ensures { IfOk result (IsVectorOf P images.now class.now) }
+    requires fits { Each (EntryFits P (length images.now)) history.now }
+    ensures { IfOk result (IsVectorOf P images.now place history.now) }
 {
     let mut weights = zero_values(alloc, images.len())?;
     let mut out = Vec::new(alloc);
-    out.push((class.place, Fp::new(1)))?;
-    expand_into(images, class, weights.as_mut_slice(), &mut out)?;
+    out.push((place, Fp::new(1)))?;
+    expand_into(images, history, weights.as_mut_slice(), &mut out)?;
     let row = Row::from_pairs(alloc, out.as_slice())?;
     Ok(row)
 }
 
 /// The vectors behind the classes.
-fn vectors<const P: u32>(
+pub fn vectors<const P: u32>(
     alloc: Global,
     images: &[Stored<P>],
     classes: &[Class<P>],
@@ -106,11 +106,12 @@ fn vectors<const P: u32>(
     requires prime { IsTrue (served P) }
     requires older { AreOlder P images.now }
     requires fits { Each (HistoryFits P (length images.now)) classes.now }
-    ensures { IfOk result (λ v. AllZip (IsVectorOf P images.now) classes.now v.items) }
+    ensures { IfOk result (λ v. AllZip (IsVectorOfClass P images.now) classes.now v.items) }
 {
     let mut rows = Vec::new(alloc);
     for class in classes {
-        rows.push(expand(alloc, images, class)?)?;
+        let row = expand(alloc, images, class.place, class.history.as_slice())?;
+        rows.push(row)?;
     }
     Ok(rows)
 }
@@ -128,7 +129,7 @@ pub fn kernel_and_leads<const P: u32>(
 ) -> Result<(Vec<Row<P>>, Vec<u32>), AllocError>
     requires prime { IsTrue (served P) }
     requires few { length rows.now < 2 ^ 32 }
-    requires narrow { width < 2 ^ 32 }
+    requires narrow { width ≤ 2 ^ 32 }
     requires within { Each (IsBelow width) rows.now }
     requires skips { SkipsFit P width rows.now skip.now }
     ensures { IfOk result (λ r. IsSolved P width rows.now skip.now r.0.items r.1.items) }

@@ -1,12 +1,15 @@
 //! Elimination over a prime field, on sparse rows.
 #![tactic(auto)]
 
+mod echelon;
 mod expanding;
 mod reducing;
 mod walking;
 
+pub use echelon::kernel_and_echelon;
 pub use expanding::kernel_and_leads;
 use fp_field::Fp;
+use sparse_rows::Row;
 
 /// A row that the walk has left, with its lead and how it arose.
 #[derive(Drop)]
@@ -41,4 +44,26 @@ pub struct Walk<const P: u32> {
     pub stored: Vec<Stored<P>>,
     /// For each place the number of the stored row with this lead, plus 1; 0 where there is none.
     pub owner: Vec<u32>,
+}
+
+/// A row of a reduced echelon list.
+#[derive(Drop)]
+pub struct EchelonRow<const P: u32> {
+    /// The least place of the row, where it is 1.
+    pub pivot: u32,
+    /// The row.
+    pub row: Row<P>,
+    /// Coefficients of given rows that give it.
+    pub combination: Row<P>,
+}
+
+/// The kernel and the image of given rows.
+#[derive(Drop)]
+pub struct Solution<const P: u32> {
+    /// The combinations of the rows that are zero.
+    pub kernel: Vec<Row<P>>,
+    /// For each place a number that is 0 exactly where no row of the span starts.
+    pub owner: Vec<u32>,
+    /// The reduced echelon list of the span.
+    pub echelon: Vec<EchelonRow<P>>,
 }

@@ -44,7 +44,7 @@ fn take_rest<const P: u32>(
     start: usize,
 ) -> Result<Vec<(u32, Fp<P>)>, AllocError>
     requires prime { IsTrue (served P) }
-    requires narrow { length sum.old < 2 ^ 32 }
+    requires narrow { length sum.old ≤ 2 ^ 32 }
     requires dense { IsDense P sum.old }
     requires before { (y : ℕ) → y < start → slice_index sum.old y ≡ 0 }
     ensures { IfOk result (λ r. IsRest P sum.old sum.new r.items) }
@@ -86,7 +86,7 @@ fn take_left<const P: u32>(
     start: usize,
 ) -> Result<Vec<(u32, Fp<P>)>, AllocError>
     requires prime { IsTrue (served P) }
-    requires narrow { length sum.old < 2 ^ 32 }
+    requires narrow { length sum.old ≤ 2 ^ 32 }
     requires dense { IsDense P sum.old }
     requires before { (y : ℕ) → y < start → slice_index sum.old y ≡ 0 }
     requires fits { Each (EntryFits P (length sum.old)) row.now }
@@ -110,7 +110,7 @@ fn store<const P: u32>(
     history: Vec<(u32, Fp<P>)>,
 ) -> Result<Stored<P>, AllocError>
     requires prime { IsTrue (served P) }
-    requires narrow { length sum.old < 2 ^ 32 }
+    requires narrow { length sum.old ≤ 2 ^ 32 }
     requires dense { IsDense P sum.old }
     requires before { (y : ℕ) → y < t → slice_index sum.old y ≡ 0 }
     requires inside { t < length sum.old }
@@ -161,7 +161,7 @@ fn step<const P: u32>(
 ) -> Result<(), AllocError>
     requires prime { IsTrue (served P) }
     requires few { length rows.now < 2 ^ 32 }
-    requires narrow { length sum.old < 2 ^ 32 }
+    requires narrow { length sum.old ≤ 2 ^ 32 }
     requires within { Each (IsBelow (length sum.old)) rows.now }
     requires inside { low < length rows.now }
     requires taken { slice_index skip.now low ≡ 0 }
@@ -197,7 +197,7 @@ fn walk_down<const P: u32>(
 ) -> Result<(), AllocError>
     requires prime { IsTrue (served P) }
     requires few { length rows.now < 2 ^ 32 }
-    requires narrow { length sum.old < 2 ^ 32 }
+    requires narrow { length sum.old ≤ 2 ^ 32 }
     requires within { Each (IsBelow (length sum.old)) rows.now }
     requires skips { SkipsFit P (length sum.old) rows.now skip.now }
     requires clear { IsClear sum.old }
@@ -240,7 +240,7 @@ pub fn walk_rows<const P: u32>(
 ) -> Result<Walk<P>, AllocError>
     requires prime { IsTrue (served P) }
     requires few { length rows.now < 2 ^ 32 }
-    requires narrow { width < 2 ^ 32 }
+    requires narrow { width ≤ 2 ^ 32 }
     requires within { Each (IsBelow width) rows.now }
     requires skips { SkipsFit P width rows.now skip.now }
     ensures { IfOk result (λ r. Reached P width rows.now (owned_in skip.now) 0 r.classes.items r.stored.items r.owner.items) }

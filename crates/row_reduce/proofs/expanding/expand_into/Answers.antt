@@ -1,21 +1,17 @@
-use Rattle.std.proofs.Common.{ℕ, length, get_or, List, sym, subst, ap}
+use Rattle.std.proofs.Common.{ℕ, length, get_or, List, sym, subst}
 use Rattle.linear_law.specs.Congruence.{Congruent}
 use Rattle.linear_law.proofs.CongruenceLemmas.{Congruent_add, Congruent_mod, Congruent_mul, Congruent_of, Congruent_refl, Congruent_trans}
-use Rattle.sparse_rows.specs.Rows.{IsBelow, value_in}
+use Rattle.sparse_rows.specs.Rows.{value_in}
 use Rattle.row_reduce.specs.Expansion.{Expanding}
 use Rattle.row_reduce.proofs.ExpansionLemmas.{expand_start}
 use Rattle.row_reduce.proofs.expanding.expand_into.Goals as goal
 
-pub returns-clause-below : goal.returns-clause-below
-returns-clause-below g c = λ count numbered inside.
-    c.in_ok-move_all.ensures.below count numbered (subst (IsBelow count) (sym c.requires.start) (inside, tt))
-
 pub returns-clause-expanded : goal.returns-clause-expanded
-returns-clause-expanded g c =
+returns-clause-expanded g c = λ place start.
     let p = g.row.P in
-    let class = c.args.class.now in
+    let history = c.args.history.now in
     let one : Congruent p c.new.result 1 = Congruent_trans (Congruent_of c.new.ensures) (Congruent_mod p 1) in
-    c.in_ok-move_all.ensures.expanded class.place class.history.items
-    (subst (λ (o : List (ℕ × ℕ)). Expanding p c.args.images.now class.place class.history.items c.add_row.new.sum o (length c.args.images.now)) (sym c.requires.start)
-    (expand_start p c.args.images.now class.place class.history.items c.args.weights.now c.add_row.new.sum c.requires.clear c.add_row.ensures.dense c.requires.fits
-    (λ j. Congruent_trans (c.add_row.ensures.sum j) (Congruent_add (Congruent_refl (get_or c.args.weights.now j 0)) (Congruent_mul one (Congruent_of (ap (λ (r : List (ℕ × ℕ)). value_in r j) c.as_slice.ensures.value)))))))
+    c.in_ok-move_all.ensures.expanded place history
+    (subst (λ (o : List (ℕ × ℕ)). Expanding p c.args.images.now place history c.add_row.new.sum o (length c.args.images.now)) (sym start)
+    (expand_start p c.args.images.now place history c.args.weights.now c.add_row.new.sum c.requires.clear c.add_row.ensures.dense c.requires.fits
+    (λ j. Congruent_trans (c.add_row.ensures.sum j) (Congruent_add (Congruent_refl (get_or c.args.weights.now j 0)) (Congruent_mul one (Congruent_refl (value_in history j)))))))

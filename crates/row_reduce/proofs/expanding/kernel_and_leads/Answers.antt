@@ -4,7 +4,7 @@ use Rattle.linear_law.specs.Lists.{Each}
 use Rattle.row_reduce.specs.declared.Class.{Class}
 use Rattle.row_reduce.specs.declared.Stored.{Stored}
 use Rattle.row_reduce.specs.Walk.{IsSolved}
-use Rattle.row_reduce.specs.Expansion.{AreOlder, HistoryFits, IsVectorOf}
+use Rattle.row_reduce.specs.Expansion.{AreOlder, HistoryFits, IsVectorOfClass}
 use Rattle.row_reduce.proofs.SolvedLemmas.{histories_fit, older, solved}
 use Rattle.row_reduce.proofs.expanding.kernel_and_leads.Goals as goal
 
@@ -24,8 +24,8 @@ returns g c =
     let p = g.row.P in
     let w = c.in_ok-classes.field-0 in
     let found = c.in_ok-kernel.kernel.items in
-    let all : AllZip (IsVectorOf p w.stored.items) w.classes.items found =
-    subst (λ (cs : List (Class p)). AllZip (IsVectorOf p w.stored.items) cs found) c.as_slice-2.ensures.value
-    (subst (λ (ss : List (Stored p)). AllZip (IsVectorOf p ss) c.as_slice-2.result.now found) c.as_slice.ensures.value c.in_ok-kernel.ensures) in
+    let all : AllZip (IsVectorOfClass p w.stored.items) w.classes.items found =
+    subst (λ (cs : List (Class p)). AllZip (IsVectorOfClass p w.stored.items) cs found) c.as_slice-2.ensures.value
+    (subst (λ (ss : List (Stored p)). AllZip (IsVectorOfClass p ss) c.as_slice-2.result.now found) c.as_slice.ensures.value c.in_ok-kernel.ensures) in
     subst (λ (rs : List (List (ℕ × ℕ))). IsSolved p c.args.width c.args.rows.now c.args.skip.now rs w.owner.items) (sym c.reverse.ensures.items)
     (solved p c.args.width c.args.rows.now c.args.skip.now w.classes.items w.stored.items w.owner.items c.in_ok-classes.ensures found all)

@@ -1,15 +1,15 @@
-use Rattle.std.proofs.Common.{◌≡◌, ◌+◌, List, ◌∷◌, [], ◌++◌, take, sym, ap, ◌∙◌, subst}
+use Rattle.std.proofs.Common.{ℕ, ◌≡◌, ◌+◌, List, ◌∷◌, [], ◌++◌, take, sym, ap, ◌∙◌, subst}
 use Rattle.std.proofs.lemmas.List.{take_more}
 use Rattle.std.specs.List.{AllZip}
 use Rattle.linear_law.proofs.AlikeLemmas.{zip_push}
 use Rattle.row_reduce.specs.declared.Class.{Class}
-use Rattle.row_reduce.specs.Expansion.{IsVectorOf}
+use Rattle.row_reduce.specs.Expansion.{IsVectorOf, IsVectorOfClass}
 use Rattle.row_reduce.proofs.expanding.vectors.Goals as goal
 
 pub loop-class-preserved : goal.loop-class-preserved
 loop-class-preserved g c =
     let p = g.row.P in
-    let R = IsVectorOf p c.args.images.now in
+    let R = IsVectorOfClass p c.args.images.now in
     let classes = c.args.classes.now in
     let i = c.loop-class.class-index in
     let class : Class p = c.class-item.result in
@@ -17,4 +17,5 @@ loop-class-preserved g c =
     take_more classes i class c.loop-class-test.true ∙ ap (λ (x : Class p). take i classes ++ (x ∷ [])) (sym c.class-item.is) in
     subst (λ (cs : List (Class p)). AllZip R cs c.push.new.self.items) (sym more)
     (subst (AllZip R (take i classes ++ (class ∷ []))) (sym c.in_ok-push.ensures.items)
-    (zip_push R (take i classes) c.loop-class.rows.items class c.in_ok-expand.field-0 c.loop-class.invariant c.in_ok-expand.ensures))
+    (zip_push R (take i classes) c.loop-class.rows.items class c.in_ok-row.row c.loop-class.invariant
+    (subst (λ (h : List (ℕ × ℕ)). IsVectorOf p c.args.images.now class.place h c.in_ok-row.row) c.as_slice.ensures.value c.in_ok-row.ensures)))

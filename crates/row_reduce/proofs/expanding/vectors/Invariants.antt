@@ -1,7 +1,7 @@
 use Rattle.std.proofs.Common.{take}
 use Rattle.std.specs.List.{AllZip}
-use Rattle.row_reduce.specs.Expansion.{IsVectorOf}
+use Rattle.row_reduce.specs.Expansion.{IsVectorOfClass}
 use Rattle.row_reduce.proofs.expanding.vectors.Given as goal
 
 abbrev pub invariant-loop-class : goal.invariant-loop-class
-invariant-loop-class g l = AllZip (IsVectorOf g.row.P l.images) (take l.class-index l.classes) l.rows.items
+invariant-loop-class g l = AllZip (IsVectorOfClass g.row.P l.images) (take l.class-index l.classes) l.rows.items

@@ -1,4 +1,4 @@
-use Rattle.std.proofs.Common.{◌≡◌, suc, ◌<◌, length, get_or, List, ◌∷◌, [], ◌++◌, arith, refl, sym, ◌∙◌, subst, add-one, lit<, ◌^◌}
+use Rattle.std.proofs.Common.{◌≡◌, suc, ◌<◌, ◌≤◌, length, get_or, List, ◌∷◌, [], ◌++◌, arith, refl, sym, ◌∙◌, subst, add-one, lit<, ◌^◌}
 use Rattle.fp_field.proofs.ServedLemmas.{served_field}
 use Rattle.linear_law.specs.Lists.{Each}
 use Rattle.row_reduce.specs.declared.Stored.{Stored}
@@ -77,7 +77,7 @@ store-requires g c =
     (subst (λ (is : List (Stored p)). IsReducedTo p (length c.load-start.new.sum) is owner c.load-start.new.sum left c.in_ok-t.t c.in_ok-t.history.items) c.as_slice.ensures.value c.in_ok-t.ensures) in
     let s : Stored p = record { place = 0; factor = 0; row = c.in_ok-t.history; source = 0; history = c.in_ok-t.history } in
     let b : c.in_ok-t.t < width = let d = done.inside in let f = c.if-t-sum.false in omega arith in
-    let narrow : length left < 2 ^ 32 = subst (λ n. n < 2 ^ 32) (sym full) c.requires.narrow in
+    let narrow : length left ≤ 2 ^ 32 = subst (λ n. n ≤ 2 ^ 32) (sym full) c.requires.narrow in
     let inside : c.in_ok-t.t < length left = subst (λ n. c.in_ok-t.t < n) (sym full) b in
     let fits : Each (EntryFits p (length left)) c.as_slice-row.result.now = subst (λ n. Each (EntryFits p n) c.as_slice-row.result.now) (sym full)
     (entries_fit p width rows c.args.low c.as_slice-row.result.now c.index-rows-low.result c.as_slice-row.ensures.same c.index-rows-low.is c.requires.inside c.requires.within c.as_slice-row.ensures.row) in (

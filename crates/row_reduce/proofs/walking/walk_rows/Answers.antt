@@ -1,4 +1,4 @@
-use Rattle.std.proofs.Common.{◌≡◌, ◌<◌, ◌^◌, length, List, [], rules, sym, subst, lit<}
+use Rattle.std.proofs.Common.{◌≡◌, ◌≤◌, ◌^◌, length, List, [], rules, sym, subst, lit<}
 use Rattle.linear_law.specs.Lists.{Each}
 use Rattle.fp_field.proofs.ServedLemmas.{served_field}
 use Rattle.row_reduce.specs.declared.Stored.{Stored}
@@ -34,7 +34,7 @@ walk_down-requires g c =
               (
                 c.requires.few,
                 (
-                  subst (λ n. n < 2 ^ 32) (sym full) c.requires.narrow,
+                  subst (λ n. n ≤ 2 ^ 32) (sym full) c.requires.narrow,
                   (subst (λ n. Each (IsBelow n) rows) (sym full) c.requires.within, (subst (λ n. SkipsFit p n rows c.args.skip.now) (sym full) c.requires.skips, (empty, s))),
                 ),
               ),

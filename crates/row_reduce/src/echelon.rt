@@ -1,0 +1,167 @@
+ghost use Rattle.std.specs.Prelude.{◌≡◌, ℕ, ◌+◌, ◌*◌, ◌%◌, ◌^◌, ◌<◌, ◌≤◌, length, reverse, List, [], OnOk, IfOk, IsTrue};
+ghost use Rattle.linear_law.specs.Congruence.{Congruent, negated};
+ghost use Rattle.linear_law.specs.Lists.{Each};
+ghost use Rattle.fp_field.specs.Served.{served};
+ghost use Rattle.sparse_rows.specs.Rows.{IsBelow, IsRow, value_in};
+ghost use Rattle.row_reduce.specs.declared.Class.{Class};
+ghost use Rattle.row_reduce.specs.Stored.{EntryFits, Owns};
+ghost use Rattle.row_reduce.specs.Walk.{Reached, SkipsFit, kernel_of, owned_in};
+ghost use Rattle.row_reduce.specs.Expansion.{AreOlder};
+ghost use Rattle.row_reduce.specs.Echelon.{AreEchelon, IsMadeFrom, IsSolvedWhole, cleared, combination_of, row_of};
+
+use crate::expanding::{expand, vectors};
+use crate::walking::walk_rows;
+use crate::{EchelonRow, Solution, Stored, Walk};
+use fp_field::Fp;
+use sparse_rows::Row;
+use std::alloc::{AllocError, Global};
+
+/// Clears a row at the pivot of a reduced row, and does the same with the combinations.
+fn clear_one<const P: u32>(
+    given: &Row<P>,
+    reduced: &EchelonRow<P>,
+    row: &mut Row<P>,
+    combination: &mut Row<P>,
+) -> Result<(), AllocError>
+    requires { IsTrue (served P) }
+    ensures row { OnOk result ((y : ℕ) → Congruent P (value_in row.new y) (value_in row.old y + negated P (value_in given.now reduced.now.pivot) * value_in reduced.now.row y)) }
+    ensures combination { OnOk result ((x : ℕ) → Congruent P (value_in combination.new x) (value_in combination.old x + negated P (value_in given.now reduced.now.pivot) * value_in reduced.now.combination x)) }
+{
+    let by = given.at(reduced.pivot).neg();
+    if by.value() != 0 {
+        row.add_scaled(&reduced.row, by)?;
+        combination.add_scaled(&reduced.combination, by)?;
+    }
+    Ok(())
+}
+
+/// Adds to a row, and to its combination, the reduced rows, each times minus the value of `given` at its
+/// pivot.
+pub fn clear<const P: u32>(
+    given: &Row<P>,
+    done: &[EchelonRow<P>],
+    row: &mut Row<P>,
+    combination: &mut Row<P>,
+) -> Result<(), AllocError>
+    requires { IsTrue (served P) }
+    ensures row { OnOk result ((y : ℕ) → Congruent P (value_in row.new y) (cleared row_of done.now (value_in given.now) (value_in row.old) y)) }
+    ensures combination { OnOk result ((x : ℕ) → Congruent P (value_in combination.new x) (cleared combination_of done.now (value_in given.now) (value_in combination.old) x)) }
+{
+    for reduced in done {
+        clear_one(given, reduced, row, combination)?;
+    }
+    Ok(())
+}
+
+/// A multiple of a row.
+pub fn multiple<const P: u32>(alloc: Global, row: &Row<P>, by: Fp<P>) -> Result<Row<P>, AllocError>
+    requires { IsTrue (served P) }
+    ensures sum { IfOk result (λ r. (k : ℕ) → value_in r k ≡ (by.entry * value_in row.now k) % P) }
+    ensures row { IfOk result (λ r. IsRow P r) }
+{
+    let mut product = Row::new(alloc);
+    product.add_scaled(row, by)?;
+    let _ = product.as_slice();
+    Ok(product)
+}
+
+/// The canonical row of a stored one, where those of all later leads are done.
+fn canonical_row<const P: u32>(
+    alloc: Global,
+    images: &[Stored<P>],
+    stored: &Stored<P>,
+    done: &[EchelonRow<P>],
+) -> Result<EchelonRow<P>, AllocError>
+    requires prime { IsTrue (served P) }
+    requires older { AreOlder P images.now }
+    requires fits { Each (EntryFits P (length images.now)) stored.now.history.items }
+    ensures { IfOk result (IsMadeFrom P images.now stored.now done.now) }
+{
+    let given = Row::from_pairs(alloc, stored.row.as_slice())?;
+    let mut row = given.copy()?;
+    let mut combination = expand(alloc, images, stored.source, stored.history.as_slice())?;
+    clear(&given, done, &mut row, &mut combination)?;
+    let by = stored.factor.neg();
+    let canonical = multiple(alloc, &row, by)?;
+    let source = multiple(alloc, &combination, by)?;
+    Ok(EchelonRow {
+        pivot: stored.place,
+        row: canonical,
+        combination: source,
+    })
+}
+
+/// Makes the canonical row of the lead at a place, if it is one.
+fn reduce_at<const P: u32>(
+    alloc: Global,
+    images: &[Stored<P>],
+    owner: &[u32],
+    at: usize,
+    done: &mut Vec<EchelonRow<P>>,
+) -> Result<(), AllocError>
+    requires prime { IsTrue (served P) }
+    requires older { AreOlder P images.now }
+    requires owns { Owns (length owner.now) images.now owner.now }
+    requires inside { at < length owner.now }
+    ensures { OnOk result ((width : ℕ) (rows : List (List (ℕ × ℕ))) (skip : List ℕ) (classes : List (Class P)) (reached : Reached P width rows (owned_in skip) 0 classes images.now owner.now) → AreEchelon P width rows skip (kernel_of classes reached.vectors []) owner.now (at + 1) (reverse done.old.items) → AreEchelon P width rows skip (kernel_of classes reached.vectors []) owner.now at (reverse done.new.items)) }
+{
+    let owned = owner[at];
+    if owned != 0 {
+        let stored = &images[owned as usize - 1];
+        let row = canonical_row(alloc, images, stored, done.as_slice())?;
+        done.push(row)?;
+    }
+    Ok(())
+}
+
+/// Makes the canonical rows, from the last lead to the first.
+fn reduce_down<const P: u32>(
+    alloc: Global,
+    images: &[Stored<P>],
+    owner: &[u32],
+    done: &mut Vec<EchelonRow<P>>,
+) -> Result<(), AllocError>
+    requires prime { IsTrue (served P) }
+    requires older { AreOlder P images.now }
+    requires owns { Owns (length owner.now) images.now owner.now }
+    requires empty { done.old.items ≡ [] }
+    ensures { OnOk result ((width : ℕ) (rows : List (List (ℕ × ℕ))) (skip : List ℕ) (classes : List (Class P)) (reached : Reached P width rows (owned_in skip) 0 classes images.now owner.now) → AreEchelon P width rows skip (kernel_of classes reached.vectors []) owner.now 0 (reverse done.new.items)) }
+{
+    for count in 0..owner.len() {
+        reduce_at(alloc, images, owner, owner.len() - 1 - count, done)?;
+    }
+    Ok(())
+}
+
+/// The kernel, the leads and the reduced echelon list of the rows, as of `kernel_and_leads`. Each echelon
+/// row comes with a combination of the rows that gives it; it is 0 at each row that is the first of some
+/// combination that is zero. Time grows with the square of the rank, and with what is written.
+pub fn kernel_and_echelon<const P: u32>(
+    alloc: Global,
+    rows: &[Row<P>],
+    width: usize,
+    skip: &[u32],
+) -> Result<Solution<P>, AllocError>
+    requires prime { IsTrue (served P) }
+    requires few { length rows.now < 2 ^ 32 }
+    requires narrow { width ≤ 2 ^ 32 }
+    requires within { Each (IsBelow width) rows.now }
+    requires skips { SkipsFit P width rows.now skip.now }
+    ensures { IfOk result (λ r. IsSolvedWhole P width rows.now skip.now r.kernel.items r.owner.items r.echelon.items) }
+{
+    let Walk {
+        classes,
+        stored,
+        owner,
+    } = walk_rows(alloc, rows, width, skip)?;
+    let mut kernel = vectors(alloc, stored.as_slice(), classes.as_slice())?;
+    kernel.reverse();
+    let mut echelon = Vec::new(alloc);
+    reduce_down(alloc, stored.as_slice(), owner.as_slice(), &mut echelon)?;
+    echelon.reverse();
+    Ok(Solution {
+        kernel,
+        owner,
+        echelon,
+    })
+}
