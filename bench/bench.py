@@ -1,0 +1,153 @@
+#!/usr/bin/env python3
+"""Time and peak memory of `comch basis` on inputs of growing size.
+
+usage: bench/bench.py PROGRAM [PRIME] [GROUP ..]
+
+PROGRAM is the built program (crates/comch/out/comch, after `rt run` in crates/comch), PRIME is 2, 3
+or 5 (default 2), and the groups are torus, random, dense, sphere, wide and strip (default: all).
+
+Each input is made here, written to the program's standard input, and run RUNS times. One line is
+printed for each: simplices, bytes of input and of output, the least of the processor seconds, the
+peak of the resident memory, how time and memory grew from the line before (the exponent b in
+"cost ~ simplices^b"), and the peak as a multiple of input plus output. Absolute times vary with
+the machine and with what else it does; the ratios tell more.
+"""
+
+import itertools
+import math
+import os
+import random
+import subprocess
+import sys
+import tempfile
+import time
+
+RUNS = 3
+
+
+def torus(count):
+    """The torus with `count` vertices and facets {i, i+1, i+3}, {i, i+2, i+3} modulo `count`."""
+    for i in range(count):
+        for step in (1, 2):
+            yield sorted({i, (i + step) % count, (i + 3) % count})
+
+
+def random_triangles(vertices, per_vertex, seed):
+    """A random complex of degree 2: distinct triangles, `per_vertex` for each vertex."""
+    source = random.Random(seed)
+    found = set()
+    while len(found) < vertices * per_vertex:
+        found.add(tuple(sorted(source.sample(range(vertices), 3))))
+    return sorted(found)
+
+
+def sphere(vertices):
+    """The boundary of the simplex with this many vertices."""
+    return itertools.combinations(range(vertices), vertices - 1)
+
+
+def strip(triangles):
+    """A strip of triangles, which is contractible."""
+    for i in range(triangles):
+        yield (i, i + 1, i + 2)
+
+
+def wide(facets):
+    """Disjoint facets of 13 vertices."""
+    for i in range(facets):
+        yield range(13 * i, 13 * i + 13)
+
+
+def text_of(prime, facets):
+    lines = ["comch 1", f"prime {prime}", "complex x"]
+    lines += ["facet " + " ".join(map(str, facet)) for facet in facets]
+    lines.append("end")
+    return ("\n".join(lines) + "\n").encode()
+
+
+def count_simplices(facets):
+    found = set()
+    for facet in facets:
+        for size in range(1, len(facet) + 1):
+            found.update(itertools.combinations(facet, size))
+    return len(found)
+
+
+# name, facets; the torus of the `sample` family with N is the one with N + 6 vertices
+GROUPS = {
+    "torus": [(f"torus {m}", lambda m=m: torus(m)) for m in (100, 500, 1000, 4000, 15000)],
+    "random": [(f"random {v}", lambda v=v: random_triangles(v, 4, 1)) for v in (160, 220, 260)],
+    "dense": [(f"dense {v}", lambda v=v: random_triangles(v, 40, 1)) for v in (160, 220, 260)],
+    "sphere": [(f"sphere {k - 2}", lambda k=k: sphere(k)) for k in (9, 11, 13, 15)],
+    "wide": [(f"wide {k}", lambda k=k: wide(k)) for k in (1, 3, 12)],
+    "strip": [(f"strip {k}", lambda k=k: strip(k)) for k in (3000, 12000, 24000)],
+}
+
+
+def peak_of(pid):
+    """The peak of the resident memory so far in kilobytes, or 0 where the process has ended."""
+    try:
+        with open(f"/proc/{pid}/status") as status:
+            for line in status:
+                if line.startswith("VmHWM"):
+                    return int(line.split()[1])
+    except (FileNotFoundError, ProcessLookupError):
+        pass
+    return 0
+
+
+def run(program, prime, text):
+    """Processor seconds, peak kilobytes, bytes of output and exit status of one run.
+
+    The peak is read while the program runs: what the kernel tells of a child that has ended counts
+    the memory of this script too.
+    """
+    with tempfile.TemporaryFile() as source, tempfile.TemporaryFile() as sink:
+        source.write(text)
+        source.seek(0)
+        child = subprocess.Popen([program, "basis"], stdin=source, stdout=sink)
+        peak = 0
+        while True:
+            peak = max(peak, peak_of(child.pid))
+            pid, status, usage = os.wait4(child.pid, os.WNOHANG)
+            if pid:
+                break
+            time.sleep(0.0005)
+        child.returncode = os.waitstatus_to_exitcode(status)
+        return usage.ru_utime + usage.ru_stime, peak, sink.seek(0, os.SEEK_END), child.returncode
+
+
+def exponent(new, old, n, m):
+    if old <= 0 or new <= 0 or n == m:
+        return "    -"
+    return f"{math.log(new / old) / math.log(n / m):5.2f}"
+
+
+def main():
+    if len(sys.argv) < 2:
+        sys.exit(__doc__)
+    program = os.path.abspath(sys.argv[1])
+    prime = int(sys.argv[2]) if len(sys.argv) > 2 else 2
+    groups = sys.argv[3:] or list(GROUPS)
+    print(f"basis at {prime}; {os.cpu_count()} processors; least of {RUNS} runs")
+    print(f"{'input':14} {'simplices':>9} {'in kB':>8} {'out kB':>8} {'seconds':>8} {'grows':>5} {'peak MB':>8} {'grows':>5} {'peak/io':>8}")
+    for group in groups:
+        last = None
+        for name, make in GROUPS[group]:
+            facets = [tuple(facet) for facet in make()]
+            text = text_of(prime, facets)
+            size = count_simplices(facets)
+            results = [run(program, prime, text) for _ in range(RUNS)]
+            seconds = min(r[0] for r in results)
+            peak = max(r[1] for r in results)
+            out = results[0][2]
+            status = results[0][3]
+            grows = ("    -", "    -") if last is None else (
+                exponent(seconds, last[1], size, last[0]), exponent(peak, last[2], size, last[0]))
+            print(f"{name:14} {size:9} {len(text) / 1000:8.1f} {out / 1000:8.1f} {seconds:8.3f} {grows[0]} {peak / 1000:8.1f} {grows[1]} {peak * 1024 / (len(text) + out):8.1f}"
+                  + ("" if status == 0 else f"  status {status}"), flush=True)
+            last = (size, seconds, peak)
+
+
+if __name__ == "__main__":
+    main()
