@@ -1,4 +1,7 @@
-ghost use Rattle.std.specs.Prelude.{◌≡◌, ◌<◌, ◌≤◌, None, IfSome, length};
+ghost use Rattle.std.specs.Prelude.{◌≡◌, ◌<◌, ◌≤◌, None, IfOk, IfSome, length, take};
+ghost use Rattle.std.specs.Io.{ReadsAtMost, WritesAtMost};
+ghost use Rattle.std.specs.Io.KnownBytes.{Appends, ReadConsumes, WriteAppends};
+ghost use Rattle.comch_io.specs.Causes.{HasCause};
 
 use crate::{Failed, Sink, Source};
 use std::io::{Read, Write};
@@ -25,7 +28,14 @@ impl<R: Read> Source for StdSource<R> {
 
     ghost faults = { λ s. s.faults };
 
-    fn read(&mut self, into: &mut [u8]) -> Result<usize, Failed> {
+    fn read(&mut self, into: &mut [u8]) -> Result<usize, Failed>
+        ensures bound { ReadsAtMost result into.new }
+        ensures bytes { ReadConsumes None None result into.new }
+        ensures cause { HasCause self.old.faults self.new.faults result }
+
+        // The call is passed on: what the reader gives is what it answers.
+        ensures passed { ReadConsumes (R.remaining self.old.inner) (R.remaining self.new.inner) result into.new }
+    {
         match self.inner.read(into) {
             Ok(count) => Ok(count),
             Err(_) => {
@@ -57,6 +67,8 @@ impl<W: Write> StdSink<W> {
         ensures bound { IfSome result (λ k. k ≤ length piece.now) }
         ensures moves { IfSome result (λ k. 0 < length piece.now → 0 < k) }
         ensures faults { self.new.faults ≡ self.old.faults }
+        ensures passed { IfSome result (λ k.
+            Appends (W.contents self.old.inner) (W.contents self.new.inner) (take k piece.now)) }
     {
         let count = self.inner.write(piece).ok()?;
         self.inner.flush().ok()?;
@@ -72,7 +84,16 @@ impl<W: Write> Sink for StdSink<W> {
 
     ghost faults = { λ s. s.faults };
 
-    fn write(&mut self, piece: &[u8]) -> Result<usize, Failed> {
+    fn write(&mut self, piece: &[u8]) -> Result<usize, Failed>
+        ensures bound { WritesAtMost result piece.now }
+        ensures moves { IfOk result (λ k. 0 < length piece.now → 0 < k) }
+        ensures bytes { WriteAppends None None result piece.now }
+        ensures cause { HasCause self.old.faults self.new.faults result }
+
+        // The call is passed on: what the writer took is what it answers.
+        ensures passed { IfOk result (λ k.
+            Appends (W.contents self.old.inner) (W.contents self.new.inner) (take k piece.now)) }
+    {
         match self.pass(piece) {
             Some(count) => Ok(count),
             None => {
