@@ -12,7 +12,8 @@ use Rattle.signed_sum.specs.Sums.{without_one}
 use Rattle.simplicial_law.proofs.IntegralCongruence.{CongruentInt-neg, CongruentInt-signed, CongruentInt-sum, CongruentInt_from, CongruentInt_of, CongruentInt_refl, CongruentInt_sym, CongruentInt_trans}
 use Rattle.simplicial_law.specs.Integral.{CongruentInt, HasDegree, integral_coboundary}
 use Rattle.steenrod_law.proofs.AdditiveMaps.{adds-coboundary, adds-neg, adds-over, adds-scale, adds-signed, adds-zero}
-use Rattle.steenrod_law.proofs.Binomials.{difference, difference-prime, sum_below}
+use Rattle.steenrod_law.proofs.Binomials.{difference, difference-prime}
+use Rattle.table_reduction_law.proofs.PowerPairs.{sum_below}
 use Rattle.steenrod_law.proofs.ClosedValues.{closed-law}
 use Rattle.steenrod_law.proofs.Degrees.{of-power}
 use Rattle.steenrod_law.proofs.Forms.{AreTerms, IsFaceClosed, IsIntegralCocycle, IsMayFamily, IsPrime, SurjectionTerm, boundary_over, operation_of, value_over, word_sum}

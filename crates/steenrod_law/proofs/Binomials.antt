@@ -1,98 +1,29 @@
 -- Binomial coefficients modulo a prime.
-use Rattle.std.proofs.Common.{◌≡◌, ℕ, zero, suc, ◌+◌, ◌-◌, ◌*◌, ◌%◌, ◌≤◌, ◌<◌, refl, sym, ◌∙◌, ap, arith, subst, ◌⊎◌, inl, inr}
+use Rattle.std.proofs.Common.{◌≡◌, ℕ, zero, suc, ◌+◌, ◌*◌, ◌%◌, ◌<◌, refl, sym, ◌∙◌, ap, arith, subst, ◌⊎◌, inl, inr}
 use Rattle.std.specs.Prelude.{ℤ, pos, ◌+ℤ◌, ◌*ℤ◌, neg_ℤ}
-use Rattle.std.proofs.Math.IntN.{zero-*ℤ, *ℤ_comm, suc_ℤ-*ℤ, pos-*ℤ-pos}
+use Rattle.std.proofs.Math.IntN.{zero-*ℤ, *ℤ_comm, pos-*ℤ-pos}
 use Rattle.std.proofs.lemmas.Int.{ints}
-use Rattle.std.proofs.lemmas.Bool.{cases_lt}
-use Rattle.signed_sum.proofs.Ring.{add-mul, neg-mul}
+use Rattle.signed_sum.proofs.Ring.{add-mul, neg-mul, one-mul}
 use Rattle.signed_sum.proofs.SignLemmas.{signed-+, signed-neg, signed-parity, signed-signed}
 use Rattle.signed_sum.specs.Signs.{signed}
 use Rattle.simplicial_law.proofs.IntegralCongruence.{CongruentInt-neg, CongruentInt-signed, CongruentInt-sum, CongruentInt-times, CongruentInt_from, CongruentInt_multiple, CongruentInt_of, CongruentInt_refl, CongruentInt_trans}
 use Rattle.simplicial_law.specs.Integral.{CongruentInt}
 use Rattle.steenrod_law.proofs.AdditiveMaps.{adds-neg}
-use Rattle.steenrod_law.proofs.ClosedValues.{closed}
 use Rattle.steenrod_law.proofs.Forms.{IsPrime}
 use Rattle.steenrod_law.proofs.Primes.{two-or-odd}
 use Rattle.steenrod_law.proofs.Staircase.{sign-two}
-
--- a prime that divides a product divides a factor
-
-record Common (P : ℕ → Type 0) (x y : ℕ) : Type 0 where
-  g : ℕ
-  holds : P g
-  m : ℕ
-  n : ℕ
-  first : x ≡ m * g
-  second : y ≡ n * g
-
-common : (P : ℕ → Type 0) → ((a b : ℕ) → P (a + b) → P a → P b) → (f x y : ℕ) → x + y ≤ f → P x → P y → Common P x y
-common P closed f zero y le px py = record { g = y; holds = py; m = 0; n = 1; first = omega arith; second = omega arith }
-common P closed f (suc x) zero le px py = record { g = suc x; holds = px; m = 1; n = 0; first = omega arith; second = omega arith }
-common P closed zero (suc x) (suc y) le px py = absurd (omega (arith, le))
-common P closed (suc f) (suc x) (suc y) le px py =
-    elim (cases_lt (suc x) (suc y)) [
-      | inl h ↦
-          let e : suc x + (suc y - suc x) ≡ suc y = omega arith in
-          let r = common P closed f (suc x) (suc y - suc x) (omega arith) px (closed (suc x) (suc y - suc x) (subst P (sym e) py) px) in
-          let a = r.first in
-          let b = r.second in
-          record { g = r.g; holds = r.holds; m = r.m; n = r.m + r.n; first = a; second = omega arith }
-      | inr h ↦
-          let e : suc y + (suc x - suc y) ≡ suc x = omega arith in
-          let r = common P closed f (suc x - suc y) (suc y) (omega arith) (closed (suc y) (suc x - suc y) (subst P (sym e) px) py) py in
-          let a = r.first in
-          let b = r.second in
-          record { g = r.g; holds = r.holds; m = r.m + r.n; n = r.n; first = omega arith; second = b }
-    ]
-
-pub times-one : (z : ℤ) → pos 1 *ℤ z ≡ z
-times-one z = suc_ℤ-*ℤ (pos 0) z ∙ ap (λ y. y +ℤ z) (zero-*ℤ z) ∙ none z
-  where
-    none : (z : ℤ) → pos 0 +ℤ z ≡ z
-    none z = omega (arith, ints)
-
-euclid : (p a : ℕ) (z : ℤ) → IsPrime p → CongruentInt p (pos a *ℤ z) (pos 0) → ((n : ℕ) × (a ≡ n * p)) ⊎ CongruentInt p z (pos 0)
-euclid p a z prime h =
-    let r = common (λ e. CongruentInt p (pos e *ℤ z) (pos 0)) closed (a + p) a p (omega arith) h (CongruentInt_trans (CongruentInt_of (*ℤ_comm (pos p) z)) (CongruentInt_multiple p z)) in
-    let two = prime.two in
-    elim (prime.only r.n r.g (sym r.second)) [
-      | inl e ↦ inl (r.m, r.first ∙ (let q : r.g ≡ p = sym (r.second ∙ ap (λ j. j * r.g) e ∙ one_times r.g) in ap (λ j. r.m * j) q))
-      | inr e ↦
-          inr
-          (let q : r.g ≡ 1 = unit p r.g two (sym (r.second ∙ ap (λ j. j * r.g) e)) in
-          CongruentInt_trans (CongruentInt_of (sym (ap (λ j. pos j *ℤ z) q ∙ times-one z))) r.holds)
-    ]
-  where
-    closed : (a b : ℕ) → CongruentInt p (pos (a + b) *ℤ z) (pos 0) → CongruentInt p (pos a *ℤ z) (pos 0) → CongruentInt p (pos b *ℤ z) (pos 0)
-    closed a b h k =
-        let e = add-mul (pos a) (pos b) z in
-        CongruentInt_from
-        (CongruentInt-sum h (CongruentInt-neg k)) (omega (arith, ints))
-
-    one_times : (n : ℕ) → 1 * n ≡ n
-    one_times n = omega arith
-
-    unit : (p g : ℕ) → 2 ≤ p → p * g ≡ p → g ≡ 1
-    unit p zero h e = absurd (omega arith)
-    unit p (suc zero) h e = refl
-    unit p (suc (suc g)) h e = absurd (omega (arith, h, e))
+use Rattle.table_reduction_law.proofs.PowerPairs.{sum_below}
+use Rattle.table_reduction_law.specs.Counts.{binomial}
 
 -- binomial coefficients
 
-pub binomial : ℕ → ℕ → ℕ
-binomial n zero = 1
-binomial zero (suc k) = 0
-binomial (suc n) (suc k) = binomial n k + binomial n (suc k)
-
 absorb : (n k : ℕ) → suc k * binomial (suc n) (suc k) ≡ suc n * binomial n k
-unfolding binomial
 absorb zero zero = refl
 absorb zero (suc k) = omega arith
 absorb (suc n) zero = let h = absorb n zero in omega arith
 absorb (suc n) (suc k) = let h = absorb n (suc k) in let g = absorb n k in omega arith
 
 choose-over : (n e : ℕ) → binomial n (suc (n + e)) ≡ 0
-unfolding binomial
 choose-over zero e = refl
 choose-over (suc n) e =
     let a = choose-over n e in
@@ -104,7 +35,6 @@ choose-over (suc n) e =
     omega arith
 
 choose-top : (n : ℕ) → binomial n n ≡ 1
-unfolding binomial
 choose-top zero = refl
 choose-top (suc n) = let a = choose-top n in let b = choose-over n 0 in let q : n + 0 ≡ n = omega arith in let c = ap (λ j. binomial n (suc j)) q in omega arith
 
@@ -115,11 +45,7 @@ choose-none n k prime lt =
     let e : pos (suc k) *ℤ z ≡ pos (binomial n k) *ℤ pos (suc n) =
     pos-*ℤ-pos (suc k) (binomial (suc n) (suc k)) ∙ ap pos (absorb n k) ∙ sym (pos-*ℤ-pos (suc n) (binomial n k)) ∙ *ℤ_comm (pos (suc n)) (pos (binomial n k)) in
     let h : CongruentInt (suc n) (pos (suc k) *ℤ z) (pos 0) = CongruentInt_trans (CongruentInt_of e) (CongruentInt_multiple (suc n) (pos (binomial n k))) in
-    elim (euclid (suc n) (suc k) z prime h) [ inl q ↦ absurd (small q.0 (suc k) (suc n) q.1 lt (omega arith)) | inr q ↦ q ]
-  where
-    small : (m a p : ℕ) → a ≡ m * p → a < p → 1 ≤ a → ⊥
-    small zero a p e l h = omega (arith, e, h)
-    small (suc m) a p e l h = omega (arith, e, l)
+    prime.cancel (suc k) z (omega arith) lt h
 
 -- sums with binomial coefficients
 
@@ -151,8 +77,8 @@ weighted-same p b c (suc m) f h =
     (weighted-same p (λ k. b (suc k)) (λ k. c (suc k)) m (λ k. f (suc k)) (λ k l. h (suc k) (omega arith)))
 
 weighted-binomial : (n e : ℕ) (f : ℕ → ℤ) → weighted (λ k. pos (binomial n k)) (suc (n + e)) f ≡ triangle_sum n f
-unfolding weighted binomial
-weighted-binomial zero e f = let a = times-one (f 0) in let q : zero + e ≡ e = omega arith in let b = ap (λ j. weighted (λ k. pos 0) j (λ k. f (suc k))) q ∙ weighted-none e (λ k. f (suc k)) in omega (arith, ints)
+unfolding weighted
+weighted-binomial zero e f = let a = one-mul (f 0) in let q : zero + e ≡ e = omega arith in let b = ap (λ j. weighted (λ k. pos 0) j (λ k. f (suc k))) q ∙ weighted-none e (λ k. f (suc k)) in omega (arith, ints)
 weighted-binomial (suc n) e f =
     let g : ℕ → ℤ = λ k. f (suc k) in
     let q1 : suc n + e ≡ suc (n + e) = omega arith in
@@ -183,7 +109,7 @@ last-one p c (suc n) f h =
 
 -- the p-th binomial sum has two terms
 pub binomial-prime : (p : ℕ) (f : ℕ → ℤ) → IsPrime p → CongruentInt p (triangle_sum p f) (f 0 +ℤ f p)
-unfolding weighted binomial
+unfolding weighted
 binomial-prime zero f prime = absurd (let t = prime.two in omega arith)
 binomial-prime (suc n) f prime =
     let g : ℕ → ℤ = λ k. f (suc k) in
@@ -191,20 +117,16 @@ binomial-prime (suc n) f prime =
     let w : ℤ = weighted (λ k. pos (binomial (suc n) (suc k))) (suc n) g in
     CongruentInt_trans
     (CongruentInt_of (sym (weighted-binomial (suc n) 0 f) ∙ ap (λ j. weighted (λ k. pos (binomial (suc n) k)) j f) q))
-    (CongruentInt-sum (CongruentInt_of (times-one (f 0)))
+    (CongruentInt-sum (CongruentInt_of (one-mul (f 0)))
     (CongruentInt_trans
     (last-one (suc n) (λ k. pos (binomial (suc n) (suc k))) n g (λ k l. choose-none n k prime (omega arith)))
-    (CongruentInt_of (ap (λ j. pos j *ℤ f (suc n)) (choose-top (suc n)) ∙ times-one (f (suc n))))))
+    (CongruentInt_of (ap (λ j. pos j *ℤ f (suc n)) (choose-top (suc n)) ∙ one-mul (f (suc n))))))
 
 -- differences
 
 abbrev pub difference : ℕ → (ℕ → ℤ) → ℤ
 difference zero a = a 0
 difference (suc n) a = difference n (λ k. a (suc k)) +ℤ neg_ℤ (difference n a)
-
-abbrev pub sum_below : ℕ → (ℕ → ℤ) → ℤ
-sum_below zero a = pos 0
-sum_below (suc n) a = sum_below n a +ℤ a n
 
 pub sum-front : (n : ℕ) (a : ℕ → ℤ) → sum_below (suc n) a ≡ a 0 +ℤ sum_below n (λ k. a (suc k))
 sum-front zero a = omega (arith, ints)
@@ -224,7 +146,7 @@ difference-binomial (suc n) a =
     omega (arith, ints)
 
 sign-times : (k : ℕ) (z : ℤ) → signed k (pos 1) *ℤ z ≡ signed k z
-sign-times zero z = times-one z
+sign-times zero z = one-mul z
 sign-times (suc k) z = neg-mul (signed k (pos 1)) z ∙ ap neg_ℤ (sign-times k z)
 
 sign-twice : (k : ℕ) (z : ℤ) → signed k (signed k z) ≡ z
@@ -245,7 +167,6 @@ signs-sum (suc m) n a =
 
 -- the coefficients below the prime are alternating signs
 choose-sign : (n k : ℕ) → IsPrime (suc n) → k < suc n → CongruentInt (suc n) (pos (binomial n k)) (signed k (pos 1))
-unfolding binomial
 choose-sign n zero prime lt = CongruentInt_refl (pos 1)
 choose-sign n (suc k) prime lt =
     let h = choose-sign n k prime (omega arith) in

@@ -1,14 +1,14 @@
 -- Cochains with whole values on the simplices that a test K tells, and classes of them: forms for proofs.
-use Rattle.std.proofs.Common.{Bool, ◌≡◌, ℕ, zero, suc, ◌+◌, ◌*◌, ◌%◌, ◌≤◌, ◌⊎◌, List, [], ◌∷◌, map, length}
+use Rattle.std.proofs.Common.{Bool, ◌≡◌, ℕ, zero, suc, ◌+◌, ◌%◌, ◌<◌, ◌≤◌, ◌⊎◌, List, [], ◌∷◌, map, length}
 use Rattle.std.specs.Prelude.{ℤ, pos, ◌+ℤ◌, ◌*ℤ◌, neg_ℤ}
 use Rattle.interval_cut_law.specs.Operations.{operation_value}
+use Rattle.signed_sum.specs.Permutations.{cycle, turned}
 use Rattle.signed_sum.specs.Sums.{IsNormalized, total, value_at}
 use Rattle.simplicial_law.specs.Integral.{CongruentInt, HasDegree, integral_coboundary}
 use Rattle.steenrod_law.specs.Values.{sum_value}
 use Rattle.steenrod_law.specs.Words.{copies}
 use Rattle.surjection_law.specs.Boundary.{caesura_count, surjection_boundary}
 use Rattle.surjection_law.specs.Surjections.{IsOnto}
-use Rattle.table_reduction_law.specs.MayElements.{cycle, turned}
 
 abbrev pub SurjectionTerm : Type 0
 SurjectionTerm = List ℕ × ℤ
@@ -21,10 +21,11 @@ value_over x h = value_at h x
 abbrev pub word_sum : List (List Bool) → (List Bool → ℤ) → ℤ
 word_sum ms h = total h ms
 
--- p is a prime
+-- what the proofs use of a prime
 pub record IsPrime (p : ℕ) : Type 0 where
   pub two : 2 ≤ p
-  pub only : (a b : ℕ) → a * b ≡ p → (a ≡ 1) ⊎ (a ≡ p)
+  pub parity : (p ≡ 2) ⊎ (p % 2 ≡ 1)
+  pub cancel : (a : ℕ) (z : ℤ) → 1 ≤ a → a < p → CongruentInt p (pos a *ℤ z) (pos 0) → CongruentInt p z (pos 0)
 
 -- each term takes exactly the values 1 to p and has d caesuras
 abbrev pub AreTerms : ℕ → ℕ → List SurjectionTerm → Type 0

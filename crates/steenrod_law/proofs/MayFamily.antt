@@ -7,7 +7,7 @@ use Rattle.signed_sum.proofs.SumLemmas.{fun_ext}
 use Rattle.signed_sum.specs.Lists.{is_degenerate}
 use Rattle.signed_sum.specs.Sums.{value_at}
 use Rattle.steenrod_law.proofs.AdditiveMaps.{adds-neg, adds-zero}
-use Rattle.steenrod_law.proofs.Binomials.{sum_below}
+use Rattle.table_reduction_law.proofs.PowerPairs.{sum_below}
 use Rattle.steenrod_law.proofs.Degrees.{caesuras-count}
 use Rattle.steenrod_law.proofs.Forms.{AreTerms, IsMayFamily, SurjectionTerm, boundary_over, turned_total, value_over}
 use Rattle.steenrod_law.proofs.WordCochains.{over-sum}

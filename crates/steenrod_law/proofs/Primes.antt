@@ -1,48 +1,51 @@
--- Primes.
-use Rattle.std.proofs.Common.{◌≡◌, ℕ, zero, suc, ◌*◌, ◌/◌, ◌%◌, ◌<◌, ◌≤◌, ◌⊎◌, inl, inr, refl, sym, ◌∙◌, ap, arith}
+-- What the proofs use of a prime, from inverses modulo p.
+use Rattle.std.proofs.Common.{◌≡◌, ℕ, ◌+◌, ◌*◌, ◌/◌, ◌%◌, ◌<◌, ◌≤◌, ◌⊎◌, inl, inr, sym, ◌∙◌, ap, arith}
+use Rattle.std.specs.Prelude.{ℤ, pos, ◌*ℤ◌}
+use Rattle.std.proofs.Math.IntN.{*ℤ-zero, *ℤ_comm, pos-*ℤ-pos}
 use native.Mathlib.Decide.{ℕ_discrete}
-use native.Mathlib.Nat.{mod-eq_of_lt, zero-mod}
-use Rattle.linear_law.proofs.CongruenceLemmas.{Congruent_from, Congruent_multiple, Congruent_scale, Congruent_sym, Congruent_trans}
-use Rattle.linear_law.specs.Congruence.{Congruent, IsField}
+use native.Mathlib.Nat.{mod-eq_of_lt}
+use Rattle.linear_law.specs.Congruence.{IsField}
+use Rattle.signed_sum.proofs.Ring.{mul_assoc, one-mul}
+use Rattle.simplicial_law.proofs.IntegralBridge.{integral_congruence_law}
+use Rattle.simplicial_law.proofs.IntegralCongruence.{CongruentInt-scale, CongruentInt-times, CongruentInt_of, CongruentInt_refl, CongruentInt_sym, CongruentInt_trans}
+use Rattle.simplicial_law.specs.Integral.{CongruentInt}
 use Rattle.steenrod_law.proofs.Forms.{IsPrime}
 
 pub two-or-odd : (p : ℕ) → IsPrime p → (p ≡ 2) ⊎ (p % 2 ≡ 1)
-two-or-odd p prime = go (p % 2) refl
-  where
-    go : (c : ℕ) → p % 2 ≡ c → (p ≡ 2) ⊎ (p % 2 ≡ 1)
-    go zero e = elim (prime.only 2 (p / 2) (omega arith)) [ inl q ↦ absurd (omega (arith, q)) | inr q ↦ inl (sym q) ]
-    go (suc c) e = inr (omega arith)
+two-or-odd p prime = prime.parity
 
--- p where each number that is no multiple has an inverse
 pub prime_of_field : (p : ℕ) → IsField p → IsPrime p
-prime_of_field p field = record { two = (let l = field.large in omega arith); only = only }
+prime_of_field p field = record { two = (let l = field.large in omega arith); parity = parity; cancel = cancel }
   where
     large : 1 < p
     large = field.large
 
-    apart : (a b : ℕ) → a * b ≡ p → (a ≡ p → ⊥) → a < p
-    apart zero b e n = omega (arith, large)
-    apart (suc a) zero e n = absurd (omega (arith, large, e))
-    apart (suc a) (suc b) e n = let l : suc a ≤ p = omega (arith, e) in omega (arith, n, l)
+    -- 2 has no inverse modulo a greater even number
+    odd : 2 < p → p % 2 ≡ 0 → ⊥
+    odd l e =
+        let m : 2 % p ≡ 2 = mod-eq_of_lt l in
+        let i = field.inverse 2 (λ z. absurd (omega (arith, m, z))) in
+        let r : 1 % p ≡ 1 = mod-eq_of_lt large in
+        let h : (2 * i.0) % p ≡ 1 = i.1.same ∙ r in
+        let q : ℕ = p / 2 in
+        let t : p ≡ 2 * q = omega arith in
+        let k : p * ((2 * i.0) / p) + (2 * i.0) % p ≡ 2 * i.0 = omega arith in
+        let w : p * ((2 * i.0) / p) ≡ (2 * q) * ((2 * i.0) / p) = ap (λ j. j * ((2 * i.0) / p)) t in
+        omega arith
 
-    cofactor : (b : ℕ) → Congruent p b 0 → (a : ℕ) → a * b ≡ p → a < p → (a ≡ 1) ⊎ (a ≡ p)
-    cofactor zero h a e l = absurd (omega (arith, large, e))
-    cofactor (suc b) h zero e l = absurd (omega (arith, large, e))
-    cofactor (suc b) h (suc zero) e l = inl refl
-    cofactor (suc b) h (suc (suc a)) e l =
-        let s : suc b < p = omega (arith, e) in
-        let k : suc b % p ≡ 0 = h.same ∙ zero-mod p in
-        absurd (let m = mod-eq_of_lt s in omega (arith, k, m))
-
-    only : (a b : ℕ) → a * b ≡ p → (a ≡ 1) ⊎ (a ≡ p)
-    only a b e = elim (ℕ_discrete a p) [
-      | yes q ↦ inr q
-      | no n ↦
-          let l = apart a b e n in
-          let m = mod-eq_of_lt l in
-          let i = field.inverse a (λ z. absurd (let y : a ≡ 0 = sym m ∙ z in let w : 0 * b ≡ p = sym (ap (λ j. j * b) y) ∙ e in omega (arith, large, w))) in
-          let c : Congruent p b 0 =
-          Congruent_trans (Congruent_from (Congruent_sym (Congruent_scale b i.1)) (let s : b * (a * i.0) ≡ p * i.0 = (let t : b * (a * i.0) ≡ (a * b) * i.0 = omega arith in t ∙ ap (λ j. j * i.0) e) in omega arith))
-          (Congruent_multiple p 0 i.0) in
-          cofactor b c a e l
+    parity : (p ≡ 2) ⊎ (p % 2 ≡ 1)
+    parity = elim (ℕ_discrete p 2) [
+      | yes e ↦ inl e
+      | no n ↦ inr (elim (ℕ_discrete (p % 2) 0) [ yes z ↦ absurd (odd (omega (arith, large, n)) z) | no z ↦ omega (arith, z) ])
     ]
+
+    cancel : (a : ℕ) (z : ℤ) → 1 ≤ a → a < p → CongruentInt p (pos a *ℤ z) (pos 0) → CongruentInt p z (pos 0)
+    cancel a z h l k =
+        let m : a % p ≡ a = mod-eq_of_lt l in
+        let i = field.inverse a (λ e. absurd (omega (arith, h, m, e))) in
+        let b : ℕ = i.0 in
+        let e : pos b *ℤ (pos a *ℤ z) ≡ pos (a * b) *ℤ z = sym (mul_assoc (pos b) (pos a) z) ∙ ap (λ y. y *ℤ z) (*ℤ_comm (pos b) (pos a) ∙ pos-*ℤ-pos a b) in
+        CongruentInt_trans (CongruentInt_of (sym (one-mul z)))
+        (CongruentInt_trans (CongruentInt-times (CongruentInt_sym (integral_congruence_law.whole p (a * b) 1 i.1)) (CongruentInt_refl z))
+        (CongruentInt_trans (CongruentInt_of (sym e))
+        (CongruentInt_trans (CongruentInt-scale (pos b) k) (CongruentInt_of (*ℤ-zero (pos b))))))

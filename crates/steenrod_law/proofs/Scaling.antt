@@ -6,11 +6,11 @@ use Rattle.std.proofs.lemmas.Int.{ints}
 use Rattle.interval_cut_law.proofs.CochainLaws.{cut_sum-sum}
 use Rattle.interval_cut_law.specs.Cuts.{cut_sum}
 use Rattle.interval_cut_law.specs.Operations.{operation_value, value_product}
-use Rattle.signed_sum.proofs.Ring.{add-mul, mul_assoc}
+use Rattle.signed_sum.proofs.Ring.{add-mul, mul_assoc, one-mul}
 use Rattle.simplicial_law.proofs.IntegralCongruence.{CongruentInt-times, CongruentInt_from, CongruentInt_of, CongruentInt_refl, CongruentInt_sym, CongruentInt_trans}
 use Rattle.simplicial_law.specs.Integral.{CongruentInt}
 use Rattle.steenrod_law.proofs.AdditiveMaps.{adds-scale}
-use Rattle.steenrod_law.proofs.Binomials.{binomial-prime, binomial-sum, times-one, triangle_sum}
+use Rattle.steenrod_law.proofs.Binomials.{binomial-prime, binomial-sum, triangle_sum}
 use Rattle.steenrod_law.proofs.Forms.{IsPrime, SurjectionTerm, operation_of, value_over}
 use Rattle.steenrod_law.proofs.WordCochains.{over-sum}
 use Rattle.steenrod_law.specs.Words.{copies}
@@ -25,7 +25,7 @@ pow-up c zero = refl
 pow-up c (suc n) =
     let x : ℤ = triangle_sum n (pow c) in
     ap (λ z. (c +ℤ pos 1) *ℤ z) (pow-up c n) ∙ add-mul c (pos 1) x
-    ∙ (λ i. sym (adds-scale (triangle_sum n) (binomial-sum n) c (pow c)) i +ℤ times-one x i)
+    ∙ (λ i. sym (adds-scale (triangle_sum n) (binomial-sum n) c (pow c)) i +ℤ one-mul x i)
     ∙ +ℤ_comm (triangle_sum n (λ k. pow c (suc k))) x
 
 pow-zero : (n : ℕ) → 1 ≤ n → pow (pos 0) n ≡ pos 0

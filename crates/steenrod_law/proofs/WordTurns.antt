@@ -4,7 +4,8 @@ use Rattle.std.specs.Prelude.{ℤ, pos, ◌+ℤ◌}
 use Rattle.std.proofs.lemmas.Int.{ints}
 use Rattle.signed_sum.proofs.SignLemmas.{signed-parity, signed-signed, signed-zero}
 use Rattle.signed_sum.specs.Signs.{signed}
-use Rattle.steenrod_law.proofs.Binomials.{sum-front, sum_below}
+use Rattle.steenrod_law.proofs.Binomials.{sum-front}
+use Rattle.table_reduction_law.proofs.PowerPairs.{sum_below}
 use Rattle.steenrod_law.proofs.WordLemmas.{bound-back, bound-signed, bound-step, bound-sum, homotopy, power-whole, step-step}
 use Rattle.steenrod_law.specs.Laws.{WordLaws}
 use Rattle.steenrod_law.specs.Words.{last_letter, letter_degree, letters_before_last, norm, turn, turn_back, turn_back_power, turn_power, turn_sum, word_boundary, word_degree}
