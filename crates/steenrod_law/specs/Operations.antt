@@ -1,12 +1,12 @@
 -- The operations on cochains of residues: May operations, squares, powers, Bockstein powers, products and
 -- pull-backs. A cochain of degree q gives a number to each simplex of degree q.
-use Rattle.std.specs.Prelude.{ℕ, ◌≤◌, ◌+◌, ◌-◌, ◌*◌, ◌%◌, ◌≡◌, Bool, not, cond, ◌==◌, ◌&&◌, List, [], ◌∷◌, flat_map, length, map, ℤ, pos, negsuc, suc}
+use Rattle.std.specs.Prelude.{ℕ, ◌≤◌, ◌+◌, ◌-◌, ◌*◌, ◌%◌, Bool, not, cond, ◌==◌, ◌&&◌, List, [], ◌∷◌, flat_map, length, map, ℤ, pos, negsuc, suc}
 use Rattle.fp_field.specs.Element.{IsScale}
 use Rattle.signed_sum.specs.Lists.{is_degenerate, unless_empty}
 use Rattle.linear_law.specs.Congruence.{negated}
 use Rattle.linear_law.specs.Lists.{Among, Each}
 use Rattle.simplicial_law.specs.Simplices.{IsSimplex}
-use Rattle.simplicial_law.specs.Cochains.{Cochain}
+use Rattle.simplicial_law.specs.Cochains.{AgreesOnSimplices, Cochain}
 use Rattle.interval_cut_law.specs.Operations.{operation_value}
 use Rattle.table_reduction_law.specs.MayElements.{may_element}
 use Rattle.steenrod_law.specs.Words.{copies}
@@ -35,27 +35,29 @@ may_operation p d q a = residue_cochain p (sum_value p (may_element p d) (copies
 abbrev pub scaled_operation : ℕ → ℕ → ℕ → ℕ → Cochain → Cochain
 scaled_operation p d c q a s = c * may_operation p d q a s
 
--- the square Sq^k on degree q, for k from 0 to q: it has degree q + k
-abbrev pub square : ℕ → ℕ → Cochain → Cochain
-square k q a = may_operation 2 (q - k) q a
-
 -- the May degree of the power P^s on degree q, for 2 * s from 0 to q
 abbrev pub power_degree : ℕ → ℕ → ℕ → ℕ
 power_degree p s q = (q - 2 * s) * (p - 1)
 
--- b is the power P^s of a cochain a of degree q, for an odd p: D of the degree above times the constant
--- (-1)^(s + m*q(q-1)/2) * (m!)^(-q), where m = (p - 1)/2. It has degree q + 2 * s * (p - 1).
-pub record IsPower (p s q : ℕ) (a b : Cochain) : Type 0 where
+-- b is the square Sq^k of a cochain a of degree q, for k from 0 to q: it has degree q + k
+abbrev pub IsSquare : List (List ℕ) → ℕ → ℕ → Cochain → Cochain → Type 0
+IsSquare facets k q a b = AgreesOnSimplices facets (q + k) 2 b (may_operation 2 (q - k) q a)
+
+-- b is the power P^s of a cochain a of degree q, for an odd p and 2 * s from 0 to q: the constant
+-- (-1)^(s + m*q(q-1)/2) * (m!)^(-q), where m = (p - 1)/2, times D of the degree above. It has degree
+-- q + 2 * s * (p - 1).
+pub record IsPower (facets : List (List ℕ)) (p s q : ℕ) (a b : Cochain) : Type 0 where
   pub scale : ℕ
   pub is_scale : IsScale p q s scale
-  pub value : (t : List ℕ) → b t ≡ scaled_operation p (power_degree p s q) scale q a t
+  pub value : AgreesOnSimplices facets (q + 2 * s * (p - 1)) p b (scaled_operation p (power_degree p s q) scale q a)
 
 -- b is the Bockstein power bP^s of a, for 2 * s below q: minus the constant times D of one degree less.
 -- It has degree q + 2 * s * (p - 1) + 1.
-pub record IsBocksteinPower (p s q : ℕ) (a b : Cochain) : Type 0 where
+pub record IsBocksteinPower (facets : List (List ℕ)) (p s q : ℕ) (a b : Cochain) : Type 0 where
   pub scale : ℕ
   pub is_scale : IsScale p q s scale
-  pub value : (t : List ℕ) → b t ≡ scaled_operation p (power_degree p s q - 1) (negated p scale) q a t
+  pub value : AgreesOnSimplices facets (q + 2 * s * (p - 1) + 1) p b
+      (scaled_operation p (power_degree p s q - 1) (negated p scale) q a)
 
 -- the cup product of cochains of the degrees q and k: the value of the surjection 1 2
 abbrev pub cup_product : ℕ → ℕ → ℕ → Cochain → Cochain → Cochain
