@@ -23,4 +23,5 @@ pub mod Complexes
 pub mod OperationLaws
 pub mod ClassLaws
 pub mod InducedMaps
+pub mod PowerLaws
 pub mod LawProofs

@@ -8,7 +8,7 @@ use Rattle.linear_law.specs.Lists.{Each}
 use Rattle.linear_law.specs.ReducedBases.{combination}
 use Rattle.simplicial_law.specs.Simplices.{IsSimplex}
 use Rattle.simplicial_law.specs.Cochains.{AgreesOnSimplices, Cochain, HasCoordinates, IsCoboundary, IsCocycle, IsCohomologyBasis, coboundary}
-use Rattle.steenrod_law.specs.Operations.{IsSimplicial, cochain_products, coefficient_products, cup_product, matrix_times, may_operation, orbit_primitive, power_degree, pull_back, scaled_operation, staircase_primitive}
+use Rattle.steenrod_law.specs.Operations.{IsBocksteinPower, IsPower, IsSimplicial, IsSquare, cochain_products, coefficient_products, cup_product, matrix_times, may_operation, orbit_primitive, power_degree, pull_back, scaled_operation, staircase_primitive}
 use Rattle.simplicial_law.specs.Integral.{CongruentInt}
 use Rattle.steenrod_law.specs.Words.{IsOrbitTable, contraction, letter_degree, norm, orbit_words_of_2, orbit_words_of_3, orbit_words_of_5, staircase, step, turn, turn_back, turn_power, turn_sum, word_boundary}
 
@@ -161,3 +161,23 @@ NaturalityLaw = (f : ℕ → ℕ) (from to : List (List ℕ)) (p d c q n : ℕ) 
     AllZip (λ column u. HasCoordinates from q p zs u column) induced_q (map (pull_back f) zs') →
     AllZip (λ column u. HasCoordinates from n p us u column) induced_n (map (pull_back f) us') →
     map (λ column. matrix_times p (length us) induced_n column) ops' ≡ map (λ column. matrix_times p (length us) ops column) induced_q
+
+-- The operation promise: the matrix of a square, a power or a Bockstein power, whose column j are the
+-- coordinates of the operation on the j-th of the cocycles zs, carries the coordinates of every cocycle z to
+-- those of the operation on z, whichever representative of its class z is.
+pub record SteenrodMatrixLaw : Type 0 where
+  pub squares : (facets : List (List ℕ)) (k q : ℕ) (zs bs us : List Cochain) (columns : List (List ℕ)) →
+      Each (IsCocycle facets q 2) zs → AllZip (IsSquare facets k q) zs bs →
+      AllZip (λ column b. HasCoordinates facets (q + k) 2 us b column) columns bs →
+      (z b : Cochain) (cs : List ℕ) → HasCoordinates facets q 2 zs z cs → IsSquare facets k q z b →
+      HasCoordinates facets (q + k) 2 us b (matrix_times 2 (length us) columns cs)
+  pub powers : (facets : List (List ℕ)) (p s q : ℕ) (zs bs us : List Cochain) (columns : List (List ℕ)) → IsTrue (served p) →
+      Each (IsCocycle facets q p) zs → AllZip (IsPower facets p s q) zs bs →
+      AllZip (λ column b. HasCoordinates facets (q + 2 * s * (p - 1)) p us b column) columns bs →
+      (z b : Cochain) (cs : List ℕ) → HasCoordinates facets q p zs z cs → IsPower facets p s q z b →
+      HasCoordinates facets (q + 2 * s * (p - 1)) p us b (matrix_times p (length us) columns cs)
+  pub bockstein_powers : (facets : List (List ℕ)) (p s q : ℕ) (zs bs us : List Cochain) (columns : List (List ℕ)) →
+      IsTrue (served p) → Each (IsCocycle facets q p) zs → AllZip (IsBocksteinPower facets p s q) zs bs →
+      AllZip (λ column b. HasCoordinates facets (q + 2 * s * (p - 1) + 1) p us b column) columns bs →
+      (z b : Cochain) (cs : List ℕ) → HasCoordinates facets q p zs z cs → IsBocksteinPower facets p s q z b →
+      HasCoordinates facets (q + 2 * s * (p - 1) + 1) p us b (matrix_times p (length us) columns cs)

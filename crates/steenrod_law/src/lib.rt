@@ -1,7 +1,7 @@
 //! The Steenrod operations on cochains and on classes: definitions and laws.
 #![tactic(auto)]
 
-ghost use Rattle.steenrod_law.specs.Laws.{AdditivityLaw, ClosedLaw, DegreeLaw, InducedMapLaw, LinearityLaw, NaturalityLaw, OperationMatrixLaw, OrbitTables, ProductLaw, PullBackLaw, RepresentativeLaw, ScalingLaw, StaircaseLaw, SubcomplexLaw, TargetLaw, WordLaws};
+ghost use Rattle.steenrod_law.specs.Laws.{AdditivityLaw, ClosedLaw, DegreeLaw, InducedMapLaw, LinearityLaw, NaturalityLaw, OperationMatrixLaw, OrbitTables, ProductLaw, PullBackLaw, RepresentativeLaw, ScalingLaw, StaircaseLaw, SteenrodMatrixLaw, SubcomplexLaw, TargetLaw, WordLaws};
 
 /// Words are a cyclic model.
 pub fn word_laws()
@@ -81,4 +81,9 @@ pub fn induced_map_law()
 /// Matrices of operations commute with induced matrices.
 pub fn naturality_law()
     ensures { NaturalityLaw }
+{}
+
+/// The matrices of squares, powers and Bockstein powers carry the coordinates of every cocycle.
+pub fn steenrod_matrix_law()
+    ensures { SteenrodMatrixLaw }
 {}

@@ -1,0 +1,112 @@
+-- Matrices of squares, powers and Bockstein powers.
+use Rattle.std.proofs.Common.{◌≡◌, ℕ, zero, suc, ◌+◌, ◌-◌, ◌*◌, ◌^◌, ◌<◌, Bool, List, [], ◌∷◌, length, sym, ◌∙◌, ap, arith}
+use Rattle.std.specs.Prelude.{ℤ, pos, ◌+ℤ◌, ◌*ℤ◌, neg_ℤ}
+use Rattle.std.specs.List.{AllZip}
+use Rattle.std.proofs.Math.IntN.{pos-*ℤ-pos}
+use Rattle.std.proofs.Math.Nat.{pow-succ', pow-zero}
+use Rattle.std.proofs.lemmas.Int.{ints}
+use Rattle.fp_field.proofs.ServedLemmas.{served_field}
+use Rattle.fp_field.specs.Element.{IsScale, factorial, half}
+use Rattle.linear_law.proofs.CongruenceLemmas.{Congruent_add, Congruent_mul, Congruent_of, Congruent_refl, Congruent_scale, Congruent_sym, Congruent_trans}
+use Rattle.linear_law.proofs.Primes.{two_field}
+use Rattle.linear_law.specs.Congruence.{Congruent, IsField, negated}
+use Rattle.linear_law.specs.Lists.{Each}
+use Rattle.linear_law.specs.ReducedBases.{combination}
+use Rattle.signed_sum.proofs.Ring.{mul-add, mul-neg, mul_assoc, one-mul}
+use Rattle.simplicial_law.proofs.Bases.{coboundaries, cocycles}
+use Rattle.simplicial_law.proofs.IntegralBridge.{integral_congruence_law}
+use Rattle.simplicial_law.proofs.IntegralCongruence.{CongruentInt_from, CongruentInt_of, CongruentInt_trans}
+use Rattle.simplicial_law.specs.Cochains.{AgreesOnSimplices, Cochain, HasCoordinates, IsCocycle}
+use Rattle.simplicial_law.specs.Integral.{CongruentInt}
+use Rattle.steenrod_law.proofs.ClassLaws.{matrix-law}
+use Rattle.steenrod_law.proofs.OperationLaws.{above_one, to_residues}
+use Rattle.steenrod_law.proofs.OrbitTables.{orbit_tables}
+use Rattle.steenrod_law.proofs.Primes.{prime_of_field}
+use Rattle.steenrod_law.specs.Laws.{SteenrodMatrixLaw}
+use Rattle.steenrod_law.specs.Operations.{IsBocksteinPower, IsPower, IsSquare, matrix_times, may_operation, power_degree, scaled_operation}
+use Rattle.steenrod_law.specs.Words.{IsOrbitTable, orbit_words_of_2}
+
+module _ (p : ℕ) (field : IsField p) where
+  -- products are cancelled factor by factor
+  through : (a b : ℕ) (z : ℤ) → CongruentInt p (pos (a * b) *ℤ z) (pos 0) → CongruentInt p (pos a *ℤ (pos b *ℤ z)) (pos 0)
+  through a b z h = CongruentInt_trans (CongruentInt_of (sym (ap (λ y. y *ℤ z) (sym (pos-*ℤ-pos a b)) ∙ mul_assoc (pos a) (pos b) z))) h
+
+  factorial-cancel : (k : ℕ) (z : ℤ) → k < p → CongruentInt p (pos (factorial k) *ℤ z) (pos 0) → CongruentInt p z (pos 0)
+  factorial-cancel zero z l h = CongruentInt_trans (CongruentInt_of (sym (one-mul z))) h
+  factorial-cancel (suc k) z l h =
+      factorial-cancel k z (omega arith)
+      ((prime_of_field p field).cancel (suc k) (pos (factorial k) *ℤ z) (omega arith) l (through (suc k) (factorial k) z h))
+
+  power-cancel : (f q : ℕ) → ((z : ℤ) → CongruentInt p (pos f *ℤ z) (pos 0) → CongruentInt p z (pos 0)) → (z : ℤ) → CongruentInt p (pos (f ^ q) *ℤ z) (pos 0) → CongruentInt p z (pos 0)
+  power-cancel f zero c z h = CongruentInt_trans (CongruentInt_of (sym (ap (λ j. pos j *ℤ z) (pow-zero f) ∙ one-mul z))) h
+  power-cancel f (suc q) c z h =
+      power-cancel f q c z (c (pos (f ^ q) *ℤ z) (through f (f ^ q) z (CongruentInt_trans (CongruentInt_of (ap (λ j. pos j *ℤ z) (sym (pow-succ' f q)))) h)))
+
+  pub scale-only : (q s c e : ℕ) → IsScale p q s c → IsScale p q s e → Congruent p c e
+  scale-only q s c e h k =
+      let X : ℕ = factorial (half p) ^ q in
+      let w = integral_congruence_law.whole p (c * X) (e * X) (Congruent_trans h.product (Congruent_sym k.product)) in
+      let a : pos X *ℤ pos c ≡ pos (c * X) = pos-*ℤ-pos X c ∙ ap pos (omega arith) in
+      let b : pos X *ℤ pos e ≡ pos (e * X) = pos-*ℤ-pos X e ∙ ap pos (omega arith) in
+      let d = mul-add (pos X) (pos c) (neg_ℤ (pos e)) in
+      let n = mul-neg (pos X) (pos e) in
+      let l = field.large in
+      let z = power-cancel (factorial (half p)) q (λ z. factorial-cancel (half p) z (omega (arith, l))) (pos c +ℤ neg_ℤ (pos e)) (CongruentInt_from w (omega (arith, ints))) in
+      to_residues p field (CongruentInt_from z (omega (arith, ints)))
+
+  module _ (facets : List (List ℕ)) where
+    coordinates-agree : (n : ℕ) (us : List Cochain) (v w : Cochain) (cs : List ℕ) → AgreesOnSimplices facets n p v w → HasCoordinates facets n p us w cs → HasCoordinates facets n p us v cs
+    coordinates-agree n us v w cs e h = record {
+      count = h.count;
+      small = h.small;
+      rest = (coboundaries facets n p (above_one p field)).alike (λ s. v s + negated p (combination cs us s)) (λ s. w s + negated p (combination cs us s))
+          (record { at = λ s on. Congruent_add (e.at s on) (Congruent_refl (negated p (combination cs us s))) }) h.rest;
+    }
+
+    turned-around : (n : ℕ) (v w : Cochain) → AgreesOnSimplices facets n p v w → AgreesOnSimplices facets n p w v
+    turned-around n v w e = record { at = λ s on. Congruent_sym (e.at s on) }
+
+    columns-agree : (n d c q : ℕ) (R : Cochain → Cochain → Type 0) → ((z b : Cochain) → R z b → AgreesOnSimplices facets n p b (scaled_operation p d c q z)) →
+        (us zs bs : List Cochain) (columns : List (List ℕ)) → AllZip R zs bs → AllZip (λ column b. HasCoordinates facets n p us b column) columns bs →
+        AllZip (λ column z. HasCoordinates facets n p us (scaled_operation p d c q z) column) columns zs
+    columns-agree n d c q R f us [] [] [] h k = k
+    columns-agree n d c q R f us [] [] (column ∷ columns) h k = absurd k
+    columns-agree n d c q R f us [] (b ∷ bs) columns h k = absurd h
+    columns-agree n d c q R f us (z ∷ zs) [] columns h k = absurd h
+    columns-agree n d c q R f us (z ∷ zs) (b ∷ bs) [] h k = absurd k
+    columns-agree n d c q R f us (z ∷ zs) (b ∷ bs) (column ∷ columns) h k =
+        (coordinates-agree n us (scaled_operation p d c q z) b column (turned-around n b (scaled_operation p d c q z) (f z b h.0)) k.0, columns-agree n d c q R f us zs bs columns h.1 k.1)
+
+    pub carried : (n d c q : ℕ) (ms : List (List Bool)) (R : Cochain → Cochain → Type 0) → IsOrbitTable p ms → ((z b : Cochain) → R z b → AgreesOnSimplices facets n p b (scaled_operation p d c q z)) →
+        (us zs bs : List Cochain) (columns : List (List ℕ)) → Each (IsCocycle facets q p) zs → AllZip R zs bs → AllZip (λ column b. HasCoordinates facets n p us b column) columns bs →
+        (z b : Cochain) (cs : List ℕ) → HasCoordinates facets q p zs z cs → R z b → HasCoordinates facets n p us b (matrix_times p (length us) columns cs)
+    carried n d c q ms R orbits f us zs bs columns cocycles h k z b cs coordinates r =
+        coordinates-agree n us b (scaled_operation p d c q z) (matrix_times p (length us) columns cs) (f z b r)
+        (matrix-law p field facets d c q n ms zs us columns orbits cocycles (columns-agree n d c q R f us zs bs columns h k) z cs coordinates)
+
+    rescaled : (n d c e q : ℕ) (z b : Cochain) → Congruent p c e → AgreesOnSimplices facets n p b (scaled_operation p d c q z) → AgreesOnSimplices facets n p b (scaled_operation p d e q z)
+    rescaled n d c e q z b h g = record { at = λ s on. Congruent_trans (g.at s on) (Congruent_mul h (Congruent_refl (may_operation p d q z s))) }
+
+    pub power-as : (s q e : ℕ) (z b : Cochain) → IsScale p q s e → IsPower facets p s q z b → AgreesOnSimplices facets (q + 2 * s * (p - 1)) p b (scaled_operation p (power_degree p s q) e q z)
+    power-as s q e z b k r = rescaled (q + 2 * s * (p - 1)) (power_degree p s q) r.scale e q z b (scale-only q s r.scale e r.is_scale k) r.value
+
+    pub bockstein-as : (s q e : ℕ) (z b : Cochain) → IsScale p q s e → IsBocksteinPower facets p s q z b → AgreesOnSimplices facets (q + 2 * s * (p - 1) + 1) p b (scaled_operation p (power_degree p s q - 1) (negated p e) q z)
+    bockstein-as s q e z b k r =
+        rescaled (q + 2 * s * (p - 1) + 1) (power_degree p s q - 1) (negated p r.scale) (negated p e) q z b (Congruent_scale (p - 1) (scale-only q s r.scale e r.is_scale k)) r.value
+
+pub steenrod_matrix_law : SteenrodMatrixLaw
+steenrod_matrix_law = record {
+  squares = λ facets k q zs bs us columns cocycles h g z b cs coordinates r.
+      carried 2 two_field facets (q + k) (q - k) 1 q orbit_words_of_2 (IsSquare facets k q) orbit_tables.two
+      (λ z b r. record { at = λ s on. Congruent_trans (r.at s on) (Congruent_of (omega arith)) }) us zs bs columns cocycles h g z b cs coordinates r;
+  powers = λ facets p s q zs bs us columns is_served cocycles h g z b cs coordinates r. (
+      let field = served_field p is_served in
+      let ms = orbit_tables.all_served p is_served in
+      carried p field facets (q + 2 * s * (p - 1)) (power_degree p s q) r.scale q ms.0 (IsPower facets p s q) ms.1
+      (λ z b w. power-as p field facets s q r.scale z b r.is_scale w) us zs bs columns cocycles h g z b cs coordinates r);
+  bockstein_powers = λ facets p s q zs bs us columns is_served cocycles h g z b cs coordinates r. (
+      let field = served_field p is_served in
+      let ms = orbit_tables.all_served p is_served in
+      carried p field facets (q + 2 * s * (p - 1) + 1) (power_degree p s q - 1) (negated p r.scale) q ms.0 (IsBocksteinPower facets p s q) ms.1
+      (λ z b w. bockstein-as p field facets s q r.scale z b r.is_scale w) us zs bs columns cocycles h g z b cs coordinates r);
+}
