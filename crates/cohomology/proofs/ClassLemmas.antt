@@ -89,7 +89,7 @@ bases_more : {p : ℕ} (facets : List (List ℕ)) (ls : List (List (List ℕ))) 
 bases_more {p} facets ls n [] v m e h k = (subst (λ i. IsCanonicalBasis facets i p (chains_at (level ls i) v.items)) (let q : m ≡ n = omega arith in q) k, tt)
 bases_more {p} facets ls n (w ∷ vs) v m e h k = (h.0, bases_more facets ls (suc n) vs v m (omega arith) h.1 k)
 
-length_more : {X : Type 0} (xs : List X) (x : X) → length (xs ++ (x ∷ [])) ≡ length xs + 1
+pub length_more : {X : Type 0} (xs : List X) (x : X) → length (xs ++ (x ∷ [])) ≡ length xs + 1
 length_more [] x = refl
 length_more (y ∷ ys) x = omega (arith, length_more ys x)
 

@@ -1,3 +1,5 @@
 pub mod DegreeLemmas
 pub mod ClassLemmas
 pub mod CircleLemmas
+pub mod BoundLemmas
+pub mod DataLemmas

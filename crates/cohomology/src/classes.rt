@@ -12,7 +12,7 @@ use sparse_rows::Row;
 use std::alloc::{AllocError, Global};
 
 /// The rows as cochains of one degree.
-fn of_degree<const P: u32>(
+pub(crate) fn of_degree<const P: u32>(
     alloc: Global,
     degree: u32,
     rows: Vec<Row<P>>,
@@ -28,7 +28,7 @@ fn of_degree<const P: u32>(
 }
 
 /// A table of `count` places, of which none is bound.
-fn unbound(alloc: Global, count: usize) -> Result<Vec<u32>, AllocError>
+pub(crate) fn unbound(alloc: Global, count: usize) -> Result<Vec<u32>, AllocError>
     ensures len { IfOk result (λ v. length v.items ≡ count) }
     ensures clear { IfOk result (λ v. (x : ℕ) → owned_in v.items x → ⊥) }
 {

@@ -2,8 +2,10 @@
 #![tactic(auto)]
 
 mod classes;
+mod data;
 
 pub use classes::classes_of;
+pub use data::{Bound, Cohomology, DegreeData};
 
 #[cfg(test)]
 mod tests {
@@ -12,9 +14,10 @@ mod tests {
     use simplex_set::Simplex;
     use std::test::Fail;
 
-    // The boundary of a triangle, the circle: all vertices, and its last edge.
+    // The boundary of a triangle, the circle: its classes are all vertices, and its last edge. The first
+    // two edges are the pivots of the coboundaries, of the last two vertices.
     #[test]
-    fn the_classes_of_a_circle(rt: HostRuntime) -> Result<(), Fail> {
+    fn the_data_of_a_circle(rt: HostRuntime) -> Result<(), Fail> {
         let facets = [
             Simplex::new(rt.alloc(), &[0, 1])?,
             Simplex::new(rt.alloc(), &[0, 2])?,
@@ -31,6 +34,19 @@ mod tests {
                 assert_eq!(rt; class[at].0, places[at]);
                 assert_eq!(rt; class[at].1.value(), 1);
             }
+        }
+        let data = Cohomology::<3>::of(rt.alloc(), &circle)?;
+        assert_eq!(rt; data.degrees.len(), 2);
+        assert_eq!(rt; data.degrees[0].classes.len(), 1);
+        assert_eq!(rt; data.degrees[0].bounds.len(), 0);
+        assert_eq!(rt; data.degrees[1].classes.len(), 1);
+        assert_eq!(rt; data.degrees[1].bounds.len(), 2);
+        for (at, value) in [(0usize, 2u32), (1, 1)] {
+            let bound = &data.degrees[1].bounds[at];
+            assert_eq!(rt; bound.pivot as usize, at);
+            assert_eq!(rt; bound.bound.row.at(2).value(), value);
+            assert_eq!(rt; bound.below.row.len(), 1);
+            assert_eq!(rt; bound.below.row.at(at as u32 + 1).value(), 1);
         }
         Ok(())
     }
