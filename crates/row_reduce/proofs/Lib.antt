@@ -5,3 +5,4 @@ pub mod StepLemmas
 pub mod ExpansionLemmas
 pub mod SolvedLemmas
 pub mod EchelonLemmas
+pub mod SpaceLemmas

@@ -2,3 +2,4 @@ pub mod Stored
 pub mod Walk
 pub mod Expansion
 pub mod Echelon
+pub mod Space

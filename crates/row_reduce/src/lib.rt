@@ -4,11 +4,13 @@
 mod echelon;
 mod expanding;
 mod reducing;
+mod space;
 mod walking;
 
 pub use echelon::kernel_and_echelon;
 pub use expanding::kernel_and_leads;
 use fp_field::Fp;
+pub use space::Space;
 use sparse_rows::Row;
 
 /// A row that the walk has left, with its lead and how it arose.

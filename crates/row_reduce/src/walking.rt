@@ -223,7 +223,7 @@ pub fn zero_values<const P: u32>(alloc: Global, count: usize) -> Result<Vec<Fp<P
 }
 
 /// Numbers that are all zero.
-fn zeros(alloc: Global, count: usize) -> Result<Vec<u32>, AllocError>
+pub fn zeros(alloc: Global, count: usize) -> Result<Vec<u32>, AllocError>
     ensures len { IfOk result (λ v. length v.items ≡ count) }
     ensures clear { IfOk result (λ v. IsClear v.items) }
 {

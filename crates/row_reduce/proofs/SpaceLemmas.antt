@@ -1,0 +1,178 @@
+-- The reduced echelon list of a span, with no bound on the places.
+use Rattle.std.proofs.Common.{◌≡◌, ℕ, zero, suc, ◌+◌, ◌*◌, ◌-◌, ◌%◌, ◌<◌, ◌≤◌, ◌≢◌, List, [], ◌∷◌, ◌++◌, map, take, length, get_or, arith, refl, sym, ◌∙◌, ap, subst, inl, inr}
+use Rattle.std.proofs.lemmas.Bool.{cases_lt}
+use Rattle.std.proofs.lemmas.List.{take_more}
+use native.Mathlib.Nat.{zero-mod}
+use Rattle.linear_law.specs.Congruence.{Congruent, IsField, negated, sum_over}
+use Rattle.linear_law.specs.Lists.{Among, Each, IsAscending}
+use Rattle.linear_law.specs.Listing.{row_combination_from}
+use Rattle.linear_law.specs.ReducedBases.{AgreesOn, IsReduced}
+use Rattle.linear_law.specs.Elimination.{IsImage}
+use Rattle.linear_law.specs.Pivots.{IsCanonical, IsLead, IsPivot}
+use Rattle.linear_law.specs.Triangular.{StartsAt}
+use Rattle.linear_law.proofs.CongruenceLemmas.{Congruent_add, Congruent_from, Congruent_of, Congruent_refl, Congruent_scale, Congruent_sym, Congruent_trans, add-negated}
+use Rattle.linear_law.proofs.ListLemmas.{each_among, each_map, each_push, each_unmap, each_zip}
+use Rattle.linear_law.proofs.LeadLemmas.{nonzero_alike}
+use Rattle.linear_law.proofs.PivotLemmas.{one-nonzero, reduced_apart, reduced_one}
+use Rattle.linear_law.proofs.ReducedLemmas.{sum_picks}
+use Rattle.linear_law.proofs.TriangularBases.{each_of_index, found}
+use Rattle.sparse_rows.specs.Rows.{IsBelow, IsRow, value_in}
+use Rattle.sparse_rows.proofs.RowLemmas.{value_in-none}
+use Rattle.row_reduce.specs.declared.EchelonRow.{EchelonRow}
+use Rattle.row_reduce.specs.Walk.{combined, owned_in}
+use Rattle.row_reduce.specs.Echelon.{IsEchelonRow, IsSolvedWhole, cleared, combination_of, pivot_of, row_of}
+use Rattle.row_reduce.specs.Space.{Everywhere, IsEchelonOf, IsRemainder, IsSpannedBy}
+use Rattle.row_reduce.proofs.StepLemmas.{combined_linear}
+use Rattle.row_reduce.proofs.EchelonLemmas.{linear_sum}
+
+-- rows below width give nothing beyond it
+pub combined_beyond : (k width : ℕ) (rows : List (List (ℕ × ℕ))) (v : ℕ → ℕ) (y : ℕ) → Each (IsBelow width) rows → width ≤ y → row_combination_from k (map value_in rows) v y ≡ 0
+combined_beyond k width [] v y h b = refl
+combined_beyond k width (r ∷ rs) v y h b =
+    let none : value_in r y ≡ 0 = value_in-none r y (each_map {Q = λ (f : ℕ × ℕ). f.0 ≢ y} (λ f c q. absurd (omega arith)) r h.0) in
+    let rest = combined_beyond (suc k) width rs v y h.1 b in
+    rw none (omega (arith, rest))
+
+-- a lead of what rows below width give is below width
+pub lead_inside : (p width : ℕ) (rows : List (List (ℕ × ℕ))) (v : ℕ → ℕ) (t : ℕ) → Each (IsBelow width) rows → combined rows v t % p ≢ 0 → t < width
+lead_inside p width rows v t h n = elim (cases_lt t width) [
+  | inl b ↦ b
+  | inr b ↦ absurd (n (ap (λ m. m % p) (combined_beyond 0 width rows v t h b) ∙ zero-mod p))
+]
+
+module _ (p : ℕ) (field : IsField p) (given : List (List (ℕ × ℕ))) (echelon : List (EchelonRow p)) where
+  -- an echelon list from its parts
+  pub make_echelon : Each (λ (e : EchelonRow p). IsRow p e.row × IsRow p e.combination) echelon → IsAscending (map pivot_of echelon) → IsReduced p pivot_of row_of echelon
+      → Each (λ (e : EchelonRow p). StartsAt p e.pivot (row_of e)) echelon → Each (λ (e : EchelonRow p). (y : ℕ) → Congruent p (combined given (combination_of e) y) (row_of e y)) echelon
+      → ((v : ℕ → ℕ) (t : ℕ) → IsLead p Everywhere (λ a b. a < b) (combined given v) t → Among t (map pivot_of echelon)) → IsEchelonOf p given echelon
+  make_echelon rows_are ascends reduced starts from whole =
+      let M = IsSpannedBy p given in
+      let member : (e : EchelonRow p) → Among e echelon → M (row_of e) = λ e m. record {
+        source = combination_of e;
+        same = record { at = λ y _. Congruent_sym (each_among (λ (e : EchelonRow p). (y : ℕ) → Congruent p (combined given (combination_of e) y) (row_of e y)) e echelon from m y) };
+      } in
+      let pivot : (e : EchelonRow p) → Among e echelon → IsPivot p Everywhere (λ a b. a < b) M e.pivot = λ e m. record {
+        vector = row_of e;
+        member = member e m;
+        lead = record {
+          on = tt;
+          nonzero = one-nonzero p (row_of e e.pivot) field.large (reduced_one p pivot_of row_of e echelon reduced m);
+          least = λ y _ b. (each_among (λ (e : EchelonRow p). StartsAt p e.pivot (row_of e)) e echelon starts m).before y b;
+        };
+      } in
+      let listed : (t : ℕ) → IsPivot p Everywhere (λ a b. a < b) M t → Among t (map pivot_of echelon) = λ t h.
+      whole h.member.source t (record {
+        on = tt;
+        nonzero = nonzero_alike p (combined given h.member.source t) (h.vector t) (Congruent_sym (h.member.same.at t tt)) h.lead.nonzero;
+        least = λ y _ b. Congruent_trans (Congruent_sym (h.member.same.at y tt)) (h.lead.least y tt b);
+      }) in
+      record {
+        rows_are = rows_are;
+        ascends = ascends;
+        pivots = λ t. (
+          listed t,
+          λ m. elim (found pivot_of t echelon) [
+            | inl f ↦ subst (IsPivot p Everywhere (λ a b. a < b) M) f.2 (pivot f.0 f.1)
+            | inr none ↦ absurd (none m)
+          ],
+        );
+        canonical = each_of_index (λ (e : EchelonRow p). IsCanonical p Everywhere (λ a b. a < b) M e.pivot (row_of e)) echelon (λ e m. record {
+          pivot = pivot e m;
+          member = member e m;
+          one = reduced_one p pivot_of row_of e echelon reduced m;
+          others = λ y q n. elim (found pivot_of y echelon) [
+            | inl f ↦ subst (λ z. Congruent p (row_of e z) 0) f.2 (reduced_apart p pivot_of row_of e f.0 echelon reduced m f.1 (λ z. n (sym f.2 ∙ z)))
+            | inr none ↦ absurd (none (listed y q))
+          ];
+        });
+        from = from;
+      }
+
+  -- ---- dividing by an echelon list
+
+  reduced_of : (es : List (EchelonRow p)) → IsAscending (map pivot_of es) → Each (λ (e : EchelonRow p). IsCanonical p Everywhere (λ a b. a < b) (IsSpannedBy p given) e.pivot (row_of e)) es → IsReduced p pivot_of row_of es
+  reduced_of [] a h = tt
+  reduced_of (e ∷ es) a h = (
+    h.0.one,
+    each_zip {P = λ (s : EchelonRow p). e.pivot < s.pivot} {Q = λ (s : EchelonRow p). IsCanonical p Everywhere (λ a b. a < b) (IsSpannedBy p given) s.pivot (row_of s)}
+        {S = λ (s : EchelonRow p). Congruent p (row_of e s.pivot) 0 × Congruent p (row_of s e.pivot) 0}
+        (λ s b c. (h.0.others s.pivot c.pivot (λ q. absurd (omega arith)), c.others e.pivot h.0.pivot (λ q. absurd (omega arith))))
+        es (each_unmap (λ w. e.pivot < w) pivot_of es a.0) h.1,
+    reduced_of es a.1 h.1,
+  )
+
+  pub divided : (row rest sum combination : List (ℕ × ℕ)) (by : ℕ) → IsEchelonOf p given echelon → Congruent p by (p - 1)
+      → ((y : ℕ) → Congruent p (value_in rest y) (cleared row_of echelon (value_in row) (value_in row) y))
+      → ((x : ℕ) → Congruent p (value_in sum x) (cleared combination_of echelon (value_in row) (λ x. 0) x))
+      → ((x : ℕ) → Congruent p (value_in combination x) (by * value_in sum x)) → IsRemainder p given echelon row rest combination
+  divided row rest sum combination by h by_is rest_is sum_is combination_is =
+      let k : EchelonRow p → ℕ = λ d. negated p (value_in row d.pivot) in
+      record {
+        zero =
+            each_map {Q = λ (e : EchelonRow p). Congruent p (value_in rest e.pivot) 0}
+            (λ e picked. Congruent_from (Congruent_add (Congruent_trans (rest_is e.pivot) (Congruent_add (Congruent_refl (value_in row e.pivot)) picked)) (add-negated p (value_in row e.pivot) field.large)) (omega arith))
+            echelon (sum_picks p pivot_of row_of k echelon (reduced_of echelon h.ascends h.canonical));
+        sum = λ y.
+            let L = combined given in
+            let linear = combined_linear p (suc y) given in
+            let here : y < suc y = omega arith in
+            let S = sum_over (λ (d : EchelonRow p). k d * row_of d y) echelon in
+            let v : ℕ → ℕ = λ x. 0 + sum_over (λ (d : EchelonRow p). k d * combination_of d x) echelon in
+            let whole : Congruent p (L v y) (0 + S) =
+            (linear_sum p (length given) (suc y) L linear k combination_of row_of echelon
+            (each_map {Q = λ (d : EchelonRow p). AgreesOn p (λ z. z < suc y) (L (combination_of d)) (row_of d)} (λ d f. record { at = λ z _. f z }) echelon h.from)
+            (λ x. 0) (λ y. 0) linear.nothing).at y here in
+            let turned : Congruent p (L (value_in combination) y) (L (λ x. 0 + (p - 1) * v x) y) =
+            (linear.alike (value_in combination) (λ x. 0 + (p - 1) * v x) (record {
+              at = λ x _. Congruent_from (Congruent_add (combination_is x) (Congruent_add (Congruent_scale by (sum_is x)) (Congruent_scale (v x) by_is))) (omega arith);
+            })).at y here in
+            let all : Congruent p (L (value_in combination) y) (0 + (p - 1) * (0 + S)) =
+            Congruent_trans turned (Congruent_trans ((linear.plus (p - 1) (λ x. 0) v).at y here) (Congruent_add (linear.nothing.at y here) (Congruent_scale (p - 1) whole))) in
+            Congruent_from (Congruent_add (Congruent_sym (rest_is y)) (Congruent_add (Congruent_sym all) (Congruent_sym (add-negated p S field.large)))) (omega arith);
+      }
+
+-- ---- bounds of positions
+
+pub below_more : (row : List (ℕ × ℕ)) (i : ℕ) (e : ℕ × ℕ) (old new : ℕ) → e ≡ get_or row i e → i < length row → old ≤ new → e.0 < new → IsBelow old (take i row) → IsBelow new (take (i + 1) row)
+below_more row i e old new is b wide here h =
+    let more : take (i + 1) row ≡ take i row ++ (e ∷ []) = take_more row i e b ∙ ap (λ (f : ℕ × ℕ). take i row ++ (f ∷ [])) (sym is) in
+    subst (IsBelow new) (sym more) (each_push (λ (f : ℕ × ℕ). f.0 < new) (take i row) e (each_map {Q = λ (f : ℕ × ℕ). f.0 < new} (λ f c. omega arith) (take i row) h) here)
+
+pub all_below_more : (rows : List (List (ℕ × ℕ))) (i : ℕ) (row : List (ℕ × ℕ)) (old new : ℕ) → row ≡ get_or rows i row → i < length rows → old ≤ new → IsBelow new row → Each (IsBelow old) (take i rows) → Each (IsBelow new) (take (i + 1) rows)
+all_below_more rows i row old new is b wide here h =
+    let more : take (i + 1) rows ≡ take i rows ++ (row ∷ []) = take_more rows i row b ∙ ap (λ (r : List (ℕ × ℕ)). take i rows ++ (r ∷ [])) (sym is) in
+    subst (Each (IsBelow new)) (sym more)
+    (each_push (IsBelow new) (take i rows) row (each_map {Q = IsBelow new} (λ r c. each_map {Q = λ (f : ℕ × ℕ). f.0 < new} (λ f d. omega arith) r c) (take i rows) h) here)
+
+pub wider : (old new : ℕ) (row : List (ℕ × ℕ)) → old ≤ new → IsBelow old row → IsBelow new row
+wider old new row b h = each_map {Q = λ (f : ℕ × ℕ). f.0 < new} (λ f c. omega arith) row h
+
+-- no rows have no leads
+pub echelon_none : (p : ℕ) → IsEchelonOf p [] []
+echelon_none p = record {
+  rows_are = tt;
+  ascends = tt;
+  pivots = λ t. (λ h. h.lead.nonzero ((h.member.same.at t tt).same ∙ zero-mod p), λ m. elim m [ ]);
+  canonical = tt;
+  from = tt;
+}
+
+-- the echelon list of a walk that skips nothing
+pub echelon_whole : (p width : ℕ) (field : IsField p) (rows : List (List (ℕ × ℕ))) (skip : List ℕ) (solutions : List (List (ℕ × ℕ))) (owner : List ℕ) (echelon : List (EchelonRow p))
+    → Each (IsBelow width) rows → IsSolvedWhole p width rows skip solutions owner echelon → IsEchelonOf p rows echelon
+echelon_whole p width field rows skip solutions owner echelon below h =
+    let r = h.reduced in
+    let Row : EchelonRow p → Type 0 = IsEchelonRow p width rows skip h.solved.kernel in
+    make_echelon p field rows echelon
+    (each_map {P = Row} {Q = λ (e : EchelonRow p). IsRow p e.row × IsRow p e.combination} (λ e g. g.rows_are) echelon r.each) r.ascends r.reduced
+    (each_map {P = Row} {Q = λ (e : EchelonRow p). StartsAt p e.pivot (row_of e)} (λ e g. g.starts) echelon r.each)
+    (each_map {P = Row} {Q = λ (e : EchelonRow p). (y : ℕ) → Congruent p (combined rows (combination_of e) y) (row_of e y)}
+    (λ e g y. elim (cases_lt y width) [
+      | inl b ↦ g.from.at y b
+      | inr b ↦ Congruent_trans (Congruent_of (combined_beyond 0 width rows (combination_of e) y below b)) (Congruent_sym (g.wide y b))
+    ])
+    echelon r.each)
+    (λ v t l.
+    let inside : t < width = lead_inside p width rows v t below l.nonzero in
+    let among = h.solved.walked.image_whole v (record { before = λ x b. absurd (omega arith) }) t (record { on = inside; nonzero = l.nonzero; least = λ y _ b. l.least y tt b }) in
+    r.whole t (omega arith) inside ((h.solved.owned t inside).1 among))

@@ -1,0 +1,38 @@
+-- Spaces: given rows and the reduced echelon list of their span.
+use Rattle.std.specs.Prelude.{◌≡◌, ℕ, ◌+◌, ◌<◌, ◌↔◌, List, map, length}
+use Rattle.linear_law.specs.Congruence.{Congruent}
+use Rattle.linear_law.specs.Lists.{Among, Each, IsAscending}
+use Rattle.linear_law.specs.ReducedBases.{AgreesOn}
+use Rattle.linear_law.specs.Elimination.{IsImage}
+use Rattle.linear_law.specs.Pivots.{IsCanonical, IsPivot}
+use Rattle.sparse_rows.specs.Rows.{IsRow, value_in}
+use Rattle.row_reduce.specs.declared.EchelonRow.{EchelonRow}
+use Rattle.row_reduce.specs.Walk.{combined}
+use Rattle.row_reduce.specs.Echelon.{combination_of, pivot_of, row_of}
+
+-- what a space is seen as
+pub record Spanned (p : ℕ) : Type 0 where
+  pub given : List (List (ℕ × ℕ))
+  pub echelon : List (EchelonRow p)
+
+-- all places count
+abbrev pub Everywhere : ℕ → Type 0
+Everywhere y = Unit {0}
+
+-- w is a combination of the rows
+abbrev pub IsSpannedBy : ℕ → List (List (ℕ × ℕ)) → (ℕ → ℕ) → Type 0
+IsSpannedBy p given w = IsImage p Everywhere (combined given) w
+
+-- The one reduced echelon list of the span: its pivots are the least places of the nonzero members, in
+-- order, each row is the canonical member of its pivot, and its combination of given rows gives it.
+pub record IsEchelonOf (p : ℕ) (given : List (List (ℕ × ℕ))) (echelon : List (EchelonRow p)) : Type 0 where
+  pub rows_are : Each (λ (e : EchelonRow p). IsRow p e.row × IsRow p e.combination) echelon
+  pub ascends : IsAscending (map pivot_of echelon)
+  pub pivots : (t : ℕ) → IsPivot p Everywhere (λ a b. a < b) (IsSpannedBy p given) t ↔ Among t (map pivot_of echelon)
+  pub canonical : Each (λ (e : EchelonRow p). IsCanonical p Everywhere (λ a b. a < b) (IsSpannedBy p given) e.pivot (row_of e)) echelon
+  pub from : Each (λ (e : EchelonRow p). (y : ℕ) → Congruent p (combined given (combination_of e) y) (row_of e y)) echelon
+
+-- `row` is the sum of `rest`, which is 0 at each pivot, and a combination of given rows
+pub record IsRemainder (p : ℕ) (given : List (List (ℕ × ℕ))) (echelon : List (EchelonRow p)) (row rest combination : List (ℕ × ℕ)) : Type 0 where
+  pub zero : Each (λ (e : EchelonRow p). Congruent p (value_in rest e.pivot) 0) echelon
+  pub sum : (y : ℕ) → Congruent p (value_in row y) (value_in rest y + combined given (value_in combination) y)
