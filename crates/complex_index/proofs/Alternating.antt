@@ -10,14 +10,14 @@ use Rattle.linear_law.specs.Listing.{unit_vector}
 use Rattle.linear_law.proofs.CongruenceLemmas.{Congruent_refl, Congruent_of, Congruent_sym, Congruent_trans, Congruent_add, Congruent_mul, Congruent_scale, Congruent_cancel, add-negated, Congruent_mod}
 use Rattle.linear_law.proofs.SumLemmas.{sum_append, sum_map}
 use Rattle.linear_law.proofs.ListLemmas.{each_append}
-use Rattle.simplicial_law.specs.Cochains.{Cochain, alternating_chain, boundary, coboundary, pairing, unit_cochain}
+use Rattle.simplicial_law.specs.Cochains.{faces, Cochain, alternating_chain, boundary, coboundary, pairing, unit_cochain}
 use Rattle.simplicial_law.specs.ListedSimplices.{simplex_cmp}
 use Rattle.simplicial_law.specs.CanonicalClasses.{cochain_of}
 use Rattle.simplicial_law.specs.EliminatedDegrees.{terms_of}
-use Rattle.simplicial_law.proofs.ListedSimplices.{once_in_order}
+use Rattle.simplicial_law.proofs.ListedSimplices.{get_or_any, once_in_order}
 use Rattle.simplicial_law.proofs.UnitCochains.{unit_away, unit_here}
 use Rattle.sparse_rows.specs.Rows.{IsBelow, value_in}
-use Rattle.complex_index.specs.Incidence.{ArePlaces, ArePlacesOf, simplex_at, marks, above_at, list_at, lists_of}
+use Rattle.complex_index.specs.Incidence.{ArePlaces, ArePlacesOf, simplex_at, marks, above_at, list_at}
 use Rattle.complex_index.specs.Chains.{boundary_coefficient, pair_of, shrunk, signed_places, signed_value, spread}
 use Rattle.complex_index.proofs.FacePlaces.{left_at}
 use Rattle.complex_index.proofs.LevelLemmas.{places_length}
@@ -152,11 +152,6 @@ places_at lower (s ∷ ss) [] k h l = absurd h
 places_at lower (s ∷ ss) (p ∷ ps) zero h l = h.0
 places_at lower (s ∷ ss) (p ∷ ps) (suc k) h l = places_at lower ss ps k h.1 (omega arith)
 
-row_of_lists : (vs : List (Vec ℕ Global)) (k : ℕ) → list_at vs k ≡ get_or (lists_of vs) k []
-row_of_lists [] k = refl
-row_of_lists (v ∷ vs) zero = refl
-row_of_lists (v ∷ vs) (suc k) = row_of_lists vs k
-
 pairing_add : (a : ℕ) (f g : Cochain) (c : List (ℕ × List ℕ)) → pairing (λ s. a * f s + g s) c ≡ a * pairing f c + pairing g c
 pairing_add a f g [] = omega arith
 pairing_add a f g (t ∷ c) = omega (arith, pairing_add a f g c)
@@ -194,22 +189,20 @@ signs_sum : (p a x : ℕ) (o : Bool) (qs : List ℕ) → sum_at x (signed_places
 signs_sum p a x o [] = refl
 signs_sum p a x o (q ∷ qs) = ap (λ n. cond (eqb q x) (signed_value p a o) 0 + n) (signs_sum p a x (not o) qs)
 
-shrunk_value : (p : ℕ) (lower upper : List (List ℕ)) (below : List (Vec ℕ Global)) (row : List (ℕ × ℕ)) (x : ℕ)
-    → 1 < p → IsStrictlySortedBy simplex_cmp lower → ArePlacesOf lower upper (lists_of below) → IsBelow (length upper) row → x < length lower
-    → Congruent p (sum_at x (shrunk p below row)) (boundary_coefficient p (terms_of upper row) (simplex_at lower x))
-shrunk_value p lower upper below [] x h w r f l = Congruent_refl 0
-shrunk_value p lower upper below (t ∷ ts) x h w r f l =
-    let row : sum_at x (signed_places p t.1 false (list_at below t.0)) ≡ edge p t.1 x false (get_or (lists_of below) t.0 []) =
-    signs_sum p t.1 x false (list_at below t.0) ∙ ap (edge p t.1 x false) (row_of_lists below t.0) in
-    Congruent_trans (Congruent_of (sum_at_app x (signed_places p t.1 false (list_at below t.0)) (shrunk p below ts)))
-    (Congruent_add (Congruent_trans (Congruent_of row) (edge_of p t.1 x lower (simplex_at upper t.0) (get_or (lists_of below) t.0 []) h w l (places_at lower upper (lists_of below) t.0 r f.0)))
-    (shrunk_value p lower upper below ts x h w r f.1 l))
+shrunk_value : (p : ℕ) (lower upper pss : List (List ℕ)) (row : List (ℕ × ℕ)) (x : ℕ)
+    → 1 < p → IsStrictlySortedBy simplex_cmp lower → ArePlacesOf lower upper pss → IsBelow (length upper) row → x < length lower
+    → Congruent p (sum_at x (shrunk p pss row)) (boundary_coefficient p (terms_of upper row) (simplex_at lower x))
+shrunk_value p lower upper pss [] x h w r f l = Congruent_refl 0
+shrunk_value p lower upper pss (t ∷ ts) x h w r f l =
+    Congruent_trans (Congruent_of (sum_at_app x (signed_places p t.1 false (get_or pss t.0 [])) (shrunk p pss ts)))
+    (Congruent_add (Congruent_trans (Congruent_of (signs_sum p t.1 x false (get_or pss t.0 []))) (edge_of p t.1 x lower (simplex_at upper t.0) (get_or pss t.0 []) h w l (places_at lower upper pss t.0 r f.0)))
+    (shrunk_value p lower upper pss ts x h w r f.1 l))
 
 -- The coefficient of each simplex in the boundary of a chain.
-pub boundary_is : (p : ℕ) (lower upper : List (List ℕ)) (below : List (Vec ℕ Global)) (row : List (ℕ × ℕ)) (x : ℕ)
-    → 1 < p → IsStrictlySortedBy simplex_cmp lower → ArePlacesOf lower upper (lists_of below) → IsBelow (length upper) row → x < length lower
-    → Congruent p (value_in (shrunk p below row) x) (boundary_coefficient p (terms_of upper row) (simplex_at lower x))
-boundary_is p lower upper below row x h w r f l = Congruent_trans (Congruent_of (sym (sum_at_value x (shrunk p below row)))) (shrunk_value p lower upper below row x h w r f l)
+pub boundary_is : (p : ℕ) (lower upper pss : List (List ℕ)) (row : List (ℕ × ℕ)) (x : ℕ)
+    → 1 < p → IsStrictlySortedBy simplex_cmp lower → ArePlacesOf lower upper pss → IsBelow (length upper) row → x < length lower
+    → Congruent p (value_in (shrunk p pss row) x) (boundary_coefficient p (terms_of upper row) (simplex_at lower x))
+boundary_is p lower upper pss row x h w r f l = Congruent_trans (Congruent_of (sym (sum_at_value x (shrunk p pss row)))) (shrunk_value p lower upper pss row x h w r f l)
 
 -- ---- places in range
 
@@ -241,17 +234,38 @@ signed_below : (p a n : ℕ) (o : Bool) (qs : List ℕ) → Each (λ q. q < n) q
 signed_below p a n o [] h = tt
 signed_below p a n o (q ∷ qs) h = (h.0, signed_below p a n (not o) qs h.1)
 
-below_at : (lower upper : List (List ℕ)) (vs : List (Vec ℕ Global)) (x : ℕ) → ArePlacesOf lower upper (lists_of vs) → Each (λ q. q < length lower) (list_at vs x)
+below_at : (lower upper pss : List (List ℕ)) (x : ℕ) → ArePlacesOf lower upper pss → Each (λ q. q < length lower) (get_or pss x [])
 below_at lower upper [] x h = tt
-below_at lower [] (v ∷ vs) x h = absurd h
-below_at lower (s ∷ ss) (v ∷ vs) zero h = h.0.below
-below_at lower (s ∷ ss) (v ∷ vs) (suc x) h = below_at lower ss vs x h.1
+below_at lower [] (ps ∷ pss) x h = absurd h
+below_at lower (s ∷ ss) (ps ∷ pss) zero h = h.0.below
+below_at lower (s ∷ ss) (ps ∷ pss) (suc x) h = below_at lower ss pss x h.1
 
-pub shrunk_below : (p : ℕ) (lower upper : List (List ℕ)) (below : List (Vec ℕ Global)) (row : List (ℕ × ℕ)) → ArePlacesOf lower upper (lists_of below) → IsBelow (length lower) (shrunk p below row)
-shrunk_below p lower upper below [] h = tt
-shrunk_below p lower upper below (t ∷ ts) h =
-    each_append (λ (u : ℕ × ℕ). u.0 < length lower) (signed_places p t.1 false (list_at below t.0)) (shrunk p below ts)
-    (signed_below p t.1 (length lower) false (list_at below t.0) (below_at lower upper below t.0 h)) (shrunk_below p lower upper below ts h)
+pub shrunk_below : (p : ℕ) (lower upper pss : List (List ℕ)) (row : List (ℕ × ℕ)) → ArePlacesOf lower upper pss → IsBelow (length lower) (shrunk p pss row)
+shrunk_below p lower upper pss [] h = tt
+shrunk_below p lower upper pss (t ∷ ts) h =
+    each_append (λ (u : ℕ × ℕ). u.0 < length lower) (signed_places p t.1 false (get_or pss t.0 [])) (shrunk p pss ts)
+    (signed_below p t.1 (length lower) false (get_or pss t.0 []) (below_at lower upper pss t.0 h)) (shrunk_below p lower upper pss ts h)
+
+-- ---- a simplex has one list of places of its faces
+
+head_same : {X : Type 0} (x y : X) (xs ys : List X) → x ∷ xs ≡ y ∷ ys → x ≡ y
+head_same x y xs ys e = cc
+
+tail_same : {X : Type 0} (x y : X) (xs ys : List X) → x ∷ xs ≡ y ∷ ys → xs ≡ ys
+tail_same x y xs ys e = cc
+
+same_places : (ks : List (List ℕ)) (ps qs : List ℕ) → IsStrictlySortedBy simplex_cmp ks → Each (λ x. x < length ks) ps → Each (λ x. x < length ks) qs → map (simplex_at ks) ps ≡ map (simplex_at ks) qs → ps ≡ qs
+same_places ks [] [] h a b e = refl
+same_places ks [] (q ∷ qs) h a b e = cc
+same_places ks (p ∷ ps) [] h a b e = cc
+same_places ks (p ∷ ps) (q ∷ qs) h a b e = ap₂ ◌∷◌
+    (once_in_order ks p q h a.0 b.0 (head_same (simplex_at ks p) (simplex_at ks q) (map (simplex_at ks) ps) (map (simplex_at ks) qs) e))
+    (same_places ks ps qs h a.1 b.1 (tail_same (simplex_at ks p) (simplex_at ks q) (map (simplex_at ks) ps) (map (simplex_at ks) qs) e))
+
+places_are : (lower upper pss : List (List ℕ)) (x : ℕ) (s ps : List ℕ) → IsStrictlySortedBy simplex_cmp lower → ArePlacesOf lower upper pss → x < length upper → s ≡ simplex_at upper x → ArePlaces lower s ps → ps ≡ get_or pss x []
+places_are lower upper pss x s ps h r l e a =
+    let there = places_at lower upper pss x r l in
+    same_places lower ps (get_or pss x []) h a.below there.below (a.places ∙ ap faces e ∙ sym there.places)
 
 -- ---- the steps of the loops
 
@@ -264,11 +278,12 @@ spread_step p above row i t found new cs l e r n h =
     ∙ ap (λ (ts : List (ℕ × ℕ)). found ++ spread p above ts) (sym (left_at row i t l e))
     ∙ h
 
-pub shrunk_step : (p : ℕ) (below : List (Vec ℕ Global)) (row : List (ℕ × ℕ)) (i : ℕ) (t : ℕ × ℕ) (found new : List (ℕ × ℕ)) (qs : List ℕ)
-    → i < length row → t ≡ get_or row i t → qs ≡ list_at below t.0 → new ≡ found ++ signed_places p t.1 false qs
-    → found ++ shrunk p below (drop i row) ≡ shrunk p below row → new ++ shrunk p below (drop (i + 1) row) ≡ shrunk p below row
-shrunk_step p below row i t found new qs l e r n h =
-    ap (λ xs. xs ++ shrunk p below (drop (i + 1) row)) (n ∙ ap (λ (ds : List ℕ). found ++ signed_places p t.1 false ds) r)
-    ∙ append_assoc found (signed_places p t.1 false (list_at below t.0)) (shrunk p below (drop (i + 1) row))
-    ∙ ap (λ (ts : List (ℕ × ℕ)). found ++ shrunk p below ts) (sym (left_at row i t l e))
-    ∙ h
+pub shrunk_step : (p : ℕ) (lower upper : List (List ℕ)) (row : List (ℕ × ℕ)) (i : ℕ) (t : ℕ × ℕ) (found new : List (ℕ × ℕ)) (s qs : List ℕ)
+    → IsStrictlySortedBy simplex_cmp lower → i < length row → t ≡ get_or row i t → t.0 < length upper → s ≡ get_or upper t.0 s → ArePlaces lower s qs → new ≡ found ++ signed_places p t.1 false qs
+    → ((pss : List (List ℕ)) → ArePlacesOf lower upper pss → found ++ shrunk p pss (drop i row) ≡ shrunk p pss row)
+    → (pss : List (List ℕ)) → ArePlacesOf lower upper pss → new ++ shrunk p pss (drop (i + 1) row) ≡ shrunk p pss row
+shrunk_step p lower upper row i t found new s qs o l e b g r n h pss a =
+    ap (λ xs. xs ++ shrunk p pss (drop (i + 1) row)) (n ∙ ap (λ (ds : List ℕ). found ++ signed_places p t.1 false ds) (places_are lower upper pss t.0 s qs o a b (g ∙ get_or_any upper t.0 s [] b) r))
+    ∙ append_assoc found (signed_places p t.1 false (get_or pss t.0 [])) (shrunk p pss (drop (i + 1) row))
+    ∙ ap (λ (ts : List (ℕ × ℕ)). found ++ shrunk p pss ts) (sym (left_at row i t l e))
+    ∙ h pss a

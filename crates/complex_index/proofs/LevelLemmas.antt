@@ -1,5 +1,5 @@
 -- The levels of an index, one after the other, and what they are together.
-use Rattle.std.proofs.Common.{◌≡◌, ℕ, zero, suc, ◌+◌, ◌^◌, ◌<◌, ◌≤◌, inl, inr, arith, refl, sym, ◌∙◌, ap, subst, List, [], ◌∷◌, ◌++◌, length, take, get_or, max, Bool, true, false, eqb, cond, map, Vec, Global}
+use Rattle.std.proofs.Common.{◌≡◌, ℕ, zero, suc, ◌+◌, ◌-◌, sub-one, ◌^◌, ◌<◌, ◌≤◌, inl, inr, arith, refl, sym, ◌∙◌, ap, subst, List, [], ◌∷◌, ◌++◌, length, take, get_or, max, Bool, true, false, eqb, cond, map, Vec, Global}
 use Rattle.std.proofs.lemmas.Bool.{cases_eq, cases_lt}
 use Rattle.std.proofs.lemmas.Bool.Decides.{eqb_tells}
 use Rattle.std.proofs.lemmas.List.{length-map, take_more}
@@ -9,14 +9,15 @@ use Rattle.complex_index.specs.declared.incidence.Coface.{Coface}
 use Rattle.complex_index.specs.declared.levels.Level.{Level}
 use Rattle.linear_law.specs.Lists.{Each, Among, IsAscending}
 use Rattle.linear_law.specs.Listing.{ListsAll}
-use Rattle.linear_law.proofs.ListLemmas.{among_left, each_among, each_map}
+use Rattle.linear_law.proofs.ListLemmas.{among_left, each_among, each_map, each_of_map}
 use Rattle.simplicial_law.specs.Simplices.{IsInOrder, IsSimplex}
 use Rattle.simplicial_law.specs.Cochains.{faces}
 use Rattle.simplicial_law.specs.ListedSimplices.{IsClosed, of_degree, simplex_cmp, simplices, sublists}
 use Rattle.simplicial_law.proofs.Sublists.{of_map, sublist_first, sublist_of_rest, sublist_whole, sublist_with, sublists_cases}
 use Rattle.simplicial_law.proofs.ListedSimplices.{each_of, in_filter, length_of_test, listed_simplices_law, of_all, of_filter, of_size_sorted, simplices_closed, test_of_length}
-use Rattle.complex_index.specs.Incidence.{ArePlacesOf, lists_of}
-use Rattle.complex_index.specs.Levels.{AreLevels, Fits, IsIndex, IsIndexOf, IsLargest, lists, level, faces_at, cofaces_at}
+use Rattle.complex_index.specs.Incidence.{ArePlacesOf, simplex_at}
+use Rattle.complex_index.proofs.Searching.{among_place}
+use Rattle.complex_index.specs.Levels.{AreLevels, Fits, IsIndex, IsIndexOf, IsLargest, lists, level, cofaces_at}
 use Rattle.complex_index.proofs.FacePlaces.{each_push}
 
 -- ---- pushing a level
@@ -31,17 +32,6 @@ lists_last [] l zero h = refl
 lists_last [] l (suc n) h = absurd (omega arith)
 lists_last (k ∷ ls) l zero h = absurd (omega arith)
 lists_last (k ∷ ls) l (suc n) h = lists_last ls l n (omega arith)
-
-faces_more : (ls : List Level) (l : Level) (n : ℕ) → n < length ls → faces_at (ls ++ l ∷ []) n ≡ faces_at ls n
-faces_more [] l n h = absurd (omega arith)
-faces_more (k ∷ ls) l zero h = refl
-faces_more (k ∷ ls) l (suc n) h = faces_more ls l n (omega arith)
-
-faces_last : (ls : List Level) (l : Level) (n : ℕ) → n ≡ length ls → faces_at (ls ++ l ∷ []) n ≡ l.faces.items
-faces_last [] l zero h = refl
-faces_last [] l (suc n) h = absurd (omega arith)
-faces_last (k ∷ ls) l zero h = absurd (omega arith)
-faces_last (k ∷ ls) l (suc n) h = faces_last ls l n (omega arith)
 
 cofaces_more : (ls : List Level) (l : Level) (n : ℕ) → n < length ls → cofaces_at (ls ++ l ∷ []) n ≡ cofaces_at ls n
 cofaces_more [] l n h = absurd (omega arith)
@@ -58,21 +48,21 @@ length_push : {X : Type 0} (xs : List X) (x : X) → length (xs ++ x ∷ []) ≡
 length_push [] x = refl
 length_push (y ∷ ys) x = omega (arith, length_push ys x)
 
-fits_same : {a b c d : List (List ℕ)} {f g : List (Vec ℕ Global)} {h k : List (Vec Coface Global)} → a ≡ b → c ≡ d → f ≡ g → h ≡ k → Fits a c f h → Fits b d g k
-fits_same p q r s w = subst (λ (x : (List (List ℕ) × List (List ℕ)) × (List (Vec ℕ Global) × List (Vec Coface Global))). Fits x.0.0 x.0.1 x.1.0 x.1.1) (λ i. ((p i, q i), (r i, s i))) w
+fits_same : {a b c d : List (List ℕ)} {h k : List (Vec Coface Global)} → a ≡ b → c ≡ d → h ≡ k → Fits a c h → Fits b d k
+fits_same p q s w = subst (λ (x : (List (List ℕ) × List (List ℕ)) × List (Vec Coface Global)). Fits x.0.0 x.0.1 x.1) (λ i. ((p i, q i), s i)) w
 
 pub levels_push : (ks : List (List ℕ)) (ls : List Level) (l : Level) → AreLevels ks ls → l.simplices.items ≡ of_degree (length ls) ks
-    → ((n : ℕ) → n + 1 ≡ length ls → Fits (level (lists ls) n) l.simplices.items l.faces.items l.cofaces.items) → AreLevels ks (ls ++ l ∷ [])
+    → ((n : ℕ) → n + 1 ≡ length ls → Fits (level (lists ls) n) l.simplices.items l.cofaces.items) → AreLevels ks (ls ++ l ∷ [])
 levels_push ks ls l h e f = record {
   levels = λ n b. elim (cases_eq n (length ls)) [
     | inl q ↦ lists_last ls l n q ∙ e ∙ ap (λ (m : ℕ). of_degree m ks) (sym q)
     | inr d ↦ (let s : n < length ls = omega (arith, length_push ls l, d) in lists_more ls l n s ∙ h.levels n s)
   ];
   fits = λ n b. elim (cases_eq (n + 1) (length ls)) [
-    | inl q ↦ (let s : n < length ls = omega arith in fits_same (sym (lists_more ls l n s)) (sym (lists_last ls l (n + 1) q)) (sym (faces_last ls l (n + 1) q)) (sym (cofaces_last ls l (n + 1) q)) (f n q))
+    | inl q ↦ (let s : n < length ls = omega arith in fits_same (sym (lists_more ls l n s)) (sym (lists_last ls l (n + 1) q)) (sym (cofaces_last ls l (n + 1) q)) (f n q))
     | inr d ↦ (let s : n + 1 < length ls = omega (arith, length_push ls l, d) in
         let t : n < length ls = omega arith in
-        fits_same (sym (lists_more ls l n t)) (sym (lists_more ls l (n + 1) s)) (sym (faces_more ls l (n + 1) s)) (sym (cofaces_more ls l (n + 1) s)) (h.fits n s))
+        fits_same (sym (lists_more ls l n t)) (sym (lists_more ls l (n + 1) s)) (sym (cofaces_more ls l (n + 1) s)) (h.fits n s))
   ];
 }
 
@@ -272,18 +262,31 @@ cofaces_is [] i l h e = absurd (omega arith)
 cofaces_is (k ∷ ls) zero l h e = ap (λ (m : Level). m.cofaces.items) e
 cofaces_is (k ∷ ls) (suc i) l h e = cofaces_is ls i l (omega arith) e
 
-pub faces_is : (ls : List Level) (i : ℕ) (l : Level) → i < length ls → l ≡ get_or ls i l → l.faces.items ≡ faces_at ls i
-faces_is [] i l h e = absurd (omega arith)
-faces_is (k ∷ ls) zero l h e = ap (λ (m : Level). m.faces.items) e
-faces_is (k ∷ ls) (suc i) l h e = faces_is ls i l (omega arith) e
-
 pub count_cofaces : (ls : List Level) (n : ℕ) → IsIndex ls → n + 1 < length ls → length (cofaces_at ls (n + 1)) ≡ length (level (lists ls) n)
 count_cofaces ls n i h = (i.fits n h).len
 
-pub count_faces : (ls : List Level) (m : ℕ) → IsIndex ls → 0 < m → m < length ls → length (faces_at ls m) ≡ length (level (lists ls) m)
-count_faces ls zero i h l = absurd (omega arith)
-count_faces ls (suc n) i h l =
-    let e : n + 1 ≡ suc n = omega arith in
-    let w = i.fits n (omega arith) in
-    subst (λ (m : ℕ). length (faces_at ls m) ≡ length (level (lists ls) m)) e
-    (sym (length-map (faces_at ls (n + 1)) (λ (v : Vec ℕ Global). v.items)) ∙ places_length (level (lists ls) n) (level (lists ls) (n + 1)) (lists_of (faces_at ls (n + 1))) w.places)
+-- each face of an upper simplex is one of the lower ones
+pub places_present : (lower upper pss : List (List ℕ)) → ArePlacesOf lower upper pss → Each (λ s. Each (λ t. Among t lower) (faces s)) upper
+places_present lower [] pss h = tt
+places_present lower (s ∷ ss) [] h = absurd h
+places_present lower (s ∷ ss) (p ∷ ps) h = (
+  subst (Each (λ t. Among t lower)) h.0.places (each_of_map (λ t. Among t lower) (simplex_at lower) p (each_map (λ x b. among_place lower x [] b) p h.0.below)),
+  places_present lower ss ps h.1,
+)
+
+-- two neighbouring levels, as the boundary reads them
+pub two_levels : (ls : List Level) (m : ℕ) (lower upper : List (List ℕ)) → IsIndex ls → 0 < m → m < length ls → lower ≡ level (lists ls) (m - 1) → upper ≡ level (lists ls) m
+    → IsStrictlySortedBy simplex_cmp lower × ((length lower < 2 ^ 32) × Each (λ s. Each (λ t. Among t lower) (faces s)) upper)
+two_levels ls zero lower upper i o l e f = absurd (omega arith)
+two_levels ls (suc n) lower upper i o l e f =
+    let q : n + 1 ≡ suc n = omega arith in
+    let low : lower ≡ level (lists ls) n = e ∙ ap (level (lists ls)) (sub-one (suc n)) in
+    let up : upper ≡ level (lists ls) (n + 1) = f ∙ ap (level (lists ls)) (sym q) in
+    let w = i.fits n (omega arith) in (
+      subst (IsStrictlySortedBy simplex_cmp) (sym low) (i.ordered n),
+      (
+        omega (arith, ap length low, i.small n),
+        subst (λ (ks : List (List ℕ)). Each (λ s. Each (λ t. Among t ks) (faces s)) upper) (sym low)
+            (subst (Each (λ s. Each (λ t. Among t (level (lists ls) n)) (faces s))) (sym up) (places_present (level (lists ls) n) (level (lists ls) (n + 1)) w.faces w.places)),
+      ),
+    )

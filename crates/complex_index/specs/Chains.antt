@@ -46,7 +46,7 @@ abbrev pub signed_places : ℕ → ℕ → Bool → List ℕ → List (ℕ × �
 signed_places p a odd [] = []
 signed_places p a odd (x ∷ xs) = (x, signed_value p a odd) ∷ signed_places p a (not odd) xs
 
--- the pairs of a boundary: for each pair of the row the faces
-abbrev pub shrunk : ℕ → List (Vec ℕ Global) → List (ℕ × ℕ) → List (ℕ × ℕ)
-shrunk p below [] = []
-shrunk p below (e ∷ es) = signed_places p e.1 false (list_at below e.0) ++ shrunk p below es
+-- the pairs of a boundary: for each pair of the row the faces, whose places are listed
+abbrev pub shrunk : ℕ → List (List ℕ) → List (ℕ × ℕ) → List (ℕ × ℕ)
+shrunk p faces [] = []
+shrunk p faces (e ∷ es) = signed_places p e.1 false (get_or faces e.0 []) ++ shrunk p faces es

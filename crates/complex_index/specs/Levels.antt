@@ -8,7 +8,7 @@ use Rattle.linear_law.specs.Lists.{Among, Each}
 use Rattle.linear_law.specs.Listing.{ListsAll}
 use Rattle.simplicial_law.specs.Simplices.{IsInOrder, IsSimplex}
 use Rattle.simplicial_law.specs.ListedSimplices.{of_degree, simplex_cmp}
-use Rattle.complex_index.specs.Incidence.{ArePlacesOf, above_at, list_at, lists_of}
+use Rattle.complex_index.specs.Incidence.{ArePlacesOf, above_at, list_at}
 
 -- the simplices of degree n, none past the last level
 abbrev pub level : List (List (List ℕ)) → ℕ → List (List ℕ)
@@ -31,26 +31,22 @@ pub record IsComplexIndex (ls : List (List (List ℕ))) : Type 0 where
 abbrev pub lists : List Level → List (List (List ℕ))
 lists ls = map (λ (l : Level). l.simplices.items) ls
 
-abbrev pub faces_at : List Level → ℕ → List (Vec ℕ Global)
-faces_at [] n = []
-faces_at (l ∷ ls) zero = l.faces.items
-faces_at (l ∷ ls) (suc n) = faces_at ls n
-
 abbrev pub cofaces_at : List Level → ℕ → List (Vec Coface Global)
 cofaces_at [] n = []
 cofaces_at (l ∷ ls) zero = l.cofaces.items
 cofaces_at (l ∷ ls) (suc n) = cofaces_at ls n
 
--- the faces of the upper simplices, and the simplices above the lower ones
-pub record Fits (lower upper : List (List ℕ)) (faces : List (Vec ℕ Global)) (above : List (Vec Coface Global)) : Type 0 where
-  pub places : ArePlacesOf lower upper (lists_of faces)
+-- the upper simplices that stand above each lower one, by the places of the faces of each upper one
+pub record Fits (lower upper : List (List ℕ)) (above : List (Vec Coface Global)) : Type 0 where
+  pub faces : List (List ℕ)
+  pub places : ArePlacesOf lower upper faces
   pub len : length above ≡ length lower
-  pub cofaces : (x : ℕ) → list_at above x ≡ above_at x 0 (lists_of faces)
+  pub cofaces : (x : ℕ) → list_at above x ≡ above_at x 0 faces
 
 -- the levels of the simplices ks up to some degree
 pub record AreLevels (ks : List (List ℕ)) (ls : List Level) : Type 0 where
   pub levels : (n : ℕ) → n < length ls → level (lists ls) n ≡ of_degree n ks
-  pub fits : (n : ℕ) → n + 1 < length ls → Fits (level (lists ls) n) (level (lists ls) (n + 1)) (faces_at ls (n + 1)) (cofaces_at ls (n + 1))
+  pub fits : (n : ℕ) → n + 1 < length ls → Fits (level (lists ls) n) (level (lists ls) (n + 1)) (cofaces_at ls (n + 1))
 
 -- n is the greatest length
 pub record IsLargest (ks : List (List ℕ)) (n : ℕ) : Type 0 where
@@ -62,6 +58,6 @@ pub record IsIndex (ls : List Level) : Type 0 where
   pub complex : IsComplexIndex (lists ls)
   pub ordered : (n : ℕ) → IsStrictlySortedBy simplex_cmp (level (lists ls) n)
   pub sizes : (n : ℕ) (s : List ℕ) → Among s (level (lists ls) n) → length s ≡ n + 1
-  pub fits : (n : ℕ) → n + 1 < length ls → Fits (level (lists ls) n) (level (lists ls) (n + 1)) (faces_at ls (n + 1)) (cofaces_at ls (n + 1))
+  pub fits : (n : ℕ) → n + 1 < length ls → Fits (level (lists ls) n) (level (lists ls) (n + 1)) (cofaces_at ls (n + 1))
   pub small : (n : ℕ) → length (level (lists ls) n) < 2 ^ 32
   pub few : length ls < 2 ^ 32

@@ -37,7 +37,11 @@ fn place_of_face(
 }
 
 // The places of the faces of a simplex.
-fn places_of(alloc: Global, lower: &[Simplex], simplex: &Simplex) -> Result<Vec<u32>, AllocError>
+pub(crate) fn places_of(
+    alloc: Global,
+    lower: &[Simplex],
+    simplex: &Simplex,
+) -> Result<Vec<u32>, AllocError>
     requires ordered { IsStrictlySortedBy simplex_cmp lower.now }
     requires small { length lower.now < 2 ^ 32 }
     requires present { Each (λ t. Among t lower.now) (faces simplex.now) }

@@ -129,7 +129,9 @@ impl Indexed {
         if degree as usize >= self.levels.len() {
             return Ok(Row::new(alloc));
         }
-        let pairs = boundary_pairs(alloc, &self.levels[degree as usize].faces, row)?;
+        let lower = &self.levels[degree as usize - 1].simplices;
+        let upper = &self.levels[degree as usize].simplices;
+        let pairs = boundary_pairs(alloc, lower, upper, row)?;
         Row::from_pairs(alloc, &pairs)
     }
 

@@ -9,12 +9,10 @@ use crate::incidence::{Coface, cofaces, face_places};
 use simplex_set::Simplex;
 use std::alloc::{AllocError, Global};
 
-// The simplices of one degree, the places of their faces, and for each simplex one degree below those
-// of which it is a face.
+// The simplices of one degree, and for each simplex one degree below those of which it is a face.
 #[derive(Debug, Drop)]
 pub(crate) struct Level {
     pub simplices: Vec<Simplex>,
-    pub faces: Vec<Vec<u32>>,
     pub cofaces: Vec<Vec<Coface>>,
 }
 
@@ -44,16 +42,12 @@ fn level_over(
     requires few { length simplices.items < 2 ^ 32 }
     requires present { Each (λ s. Each (λ t. Among t lower.now) (faces s)) simplices.items }
     ensures same { IfOk result (λ l. l.simplices.items ≡ simplices.items) }
-    ensures fits { IfOk result (λ l. Fits lower.now simplices.items l.faces.items l.cofaces.items) }
+    ensures fits { IfOk result (λ l. Fits lower.now simplices.items l.cofaces.items) }
 {
     let faces = face_places(alloc, lower, &simplices)?;
     let count = lower.len();
     let cofaces = cofaces(alloc, count, &faces)?;
-    Ok(Level {
-        simplices,
-        faces,
-        cofaces,
-    })
+    Ok(Level { simplices, cofaces })
 }
 
 fn first_level(alloc: Global, simplices: Vec<Simplex>) -> Level
@@ -61,7 +55,6 @@ fn first_level(alloc: Global, simplices: Vec<Simplex>) -> Level
 {
     Level {
         simplices,
-        faces: Vec::new(alloc),
         cofaces: Vec::new(alloc),
     }
 }
@@ -73,7 +66,7 @@ fn next_level(alloc: Global, all: &[Simplex], levels: &[Level]) -> Result<Level,
     requires room { length levels.now < 2 ^ 32 }
     requires levels { AreLevels all.now levels.now }
     ensures same { IfOk result (λ l. l.simplices.items ≡ of_degree (length levels.now) all.now) }
-    ensures fits { IfOk result (λ l. (n : ℕ) → n + 1 ≡ length levels.now → Fits (level (lists levels.now) n) l.simplices.items l.faces.items l.cofaces.items) }
+    ensures fits { IfOk result (λ l. (n : ℕ) → n + 1 ≡ length levels.now → Fits (level (lists levels.now) n) l.simplices.items l.cofaces.items) }
 {
     let simplices = of_size(alloc, all, levels.len() + 1)?;
     match levels {

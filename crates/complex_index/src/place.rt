@@ -3,14 +3,14 @@ ghost use Rattle.std.specs.List.Sorted.{IsStrictlySortedBy};
 ghost use Rattle.linear_law.specs.Lists.{Among};
 ghost use Rattle.simplicial_law.specs.ListedSimplices.{simplex_cmp};
 
-use simplex_set::Simplex;
+use simplex_set::{Simplex, compare};
 use std::cmp::Ordering;
 
 // How the simplex stands to a list of vertices.
 fn order_of(simplex: &Simplex, vertices: &[u32]) -> Ordering
     ensures { result ≡ simplex_cmp simplex.now vertices.now }
 {
-    simplex.vertices().cmp(vertices)
+    compare(simplex.vertices(), vertices)
 }
 
 // The place of the simplex with these vertices in a list in order.

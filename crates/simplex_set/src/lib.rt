@@ -7,7 +7,7 @@ mod simplex;
 
 pub use closed::{first_too_many, simplices_of};
 pub use open::{FacetRefused, OpenComplex};
-pub use simplex::Simplex;
+pub use simplex::{Simplex, compare};
 
 #[cfg(test)]
 mod tests {

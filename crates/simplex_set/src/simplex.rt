@@ -11,6 +11,16 @@ use std::alloc::{AllocError, Global};
 use std::cmp::Ordering;
 use std::marker::Model;
 
+/// How two lists of vertices stand in the order of simplices. Most differ in the first vertex already.
+pub fn compare(left: &[u32], right: &[u32]) -> Ordering
+    ensures { result ≡ slice_cmp nat_cmp left.now right.now }
+{
+    match (left, right) {
+        ([first, ..], [second, ..]) if first != second => first.cmp(second),
+        _ => left.cmp(right),
+    }
+}
+
 /// A simplex: a list of vertices. The order of simplices is that of their lists.
 #[derive(Debug, Drop)]
 pub struct Simplex {
@@ -59,7 +69,7 @@ impl Ord for Simplex {
     ghost matches_eq = { Prim.search (comparing, rules) };
 
     fn cmp(&self, other: &Simplex) -> Ordering {
-        self.vertices.as_slice().cmp(other.vertices.as_slice())
+        compare(self.vertices.as_slice(), other.vertices.as_slice())
     }
 }
 

@@ -16,5 +16,5 @@ loop-preserved c =
       levels = subst (λ (ls : List Level). AreLevels c.args.all.now ls) (sym c.in_ok-push.ensures.items)
           (levels_push c.args.all.now c.loop.levels.items c.in_ok-next.next c.loop.invariant.levels
           (c.in_ok-next.ensures.same ∙ ap (λ (ls : List Level). of_degree (length ls) c.args.all.now) now)
-          (subst (λ (ls : List Level). (n : ℕ) → n + 1 ≡ length ls → Fits (level (lists ls) n) c.in_ok-next.next.simplices.items c.in_ok-next.next.faces.items c.in_ok-next.next.cofaces.items) now c.in_ok-next.ensures.fits));
+          (subst (λ (ls : List Level). (n : ℕ) → n + 1 ≡ length ls → Fits (level (lists ls) n) c.in_ok-next.next.simplices.items c.in_ok-next.next.cofaces.items) now c.in_ok-next.ensures.fits));
     }
