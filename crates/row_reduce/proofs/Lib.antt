@@ -6,3 +6,4 @@ pub mod ExpansionLemmas
 pub mod SolvedLemmas
 pub mod EchelonLemmas
 pub mod SpaceLemmas
+pub mod KernelLemmas

@@ -1,5 +1,5 @@
 -- The reduced echelon list of a span, with no bound on the places.
-use Rattle.std.proofs.Common.{◌≡◌, ℕ, zero, suc, ◌+◌, ◌*◌, ◌-◌, ◌%◌, ◌<◌, ◌≤◌, ◌≢◌, List, [], ◌∷◌, ◌++◌, map, take, length, get_or, arith, refl, sym, ◌∙◌, ap, subst, inl, inr}
+use Rattle.std.proofs.Common.{◌≡◌, ℕ, suc, ◌+◌, ◌*◌, ◌-◌, ◌%◌, ◌<◌, ◌≤◌, ◌≢◌, List, [], ◌∷◌, ◌++◌, map, take, length, get_or, arith, refl, sym, ◌∙◌, ap, subst, inl, inr}
 use Rattle.std.proofs.lemmas.Bool.{cases_lt}
 use Rattle.std.proofs.lemmas.List.{take_more}
 use native.Mathlib.Nat.{zero-mod}
@@ -7,7 +7,6 @@ use Rattle.linear_law.specs.Congruence.{Congruent, IsField, negated, sum_over}
 use Rattle.linear_law.specs.Lists.{Among, Each, IsAscending}
 use Rattle.linear_law.specs.Listing.{row_combination_from}
 use Rattle.linear_law.specs.ReducedBases.{AgreesOn, IsReduced}
-use Rattle.linear_law.specs.Elimination.{IsImage}
 use Rattle.linear_law.specs.Pivots.{IsCanonical, IsLead, IsPivot}
 use Rattle.linear_law.specs.Triangular.{StartsAt}
 use Rattle.linear_law.proofs.CongruenceLemmas.{Congruent_add, Congruent_from, Congruent_of, Congruent_refl, Congruent_scale, Congruent_sym, Congruent_trans, add-negated}
@@ -19,7 +18,7 @@ use Rattle.linear_law.proofs.TriangularBases.{each_of_index, found}
 use Rattle.sparse_rows.specs.Rows.{IsBelow, IsRow, value_in}
 use Rattle.sparse_rows.proofs.RowLemmas.{value_in-none}
 use Rattle.row_reduce.specs.declared.EchelonRow.{EchelonRow}
-use Rattle.row_reduce.specs.Walk.{combined, owned_in}
+use Rattle.row_reduce.specs.Walk.{combined}
 use Rattle.row_reduce.specs.Echelon.{IsEchelonRow, IsSolvedWhole, cleared, combination_of, pivot_of, row_of}
 use Rattle.row_reduce.specs.Space.{Everywhere, IsEchelonOf, IsRemainder, IsSpannedBy}
 use Rattle.row_reduce.proofs.StepLemmas.{combined_linear}

@@ -29,7 +29,7 @@ combined_linear p width rows =
     subst (λ n. IsLinear p n (λ y. y < width) (combined rows)) (length-map rows value_in) (row_combination-linear p (λ y. y < width) (map value_in rows))
 
 -- what the unit vector goes to: the row
-combined_row : (rows : List (List (ℕ × ℕ))) (low y : ℕ) → low < length rows → combined rows (unit_vector low) y ≡ value_in (get_or rows low []) y
+pub combined_row : (rows : List (List (ℕ × ℕ))) (low y : ℕ) → low < length rows → combined rows (unit_vector low) y ≡ value_in (get_or rows low []) y
 combined_row rows low y b =
     let inside : low < length (map value_in rows) = subst (λ n. low < n) (sym (length-map rows value_in)) b in
     row_combination-row (map value_in rows) low y (value_in []) inside ∙ ap (λ (f : ℕ → ℕ). f y) (map_at rows low)

@@ -1,11 +1,11 @@
 -- Spaces: given rows and the reduced echelon list of their span.
-use Rattle.std.specs.Prelude.{◌≡◌, ℕ, ◌+◌, ◌<◌, ◌↔◌, List, map, length}
+use Rattle.std.specs.Prelude.{◌≡◌, ℕ, ◌+◌, ◌<◌, ◌↔◌, List, [], map, length, slice_index_or}
 use Rattle.linear_law.specs.Congruence.{Congruent}
 use Rattle.linear_law.specs.Lists.{Among, Each, IsAscending}
-use Rattle.linear_law.specs.ReducedBases.{AgreesOn}
+use Rattle.linear_law.specs.Listing.{unit_vector}
 use Rattle.linear_law.specs.Elimination.{IsImage}
 use Rattle.linear_law.specs.Pivots.{IsCanonical, IsPivot}
-use Rattle.sparse_rows.specs.Rows.{IsRow, value_in}
+use Rattle.sparse_rows.specs.Rows.{IsFirst, IsRow, value_in}
 use Rattle.row_reduce.specs.declared.EchelonRow.{EchelonRow}
 use Rattle.row_reduce.specs.Walk.{combined}
 use Rattle.row_reduce.specs.Echelon.{combination_of, pivot_of, row_of}
@@ -36,3 +36,22 @@ pub record IsEchelonOf (p : ℕ) (given : List (List (ℕ × ℕ))) (echelon : L
 pub record IsRemainder (p : ℕ) (given : List (List (ℕ × ℕ))) (echelon : List (EchelonRow p)) (row rest combination : List (ℕ × ℕ)) : Type 0 where
   pub zero : Each (λ (e : EchelonRow p). Congruent p (value_in rest e.pivot) 0) echelon
   pub sum : (y : ℕ) → Congruent p (value_in row y) (value_in rest y + combined given (value_in combination) y)
+
+-- an echelon row that is the given row `at` itself
+pub record IsOwnRow (p at : ℕ) (row : List (ℕ × ℕ)) (e : EchelonRow p) : Type 0 where
+  pub same : e.row ≡ row
+  pub rows_are : IsRow p e.row × IsRow p e.combination
+  pub combination : (x : ℕ) → Congruent p (value_in e.combination x) (unit_vector at x)
+  pub pivot : (k : ℕ) → IsFirst row k → e.pivot ≡ k
+
+-- each echelon row is the given row of its number
+pub record AreOwnRows (p : ℕ) (given : List (List (ℕ × ℕ))) (echelon : List (EchelonRow p)) : Type 0 where
+  pub all : length echelon ≡ length given
+  pub each : (k : ℕ) (d : EchelonRow p) → k < length given → IsOwnRow p k (slice_index_or given k []) (slice_index_or echelon k d)
+
+-- The space of all combinations of the rows that are zero: its given rows are its echelon rows, in order.
+pub record IsKernelOf (p : ℕ) (rows given : List (List (ℕ × ℕ))) (echelon : List (EchelonRow p)) : Type 0 where
+  pub is_echelon : IsEchelonOf p given echelon
+  pub own : AreOwnRows p given echelon
+  pub relations : Each (λ r. (y : ℕ) → Congruent p (combined rows (value_in r) y) 0) given
+  pub whole : (v : ℕ → ℕ) → ((y : ℕ) → Congruent p (combined rows v y) 0) → IsImage p (λ x. x < length rows) (combined given) v

@@ -10,7 +10,7 @@ mod walking;
 pub use echelon::kernel_and_echelon;
 pub use expanding::kernel_and_leads;
 use fp_field::Fp;
-pub use space::Space;
+pub use space::{Space, kernel};
 use sparse_rows::Row;
 
 /// A row that the walk has left, with its lead and how it arose.

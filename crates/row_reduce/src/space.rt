@@ -1,12 +1,13 @@
 ghost use Rattle.std.specs.Prelude.{◌≡◌, ℕ, ◌+◌, ◌^◌, ◌<◌, ◌≤◌, length, slice_index_or, List, [], ◌++◌, OnOk, OnErr, IfOk, IsTrue};
 ghost use Rattle.linear_law.specs.Lists.{Each};
 ghost use Rattle.fp_field.specs.Served.{served};
-ghost use Rattle.sparse_rows.specs.Rows.{IsBelow};
+ghost use Rattle.sparse_rows.specs.Rows.{IsBelow, IsFirst};
 ghost use Rattle.row_reduce.specs.declared.EchelonRow as declared;
-ghost use Rattle.row_reduce.specs.Space.{IsEchelonOf, IsRemainder, Spanned};
+ghost use Rattle.row_reduce.specs.Space.{AreOwnRows, IsEchelonOf, IsKernelOf, IsOwnRow, IsRemainder, Spanned};
 
 use crate::EchelonRow;
 use crate::echelon::{clear, kernel_and_echelon, multiple};
+use crate::expanding::kernel_and_leads;
 use crate::walking::zeros;
 use fp_field::Fp;
 use sparse_rows::Row;
@@ -155,4 +156,107 @@ fn echelon_of<const P: u32>(
     let width = width_of(rows);
     let solution = kernel_and_echelon(alloc, rows, width, skip.as_slice())?;
     Ok(solution.echelon)
+}
+
+/// The least position of a row; 0 where it is empty.
+fn lead_of<const P: u32>(row: &Row<P>) -> u32
+    ensures { (k : ℕ) → IsFirst row.now k → result ≡ k }
+{
+    match row.lead() {
+        Some(lead) => lead,
+        None => 0,
+    }
+}
+
+/// The echelon row that is the given row `at` itself.
+fn own_row<const P: u32>(alloc: Global, row: &Row<P>, at: u32) -> Result<EchelonRow<P>, AllocError>
+    requires { IsTrue (served P) }
+    ensures { IfOk result (IsOwnRow P at row.now) }
+{
+    let own = row.copy()?;
+    let _ = own.as_slice();
+    let combination = Row::from_pairs(alloc, &[(at, Fp::new(1))])?;
+    Ok(EchelonRow {
+        pivot: lead_of(row),
+        row: own,
+        combination,
+    })
+}
+
+/// The given rows themselves, as echelon rows.
+fn own_rows<const P: u32>(alloc: Global, given: &[Row<P>]) -> Result<Vec<EchelonRow<P>>, AllocError>
+    requires prime { IsTrue (served P) }
+    requires few { length given.now < 2 ^ 32 }
+    ensures { IfOk result (λ v. AreOwnRows P given.now v.items) }
+{
+    let mut echelon = Vec::new(alloc);
+    for row in given {
+        let own = own_row(alloc, row, echelon.len() as u32)?;
+        echelon.push(own)?;
+    }
+    Ok(echelon)
+}
+
+/// The space of all combinations of the rows that are zero. Its given rows are its echelon rows, in
+/// order.
+pub fn kernel<const P: u32>(alloc: Global, rows: &[Row<P>]) -> Result<Space<P>, AllocError>
+    requires prime { IsTrue (served P) }
+    requires few { length rows.now < 2 ^ 32 }
+    ensures { IfOk result (λ s. IsKernelOf P rows.now s.given s.echelon) }
+{
+    let skip = zeros(alloc, rows.len())?;
+    let width = width_of(rows);
+    let (given, _owner) = kernel_and_leads(alloc, rows, width, skip.as_slice())?;
+    let echelon = own_rows(alloc, given.as_slice())?;
+    Ok(Space { given, echelon })
+}
+
+#[cfg(test)]
+mod tests {
+    use super::*;
+    use std::test::Fail;
+
+    #[test]
+    fn reduces_and_divides(rt: HostRuntime) -> Result<(), Fail> {
+        let alloc = rt.alloc();
+        let one = Fp::<3>::new(1);
+        let two = Fp::<3>::new(2);
+        let rows = [
+            Row::from_pairs(alloc, &[(0, one), (1, one)])?,
+            Row::from_pairs(alloc, &[(0, one), (1, two)])?,
+        ];
+        let mut space = Space::new(alloc);
+        space.reduce_all(alloc, &rows)?;
+        assert_eq!(rt; space.rank(), 2);
+        assert_eq!(rt; space.pivot(1), 1);
+        assert_eq!(rt; space.row(0).as_slice(), [(0, one)].as_slice());
+        assert_eq!(rt;
+            space.combination(0).as_slice(),
+            [(0, two), (1, two)].as_slice()
+        );
+        let (rest, combination) = space.remainder(
+            alloc,
+            &Row::from_pairs(alloc, &[(0, two), (2, one)])?,
+        )?;
+        assert_eq!(rt; rest.as_slice(), [(2, one)].as_slice());
+        assert_eq!(rt; combination.as_slice(), [(0, one), (1, one)].as_slice());
+        Ok(())
+    }
+
+    #[test]
+    fn finds_the_kernel(rt: HostRuntime) -> Result<(), Fail> {
+        let alloc = rt.alloc();
+        let one = Fp::<3>::new(1);
+        let two = Fp::<3>::new(2);
+        let rows = [
+            Row::from_pairs(alloc, &[(0, one)])?,
+            Row::from_pairs(alloc, &[(0, two)])?,
+            Row::new(alloc),
+        ];
+        let space = kernel(alloc, &rows)?;
+        assert_eq!(rt; space.rank(), 2);
+        assert_eq!(rt; space.row(0).as_slice(), [(0, one), (1, one)].as_slice());
+        assert_eq!(rt; space.row(1).as_slice(), [(2, one)].as_slice());
+        Ok(())
+    }
 }

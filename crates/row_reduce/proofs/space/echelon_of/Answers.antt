@@ -1,7 +1,7 @@
-use Rattle.std.proofs.Common.{◌≡◌, ◌<◌, ℕ, get_or, length, arith, rules, lit<, ap, ◌∙◌, sym, subst}
+use Rattle.std.proofs.Common.{◌≡◌, ◌<◌, get_or, length, arith, rules, lit<, sym, subst}
 use Rattle.fp_field.proofs.ServedLemmas.{served_field}
 use Rattle.row_reduce.specs.Stored.{IsClear}
-use Rattle.row_reduce.specs.Walk.{SkipsFit, owned_in}
+use Rattle.row_reduce.specs.Walk.{SkipsFit}
 use Rattle.row_reduce.proofs.SpaceLemmas.{echelon_whole}
 use Rattle.row_reduce.proofs.space.echelon_of.Goals as goal
 

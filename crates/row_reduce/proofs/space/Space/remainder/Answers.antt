@@ -1,4 +1,4 @@
-use Rattle.std.proofs.Common.{ℕ, ◌*◌, ◌-◌, List, sym, ap, subst, arith}
+use Rattle.std.proofs.Common.{ℕ, ◌*◌, ◌-◌, List, subst, arith}
 use Rattle.linear_law.specs.Congruence.{Congruent}
 use Rattle.linear_law.proofs.CongruenceLemmas.{Congruent_mod, Congruent_of, Congruent_scale, Congruent_trans}
 use Rattle.fp_field.proofs.ServedLemmas.{served_field}
