@@ -1,5 +1,5 @@
 -- Permutations: what no refusal says, images under maps that keep them, compositions and powers of the cycle.
-use Rattle.std.proofs.Common.{◌≡◌, ℕ, zero, suc, ◌+◌, ◌%◌, ◌<◌, ◌≤◌, ◌≢◌, ◌==◌, ◌||◌, Bool, false, List, [], ◌∷◌, ◌++◌, length, map, get_or, None, Some, refl, sym, ap, ◌∙◌, inl, inr, arith, subst}
+use Rattle.std.proofs.Common.{cond, ◌≡◌, ℕ, zero, suc, ◌+◌, ◌%◌, ◌<◌, ◌≤◌, ◌≢◌, ◌==◌, ◌||◌, Bool, false, List, [], ◌∷◌, ◌++◌, length, map, get_or, None, Some, refl, sym, ap, ◌∙◌, inl, inr, arith, subst}
 use Rattle.std.specs.Prelude.{All, nat_lt}
 use Rattle.std.proofs.Math.Nat.{mod-add-mod, add-mod-mod, mod-eq_of_lt, mod-lt, mod_self}
 use Rattle.std.proofs.lemmas.Bool.{cases_Bool, cases_eq, eq-eqb, ne_eqb, eqb-false, or_parts}
@@ -88,7 +88,7 @@ IsDistinct-map f (x ∷ xs) d h = (
     later z o = elim (occurs-cons z x xs) [ inl e ↦ ap (λ w. occurs w (x ∷ xs)) e ∙ occurs-mid x [] xs | inr e ↦ e ∙ o ]
 
 -- an entry of a list has what all entries have
-All-occurs : (P : ℕ → Type 0) (xs : List ℕ) (v : ℕ) → All P xs → occurs v xs ≡ 1 → P v
+pub All-occurs : (P : ℕ → Type 0) (xs : List ℕ) (v : ℕ) → All P xs → occurs v xs ≡ 1 → P v
 All-occurs P [] v a o = absurd (omega (arith, o))
 All-occurs P (x ∷ xs) v a o = elim (occurs-cons v x xs) [
   | inl e ↦ let b : P x = All-head P x xs a in rw e b
@@ -99,6 +99,7 @@ All-occurs P (x ∷ xs) v a o = elim (occurs-cons v x xs) [
 pub record Permutes (f : ℕ → ℕ) (n : ℕ) : Type 0 where
   pub within : (v : ℕ) → 1 ≤ v → v ≤ n → (1 ≤ f v) × (f v ≤ n)
   pub apart : (v w : ℕ) → 1 ≤ v → v ≤ n → 1 ≤ w → w ≤ n → f v ≡ f w → v ≡ w
+  pub reaches : (v : ℕ) → 1 ≤ v → v ≤ n → (w : ℕ) × (1 ≤ w) × (w ≤ n) × (f w ≡ v)
 
 pub IsPerm-map : (f : ℕ → ℕ) (p : List ℕ) → IsPerm p → Permutes f (length p) → IsPerm (map f p)
 IsPerm-map f p h m =
@@ -126,10 +127,74 @@ distinct-apart (x ∷ p) zero (suc j) d h k e = absurd (let a : occurs x p ≡ 1
 distinct-apart (x ∷ p) (suc i) zero d h k e = absurd (let a : occurs x p ≡ 1 = ap (λ w. occurs w p) (sym e) ∙ occurs-get_or p i (omega arith) in let b = d.0 in omega arith)
 distinct-apart (x ∷ p) (suc i) (suc j) d h k e = ap suc (distinct-apart p i j d.1 (omega arith) (omega arith) e)
 
+pub length-numbers_from : (a n : ℕ) → length (numbers_from a n) ≡ n
+length-numbers_from a zero = refl
+length-numbers_from a (suc n) = ap suc (length-numbers_from (suc a) n)
+
+-- ---- a permutation takes each value
+-- the list without the first x
+abbrev removed : ℕ → List ℕ → List ℕ
+removed x [] = []
+removed x (y ∷ ys) = cond (x == y) ys (y ∷ removed x ys)
+
+length-removed : (x : ℕ) (ks : List ℕ) → occurs x ks ≡ 1 → suc (length (removed x ks)) ≡ length ks
+length-removed x [] o = absurd (omega (arith, o))
+length-removed x (k ∷ ks) o = elim (cases_eq x k) [
+  | inl e ↦ rw (eq-eqb x k e) refl
+  | inr n ↦ rw (ne_eqb x k n) (ap suc (length-removed x ks (rw (ne_eqb x k n) at o)))
+]
+
+occurs-removed : (x y : ℕ) (ks : List ℕ) → y ≢ x → occurs y (removed x ks) ≡ occurs y ks
+occurs-removed x y [] n = refl
+occurs-removed x y (k ∷ ks) n = elim (cases_eq x k) [
+  | inl e ↦ rw (eq-eqb x k e, ne_eqb y k (λ q. n (q ∙ sym e))) refl
+  | inr m ↦ rw (ne_eqb x k m) (ap (λ o. cond (y == k) 1 o) (occurs-removed x y ks n))
+]
+
+-- distinct entries of a list are no more than it has places
+no_more : (xs ks : List ℕ) → IsDistinct xs → ((v : ℕ) → occurs v xs ≡ 1 → occurs v ks ≡ 1) → length xs ≤ length ks
+no_more [] ks d h = omega arith
+no_more (x ∷ xs) ks d h =
+    let ih = no_more xs (removed x ks) d.1 (λ v o.
+    let apart : v ≢ x = λ e. absurd (let k : occurs v xs ≡ 0 = ap (λ w. occurs w xs) e ∙ d.0 in omega arith) in
+    occurs-removed x v ks apart ∙ h v (later v o)) in
+    omega (arith, ih, length-removed x ks (h x (occurs-mid x [] xs)))
+  where
+    later : (v : ℕ) → occurs v xs ≡ 1 → occurs v (x ∷ xs) ≡ 1
+    later v o = elim (occurs-cons v x xs) [ inl e ↦ ap (λ w. occurs w (x ∷ xs)) e ∙ occurs-mid x [] xs | inr e ↦ e ∙ o ]
+
+pub numbers_from-has : (a n v : ℕ) → a ≤ v → v < a + n → occurs v (numbers_from a n) ≡ 1
+numbers_from-has a zero v h k = absurd (omega arith)
+numbers_from-has a (suc n) v h k = elim (cases_eq v a) [
+  | inl e ↦ rw (eq-eqb v a e) refl
+  | inr m ↦ rw (ne_eqb v a m) (numbers_from-has (suc a) n v (omega arith) (omega arith))
+]
+
+pub place_of : (v : ℕ) (xs : List ℕ) → occurs v xs ≡ 1 → (i : ℕ) × (i < length xs) × (get_or xs i 0 ≡ v)
+place_of v [] o = absurd (omega (arith, o))
+place_of v (x ∷ xs) o = elim (cases_eq v x) [
+  | inl e ↦ (0, omega arith, sym e)
+  | inr n ↦ let r = place_of v xs (rw (ne_eqb v x n) at o) in (suc r.0, omega (arith, r.1), r.2)
+]
+
+pub perm-has : (p : List ℕ) → IsPerm p → (v : ℕ) → 1 ≤ v → v ≤ length p → occurs v p ≡ 1
+perm-has p h v a b = elim (occurs-01 v p) [
+  | inr o ↦ o
+  | inl z ↦ absurd (
+      let n = numbers_from 1 (length p) in
+      let there : occurs v n ≡ 1 = numbers_from-has 1 (length p) v a (omega arith) in
+      let few = no_more p (removed v n) h.distinct (λ w o.
+      let inside : (1 ≤ w) × (w ≤ length p) = All-occurs (λ u. (1 ≤ u) × (u ≤ length p)) p w h.within o in
+      let apart : w ≢ v = λ e. absurd (let k : occurs w p ≡ 0 = ap (λ u. occurs u p) e ∙ z in omega arith) in
+      occurs-removed v w n apart ∙ numbers_from-has 1 (length p) w inside.0 (omega (arith, inside.1))) in
+      omega (arith, few, length-removed v n there, length-numbers_from 1 (length p)))
+]
+
 pub Permutes-entry_at : (p : List ℕ) → IsPerm p → Permutes (entry_at p) (length p)
 Permutes-entry_at p h = record {
   within = λ v a b. at_one v a b;
   apart = λ v w a b c d e. at_two v w a b c d e;
+  reaches = λ v a b. let r = place_of v p (perm-has p h v a b) in (suc r.0, omega arith, omega (arith, r.1), r.2);
 }
   where
     at_one : (v : ℕ) → 1 ≤ v → v ≤ length p → (1 ≤ entry_at p v) × (entry_at p v ≤ length p)
@@ -167,11 +232,13 @@ Permutes-cycle r h = record {
       | inr n ↦ let k : suc v ≡ suc w = sym (cycle-other r v m) ∙ e ∙ cycle-other r w n in omega arith
     ]
   ];
+  reaches = λ v a b. before v a b;
 }
-
-length-numbers_from : (a n : ℕ) → length (numbers_from a n) ≡ n
-length-numbers_from a zero = refl
-length-numbers_from a (suc n) = ap suc (length-numbers_from (suc a) n)
+  where
+    before : (v : ℕ) → 1 ≤ v → v ≤ r → (w : ℕ) × (1 ≤ w) × (w ≤ r) × (cycle r w ≡ v)
+    before zero a b = absurd (omega arith)
+    before (suc zero) a b = (r, h, omega arith, cycle-last r r refl)
+    before (suc (suc v)) a b = (suc v, omega arith, omega arith, cycle-other r (suc v) (λ e. absurd (omega arith)))
 
 numbers_from-within : (a n m : ℕ) → 1 ≤ a → a + n ≤ suc m → All (λ v. (1 ≤ v) × (v ≤ m)) (numbers_from a n)
 numbers_from-within a zero m h k = All-nil (λ v. (1 ≤ v) × (v ≤ m))
@@ -204,7 +271,7 @@ cycle-shifted r n j h =
       | inr n' ↦ cycle-other r (m + 1) n' ∙ sym (ap (λ k. k + 1) (s ∙ mod-eq_of_lt (omega arith)) ∙ (omega arith))
     ]
 
-map-shifted : (r n : ℕ) (js : List ℕ) → 1 ≤ r → map (cycle r) (map (shifted r n) js) ≡ map (shifted r (suc n)) js
+pub map-shifted : (r n : ℕ) (js : List ℕ) → 1 ≤ r → map (cycle r) (map (shifted r n) js) ≡ map (shifted r (suc n)) js
 map-shifted r n [] h = refl
 map-shifted r n (j ∷ js) h = λ i. cycle-shifted r n j h i ∷ map-shifted r n js h i
 

@@ -1,0 +1,232 @@
+-- The walk over the places of a surjection that sums up its boundary: what is to come, and what is kept.
+use Rattle.std.proofs.Common.{◌≡◌, ℕ, zero, suc, ◌+◌, ◌-◌, ◌≤◌, ◌<◌, ◌⊎◌, ◌≢◌, Bool, true, false, cond, ◌||◌, eqb, List, [], ◌∷◌, ◌++◌, length, take, drop, set, get_or, replicate, map, get_or-set_same, append_assoc, refl, sym, ap, ◌∙◌, inl, inr, arith, subst, IsTrue, ◌==◌}
+use Rattle.std.specs.Prelude.{ℤ, pos, neg_ℤ, ◌+ℤ◌, ◌*ℤ◌, nat_abs, remove}
+use Rattle.std.specs.Cmp.Lexicographic.{slice_cmp}
+use Rattle.std.specs.Ordering.{nat_cmp}
+use Rattle.std.proofs.Math.Seq.{take-suc, drop-cons}
+use Rattle.std.proofs.lemmas.Int.{ints}
+use Rattle.std.proofs.lemmas.Bool.{cases_eq, eq-eqb, eqb-false, eqb-true, ne_eqb}
+use Rattle.signed_sum.specs.Lists.{is_degenerate, occurs}
+use Rattle.signed_sum.specs.Sums.{is_zero, normalized, value_at, weight_of, without_each}
+use Rattle.signed_sum.proofs.SumLemmas.{fun_ext, restricted-gone, restricted-there, value_at-nonzero_terms, weighted_sum, weighted_sum-cons, weighted_sum-nil}
+use Rattle.surjection_law.specs.Boundary.{no_sign, place_signs_from, surjection_boundary, with_sign}
+use Rattle.surjection_law.specs.Surjections.{IsSurjection, arity}
+use Rattle.surjection_law.proofs.BoundaryTwice.{with_sign-other, with_sign-same}
+use Rattle.surjection_law.proofs.SurjectionTerms.{EachTerm, EachTerm-face, IsFace, IsSurjection-face}
+use Rattle.operad_law.specs.FormalSums.{IsSameSum, plus_term}
+use Rattle.signed_sum.proofs.ListLemmas.{occurs-01}
+use Rattle.operad_law.proofs.WordLemmas.{drop_rest}
+use Rattle.surjection.specs.Action.{comes_again}
+use Rattle.operad_law.proofs.PlusTerm.{value_at-plus_term, weight_of-plus_term}
+use Rattle.surjection.specs.ActionLaws.{InRange, in_range}
+use Rattle.surjection.specs.OrderLaws.{equal_is_same}
+use Rattle.surjection.specs.Walk.{AddsFace}
+
+-- the lists without each place of xs, behind pre
+abbrev pub rest_lists : List ℕ → List ℕ → List (List ℕ)
+rest_lists pre xs = map (λ v. pre ++ v) (without_each xs)
+
+-- what an array keeps
+abbrev pub kept_signs : List ℤ → ℕ → ℤ
+kept_signs bs y = get_or bs y (pos 0)
+
+map_map : (pre : List ℕ) (x : ℕ) (vs : List (List ℕ)) → map (λ v. pre ++ v) (map (λ ys. x ∷ ys) vs) ≡ map (λ v. (pre ++ x ∷ []) ++ v) vs
+map_map pre x [] = refl
+map_map pre x (v ∷ vs) = λ i. sym (append_assoc pre (x ∷ []) v) i ∷ map_map pre x vs i
+
+pub rest_lists-cons : (pre : List ℕ) (x : ℕ) (xs : List ℕ) → rest_lists pre (x ∷ xs) ≡ (pre ++ xs) ∷ rest_lists (pre ++ x ∷ []) xs
+rest_lists-cons pre x xs = ap (λ v. (pre ++ xs) ∷ v) (map_map pre x (without_each xs))
+
+set_elsewhere : (bs : List ℤ) (x y : ℕ) (s : ℤ) → y ≢ x → get_or (set bs x s) y (pos 0) ≡ get_or bs y (pos 0)
+set_elsewhere [] x y s d = refl
+set_elsewhere (b ∷ bs) zero zero s d = absurd (d refl)
+set_elsewhere (b ∷ bs) zero (suc y) s d = refl
+set_elsewhere (b ∷ bs) (suc x) zero s d = refl
+set_elsewhere (b ∷ bs) (suc x) (suc y) s d = set_elsewhere bs x y s (λ e. d (ap suc e))
+
+kept_signs_none : (n y : ℕ) → get_or (replicate n (pos 0)) y (pos 0) ≡ pos 0
+kept_signs_none zero y = refl
+kept_signs_none (suc n) zero = refl
+kept_signs_none (suc n) (suc y) = kept_signs_none n y
+
+pub kept_signs-replicate : (n : ℕ) → kept_signs (replicate n (pos 0)) ≡ no_sign
+kept_signs-replicate n = fun_ext (kept_signs_none n)
+
+pub kept_signs-set : (bs : List ℤ) (x : ℕ) (s : ℤ) → x < length bs → kept_signs (set bs x s) ≡ with_sign x s (kept_signs bs)
+kept_signs-set bs x s h = fun_ext (λ y. elim (cases_eq y x) [
+  | inl e ↦ ap (λ v. get_or (set bs x s) v (pos 0)) e ∙ get_or-set_same bs x s (pos 0) h ∙ sym (with_sign-same x y s (kept_signs bs) e)
+  | inr e ↦ set_elsewhere bs x y s e ∙ sym (with_sign-other x y s (kept_signs bs) e)
+])
+
+-- the sign of the next place, and what is kept for those after it
+abbrev pub next_sign : ℤ → (ℕ → ℤ) → ℕ → List ℕ → ℤ
+next_sign s m x xs = cond (eqb (occurs x xs) 0) (neg_ℤ (m x)) s
+
+-- what a walk over the places has still to add, at phi
+abbrev pub to_come : (List ℕ → ℤ) → List ℕ → ℤ → (ℕ → ℤ) → List ℕ → ℤ
+to_come phi pre s m xs = weighted_sum phi (rest_lists pre xs) (place_signs_from s m xs)
+
+to_come_step : (phi : List ℕ → ℤ) (v : List ℕ) (vs : List (List ℕ)) (s : ℤ) (ss : List ℤ) → weighted_sum phi (v ∷ vs) (s ∷ ss) ≡ s *ℤ phi v +ℤ weighted_sum phi vs ss
+to_come_step phi v vs s ss = weighted_sum-cons phi v vs s ss
+
+pub to_come-last : (phi : List ℕ → ℤ) (pre : List ℕ) (s : ℤ) (m : ℕ → ℤ) (x : ℕ) (xs : List ℕ) → occurs x xs ≡ 0 → to_come phi pre s m (x ∷ xs) ≡ neg_ℤ (m x) *ℤ phi (pre ++ xs) +ℤ to_come phi (pre ++ x ∷ []) s m xs
+to_come-last phi pre s m x xs h = rw (rest_lists-cons pre x xs, h) (to_come_step phi (pre ++ xs) (rest_lists (pre ++ x ∷ []) xs) (neg_ℤ (m x)) (place_signs_from s m xs))
+
+pub to_come-again : (phi : List ℕ → ℤ) (pre : List ℕ) (s : ℤ) (m : ℕ → ℤ) (x : ℕ) (xs : List ℕ) → occurs x xs ≢ 0 → to_come phi pre s m (x ∷ xs) ≡ s *ℤ phi (pre ++ xs) +ℤ to_come phi (pre ++ x ∷ []) (neg_ℤ s) (with_sign x s m) xs
+to_come-again phi pre s m x xs h = rw (rest_lists-cons pre x xs, ne_eqb (occurs x xs) 0 h) (to_come_step phi (pre ++ xs) (rest_lists (pre ++ x ∷ []) xs) s (place_signs_from (neg_ℤ s) (with_sign x s m) xs))
+
+-- what the walk has still to meet
+abbrev pub AllToCome : (List ℕ → Type 0) → List ℕ → ℤ → (ℕ → ℤ) → List ℕ → Type 0
+AllToCome P pre s m xs = EachTerm P (rest_lists pre xs) (place_signs_from s m xs)
+
+pub AllToCome-last : (P : List ℕ → Type 0) (pre : List ℕ) (s : ℤ) (m : ℕ → ℤ) (x : ℕ) (xs : List ℕ) → occurs x xs ≡ 0 → AllToCome P pre s m (x ∷ xs) → (is_zero (neg_ℤ (m x)) ≡ false → P (pre ++ xs)) × AllToCome P (pre ++ x ∷ []) s m xs
+AllToCome-last P pre s m x xs h e = rw (rest_lists-cons pre x xs, h) at e
+
+pub AllToCome-again : (P : List ℕ → Type 0) (pre : List ℕ) (s : ℤ) (m : ℕ → ℤ) (x : ℕ) (xs : List ℕ) → occurs x xs ≢ 0 → AllToCome P pre s m (x ∷ xs) → (is_zero s ≡ false → P (pre ++ xs)) × AllToCome P (pre ++ x ∷ []) (neg_ℤ s) (with_sign x s m) xs
+AllToCome-again P pre s m x xs h e = rw (rest_lists-cons pre x xs, ne_eqb (occurs x xs) 0 h) at e
+
+-- a walk over the places of u, before place i
+pub record IsWalk (u : List ℕ) (i : ℕ) (sum : List (List ℕ × ℤ)) (s : ℤ) (bs : List ℤ) : Type 0 where
+  pub sums : (phi : List ℕ → ℤ) → value_at phi sum +ℤ to_come (normalized phi) (take i u) s (kept_signs bs) (drop i u) ≡ value_at phi (surjection_boundary u)
+  pub faces : AllToCome (IsFace no_sign u) (take i u) s (kept_signs bs) (drop i u)
+  pub light : weight_of sum ≤ i
+  pub small : nat_abs s ≤ 1
+  pub kept_small : (y : ℕ) → nat_abs (kept_signs bs y) ≤ 1
+
+at_place : (u : List ℕ) (i : ℕ) → i < length u → drop i u ≡ get_or u i 0 ∷ drop (suc i) u
+at_place u i h = drop-cons u i 0 h
+
+pub face_last : (u : List ℕ) (i : ℕ) (sum : List (List ℕ × ℤ)) (s : ℤ) (bs : List ℤ) → i < length u → occurs (get_or u i 0) (drop (suc i) u) ≡ 0 → IsWalk u i sum s bs → is_zero (neg_ℤ (kept_signs bs (get_or u i 0))) ≡ false → IsFace no_sign u (remove u i)
+face_last u i sum s bs h t w n =
+    let f : AllToCome (IsFace no_sign u) (take i u) s (kept_signs bs) (get_or u i 0 ∷ drop (suc i) u) = rw (at_place u i h) at w.faces in
+    (AllToCome-last (IsFace no_sign u) (take i u) s (kept_signs bs) (get_or u i 0) (drop (suc i) u) t f).0 n
+
+pub face_again : (u : List ℕ) (i : ℕ) (sum : List (List ℕ × ℤ)) (s : ℤ) (bs : List ℤ) → i < length u → occurs (get_or u i 0) (drop (suc i) u) ≢ 0 → IsWalk u i sum s bs → is_zero s ≡ false → IsFace no_sign u (remove u i)
+face_again u i sum s bs h t w n =
+    let f : AllToCome (IsFace no_sign u) (take i u) s (kept_signs bs) (get_or u i 0 ∷ drop (suc i) u) = rw (at_place u i h) at w.faces in
+    (AllToCome-again (IsFace no_sign u) (take i u) s (kept_signs bs) (get_or u i 0) (drop (suc i) u) t f).0 n
+
+pub IsWalk-last : (u : List ℕ) (i : ℕ) (old new : List (List ℕ × ℤ)) (s : ℤ) (bs : List ℤ) → i < length u → occurs (get_or u i 0) (drop (suc i) u) ≡ 0 → IsWalk u i old s bs → AddsFace u i (neg_ℤ (kept_signs bs (get_or u i 0))) old new → IsWalk u (suc i) new s bs
+IsWalk-last u i old new s bs h t w a =
+    let x : ℕ = get_or u i 0 in
+    let e : take (suc i) u ≡ take i u ++ get_or u i 0 ∷ [] = take-suc u i 0 h in
+    let f : AllToCome (IsFace no_sign u) (take i u) s (kept_signs bs) (get_or u i 0 ∷ drop (suc i) u) = rw (at_place u i h) at w.faces in
+    record {
+      sums = λ phi. rw e (
+          let q = rw (at_place u i h) at w.sums phi in
+          omega (arith, ints, q, a.sums phi, to_come-last (normalized phi) (take i u) s (kept_signs bs) (get_or u i 0) (drop (suc i) u) t));
+      faces = rw e ((AllToCome-last (IsFace no_sign u) (take i u) s (kept_signs bs) (get_or u i 0) (drop (suc i) u) t f).1);
+      light = omega (arith, a.grows, w.light);
+      small = w.small;
+      kept_small = w.kept_small;
+    }
+
+pub IsWalk-again : (u : List ℕ) (i : ℕ) (old new : List (List ℕ × ℤ)) (s : ℤ) (bs : List ℤ) → i < length u → occurs (get_or u i 0) (drop (suc i) u) ≢ 0 → get_or u i 0 < length bs → IsWalk u i old s bs → AddsFace u i s old new → IsWalk u (suc i) new (neg_ℤ s) (set bs (get_or u i 0) s)
+IsWalk-again u i old new s bs h t r w a =
+    let e : take (suc i) u ≡ take i u ++ get_or u i 0 ∷ [] = take-suc u i 0 h in
+    let k : kept_signs (set bs (get_or u i 0) s) ≡ with_sign (get_or u i 0) s (kept_signs bs) = kept_signs-set bs (get_or u i 0) s r in
+    let f : AllToCome (IsFace no_sign u) (take i u) s (kept_signs bs) (get_or u i 0 ∷ drop (suc i) u) = rw (at_place u i h) at w.faces in
+    record {
+      sums = λ phi. subst (λ (m : ℕ → ℤ). value_at phi new +ℤ to_come (normalized phi) (take (suc i) u) (neg_ℤ s) m (drop (suc i) u) ≡ value_at phi (surjection_boundary u)) (sym k) (rw e (
+          let q = rw (at_place u i h) at w.sums phi in
+          omega (arith, ints, q, a.sums phi, to_come-again (normalized phi) (take i u) s (kept_signs bs) (get_or u i 0) (drop (suc i) u) t)));
+      faces = subst (λ (m : ℕ → ℤ). AllToCome (IsFace no_sign u) (take (suc i) u) (neg_ℤ s) m (drop (suc i) u)) (sym k)
+          (rw e ((AllToCome-again (IsFace no_sign u) (take i u) s (kept_signs bs) (get_or u i 0) (drop (suc i) u) t f).1));
+      light = omega (arith, a.grows, w.light);
+      small = omega (arith, ints, w.small);
+      kept_small = λ y. subst (λ (m : ℕ → ℤ). nat_abs (m y) ≤ 1) (sym k) (elim (cases_eq y (get_or u i 0)) [
+        | inl c ↦ rw (with_sign-same (get_or u i 0) y s (kept_signs bs) c) w.small
+        | inr c ↦ rw (with_sign-other (get_or u i 0) y s (kept_signs bs) c) (w.kept_small y)
+      ]);
+    }
+
+map_none : (vs : List (List ℕ)) → map (λ v. [] ++ v) vs ≡ vs
+map_none [] = refl
+map_none (v ∷ vs) = ap (λ w. v ∷ w) (map_none vs)
+
+pub IsWalk-start : (u : List ℕ) (n : ℕ) → IsWalk u 0 [] (pos 1) (replicate n (pos 0))
+IsWalk-start u n = record {
+  sums = λ phi. subst (λ (m : ℕ → ℤ). value_at phi [] +ℤ to_come (normalized phi) [] (pos 1) m u ≡ value_at phi (surjection_boundary u)) (sym (kept_signs-replicate n))
+      (let e : to_come (normalized phi) [] (pos 1) no_sign u ≡ value_at phi (surjection_boundary u) =
+      ap (λ vs. weighted_sum (normalized phi) vs (place_signs_from (pos 1) no_sign u)) (map_none (without_each u)) ∙ sym (value_at-nonzero_terms is_degenerate phi (without_each u) (place_signs_from (pos 1) no_sign u)) in
+      omega (arith, ints, e));
+  faces = subst (λ (m : ℕ → ℤ). AllToCome (IsFace no_sign u) [] (pos 1) m u) (sym (kept_signs-replicate n))
+      (subst (λ (vs : List (List ℕ)). EachTerm (IsFace no_sign u) vs (place_signs_from (pos 1) no_sign u)) (sym (map_none (without_each u))) (EachTerm-face (pos 1) no_sign u));
+  light = omega arith;
+  small = omega arith;
+  kept_small = λ y. subst (λ (m : ℕ → ℤ). nat_abs (m y) ≤ 1) (sym (kept_signs-replicate n)) (omega arith);
+}
+
+none_to_come : (phi : List ℕ → ℤ) (pre : List ℕ) (s : ℤ) (m : ℕ → ℤ) → to_come phi pre s m [] ≡ pos 0
+none_to_come phi pre s m = weighted_sum-nil phi []
+
+drop_past : (u : List ℕ) (i : ℕ) → length u ≤ i → drop i u ≡ []
+drop_past [] zero h = refl
+drop_past [] (suc i) h = refl
+drop_past (x ∷ u) zero h = absurd (omega arith)
+drop_past (x ∷ u) (suc i) h = drop_past u i (omega arith)
+
+pub IsWalk-end : (u : List ℕ) (i : ℕ) (sum : List (List ℕ × ℤ)) (s : ℤ) (bs : List ℤ) → length u ≤ i → IsWalk u i sum s bs → IsSameSum sum (surjection_boundary u)
+IsWalk-end u i sum s bs h w =
+    let d : drop i u ≡ [] = drop_past u i h in
+    record { at = λ phi. let q = rw d at w.sums phi in omega (arith, ints, q, none_to_come (normalized phi) (take i u) s (kept_signs bs)) }
+
+pub AddsFace-term : (u : List ℕ) (i : ℕ) (s : ℤ) (old : List (List ℕ × ℤ)) (v : List ℕ) → v ≡ remove u i → is_degenerate v ≡ false → nat_abs s ≤ 1 → AddsFace u i s old (plus_term (slice_cmp nat_cmp) old v s)
+AddsFace-term u i s old v e d m = record {
+  sums = λ phi.
+      let a : s *ℤ phi v ≡ s *ℤ normalized phi (remove u i) = ap (λ z. s *ℤ z) (sym (restricted-there is_degenerate phi v d) ∙ ap (normalized phi) e) in
+      omega (arith, ints, a, value_at-plus_term (slice_cmp nat_cmp) equal_is_same phi old v s);
+  grows = omega (arith, weight_of-plus_term (slice_cmp nat_cmp) old v s);
+}
+
+range-at : (n : ℕ) (u : List ℕ) (i : ℕ) → InRange n u → i < length u → get_or u i 0 ≤ n
+range-at n [] i r h = absurd (omega arith)
+range-at n (x ∷ u) zero r h = r.1
+range-at n (x ∷ u) (suc i) r h = range-at n u i r.2 (omega arith)
+
+pub value_below : (u : List ℕ) (i : ℕ) → IsSurjection u → i < length u → get_or u i 0 < 33
+value_below u i s h = omega (arith, range-at (arity u) u i (in_range u s) h, s.narrow)
+
+-- a face that the walk meets is a surjection, if it is not degenerate
+pub face_is : (u : List ℕ) (i : ℕ) → IsSurjection u → IsFace no_sign u (remove u i) → is_degenerate (remove u i) ≡ false → IsSurjection (remove u i)
+face_is u i s f p = IsSurjection-face u (remove u i) s f p
+
+pub value_within : (u : List ℕ) (i : ℕ) → IsSurjection u → i < length u → (1 ≤ get_or u i 0) × (get_or u i 0 ≤ arity u)
+value_within u i s h = go (arity u) u i (in_range u s) h
+  where
+    go : (n : ℕ) (u : List ℕ) (i : ℕ) → InRange n u → i < length u → (1 ≤ get_or u i 0) × (get_or u i 0 ≤ n)
+    go n [] i r h = absurd (omega arith)
+    go n (x ∷ u) zero r h = (r.0, r.1)
+    go n (x ∷ u) (suc i) r h = go n u i r.2 (omega arith)
+
+-- what the test of the rest says
+rest_is : (u : List ℕ) (i x : ℕ) → occurs x (take (length u - (i + 1)) (drop (i + 1) u)) ≡ occurs x (drop (suc i) u)
+rest_is u i x = let e : i + 1 ≡ suc i = omega arith in ap (occurs x) (drop_rest u (i + 1)) ∙ ap (λ k. occurs x (drop k u)) e
+
+pub rest_comes : (u : List ℕ) (i x : ℕ) (b : Bool) → b ≡ (occurs x (take (length u - (i + 1)) (drop (i + 1) u)) == 1) → b ≡ true → occurs x (drop (suc i) u) ≢ 0
+rest_comes u i x b e t z =
+    let o : occurs x (take (length u - (i + 1)) (drop (i + 1) u)) ≡ 1 = eqb-true (occurs x (take (length u - (i + 1)) (drop (i + 1) u))) 1 (sym e ∙ t) in
+    absurd (omega (arith, rest_is u i x))
+
+pub rest_gone : (u : List ℕ) (i x : ℕ) (b : Bool) → b ≡ (occurs x (take (length u - (i + 1)) (drop (i + 1) u)) == 1) → b ≡ false → occurs x (drop (suc i) u) ≡ 0
+rest_gone u i x b e t = elim (occurs-01 x (drop (suc i) u)) [
+  | inl z ↦ z
+  | inr o ↦ absurd (eqb-false (occurs x (take (length u - (i + 1)) (drop (i + 1) u))) 1 (sym e ∙ t) (rest_is u i x ∙ o))
+]
+
+pub caesura-test : (u : List ℕ) (place : ℕ) (b : Bool) → 1 ≤ place → b ≡ (occurs (get_or u (place - 1) 0) (take (length u - place) (drop place u)) == 1) → (IsTrue b → comes_again u place ≡ 1) × (comes_again u place ≡ 1 → IsTrue b)
+caesura-test u zero b h e = absurd (omega arith)
+caesura-test u (suc i) b h e =
+    let s : suc i - 1 ≡ i = omega arith in
+    let same : occurs (get_or u (suc i - 1) 0) (take (length u - suc i) (drop (suc i) u)) ≡ comes_again u (suc i) =
+    ap (occurs (get_or u (suc i - 1) 0)) (drop_rest u (suc i)) ∙ ap (λ k. occurs (get_or u k 0) (drop (suc i) u)) s in (
+      λ t. sym same ∙ eqb-true (occurs (get_or u (suc i - 1) 0) (take (length u - suc i) (drop (suc i) u))) 1 (sym e ∙ t),
+      λ o. e ∙ eq-eqb (occurs (get_or u (suc i - 1) 0) (take (length u - suc i) (drop (suc i) u))) 1 (same ∙ o),
+    )
+
+-- a degenerate face adds nothing
+pub AddsFace-degenerate : (u : List ℕ) (i : ℕ) (s : ℤ) (old : List (List ℕ × ℤ)) → is_degenerate (remove u i) ≡ true → AddsFace u i s old old
+AddsFace-degenerate u i s old d = record {
+  sums = λ phi. let a : s *ℤ normalized phi (remove u i) ≡ s *ℤ pos 0 = ap (λ z. s *ℤ z) (restricted-gone is_degenerate phi (remove u i) d) in omega (arith, ints, a);
+  grows = omega arith;
+}
