@@ -22,19 +22,13 @@ use Rattle.complex_file.specs.Reading.{Fails}
 use Rattle.complex_file.specs.Text.{is_digit, is_not_empty, number, number_after}
 use Rattle.complex_file.specs.Lines.{numbers, with_number}
 use Rattle.complex_file.specs.Complexes.{ascending, complex_fault, facet_fault, first_facet_fault, has_repeat, is_ascending, is_complex, is_facet, or_later, with_facet}
-use Rattle.complex_file.proofs.Steps.{fault_free, fault_found, none_from}
+use Rattle.complex_file.proofs.Steps.{later_fault, later_none, fault_free, fault_found, none_from}
 
 -- numbers in front of others
 abbrev pub with_front : List ℕ → Option (List ℕ) → Option (List ℕ)
 with_front front = option_map (λ ns. front ++ ns)
 
 -- ---- the first fault
-
-later_fault : (o : Option InputKind) (k : InputKind) (at : ℕ) (later : Option BlockFault) → o ≡ Some k → or_later o at later ≡ Some (record { kind = k; at = at })
-later_fault o k at later h = rw h refl
-
-later_none : (o : Option InputKind) (at : ℕ) (later : Option BlockFault) → o ≡ None → or_later o at later ≡ later
-later_none o at later h = rw h refl
 
 -- the facet at a place is at fault
 pub fault_here : (facets before : List (List ℕ)) (at : ℕ) (f : List ℕ) (k : InputKind) → at < length facets → f ≡ get_or facets at f → with_facet before f ≡ Err k

@@ -1,9 +1,9 @@
 -- What the lines spell is a job.
-use Rattle.std.proofs.Common.{◌≡◌, ◌∙◌, ◌+◌, ◌<◌, ◌&&◌, ◌||◌, List, [], ◌∷◌, ◌++◌, ℕ, Bool, true, false, cond, not, refl, sym, ap, subst, arith, length, map, append_assoc, length-append, nat_lt}
+use Rattle.std.proofs.Common.{◌≡◌, ◌∙◌, ◌+◌, ◌<◌, ◌&&◌, ◌||◌, List, [], ◌∷◌, ◌++◌, ℕ, Bool, true, false, cond, not, refl, sym, ap, subst, arith, length, map, append_assoc, append-nil, length-append, nat_lt}
 use Rattle.std.specs.Prelude.{Ok, Err, Result, Some, None, nat_le, is_none, nat_eq, codes}
 use Rattle.std.specs.declared.option.Option.{Option}
 use Rattle.std.proofs.Math.ListN.{get_or-append}
-use Rattle.std.specs.List.{list_all}
+use Rattle.std.specs.List.{position_or_len, list_all}
 use Rattle.std.specs.Str.{bytes_eq}
 use Rattle.std.proofs.lemmas.List.{map-append}
 use Rattle.std.proofs.lemmas.List.Folds.{list_all-append}
@@ -12,14 +12,16 @@ use Rattle.std.proofs.lemmas.Bool.Decides.{nat_tests}
 use Rattle.fp_field.specs.Served.{served}
 use Rattle.complex_file.specs.declared.block.ComplexBlock.{ComplexBlock}
 use Rattle.complex_file.specs.declared.block.MapBlock.{MapBlock}
+use Rattle.complex_file.specs.declared.block.Sent.{Sent}
 use Rattle.complex_file.specs.declared.kind.InputKind.{InputKind}
 use Rattle.complex_file.specs.Text.{is_allowed, is_name, is_word, lines, number, words}
-use Rattle.complex_file.specs.Lines.{Line, heading, prime_line, complex_line, facet_line, end_line, no_line, is_skipped, line_of, line_of_complex, line_of_facet, line_of_few, line_of_two, numbers}
+use Rattle.complex_file.specs.Lines.{Line, heading, prime_line, complex_line, facet_line, map_line, send_line, end_line, no_line, is_skipped, line_of, line_of_complex, line_of_facet, line_of_few, line_of_four, line_of_three, line_of_two, send_of, numbers}
 use Rattle.complex_file.specs.Complexes.{ascending, has_repeat, is_complex, with_facet}
-use Rattle.complex_file.specs.Maps.{map_fault}
-use Rattle.complex_file.specs.Jobs.{are_distinct, block_names, facets_at, has_name, is_job, is_map}
-use Rattle.complex_file.specs.Input.{Spelled, Place, Fault, at_start, at_prime, between, in_complex, after, after_line, after_words, after_prime, after_complex, after_facet, at_end, at_line, input_of, lines_spell, place_after, with_complex, with_facets, ◌>>=◌}
-use Rattle.complex_file.proofs.Steps.{Both, met, ok_same, passed}
+use Rattle.complex_file.specs.Maps.{end_fault, map_fault, send_fault, with_send}
+use Rattle.complex_file.specs.Jobs.{are_distinct, block_names, facets_at, has_name, is_job, is_map, place_of_name}
+use Rattle.complex_file.specs.Input.{Spelled, Place, Fault, at_start, at_prime, between, in_complex, after, after_line, after_words, after_prime, after_complex, after_facet, at_end, at_line, input_of, lines_spell, place_after, with_complex, with_facets, ◌>>=◌, in_map, after_map, after_send, begun_map, with_map, with_sends}
+use Rattle.complex_file.proofs.Steps.{Both, fault_free, met, ok_same, passed}
+use Rattle.complex_file.proofs.MapLemmas.{AreFree, free_send, map_free}
 use Rattle.complex_file.proofs.FacetLemmas.{IsVertexList, complex_more, numbers_length, numbers_small}
 
 -- what is kept of the blocks so far: the parts of `is_job`
@@ -39,11 +41,21 @@ pub record IsBegun (s : Spelled) (c : ComplexBlock) : Type 0 where
   pub fresh : has_name (block_names s.complexes s.maps) c.name ≡ false
   pub whole : is_complex c.facets ≡ true
 
+pub record IsMapBegun (s : Spelled) (m : MapBlock) : Type 0 where
+  pub kept : IsKept s
+  pub room : length s.maps < 8
+  pub named : is_name m.name ≡ true
+  pub fresh : has_name (block_names s.complexes s.maps) m.name ≡ false
+  pub from_there : nat_lt m.from (length s.complexes) ≡ true
+  pub to_there : nat_lt m.to (length s.complexes) ≡ true
+  pub free : AreFree (facets_at s.complexes m.from) (facets_at s.complexes m.to) [] m.sends
+
 abbrev pub IsPlace : Place → Type 0
 IsPlace at_start = Unit {0}
 IsPlace at_prime = Unit {0}
 IsPlace (between s) = IsKept s
 IsPlace (in_complex s c) = IsBegun s c
+IsPlace (in_map s m) = IsMapBegun s m
 
 -- what a line keeps whose words were read
 abbrev pub IsLine : Line → Type 0
@@ -52,6 +64,8 @@ IsLine (prime_line n) = Unit {0}
 IsLine (complex_line name) = is_name name ≡ true
 IsLine (facet_line None) = Unit {0}
 IsLine (facet_line (Some vs)) = IsVertexList vs
+IsLine (map_line name from to) = is_name name ≡ true
+IsLine (send_line sent) = Unit {0}
 IsLine end_line = Unit {0}
 IsLine no_line = Unit {0}
 
@@ -66,10 +80,20 @@ two_is w v =
     cond_both (is_word (codes "prime") w) (prime_line (number v)) (cond (is_word (codes "complex") w) (line_of_complex v) no_line) IsLine (λ k. tt) (λ k. complex_line_is) in
     cond_both (is_word (codes "comch") w && is_word (codes "1") v) heading (cond (is_word (codes "prime") w) (prime_line (number v)) (cond (is_word (codes "complex") w) (line_of_complex v) no_line)) IsLine (λ k. tt) (λ k. prime_line_is)
 
+three_is : (w v u : List ℕ) → IsLine (line_of_three w v u)
+three_is w v u = cond_both (is_word (codes "send") w) (send_line (send_of (number v) (number u))) no_line IsLine (λ k. tt) (λ k. tt)
+
+four_is : (w name from to : List ℕ) → IsLine (line_of_four w name from to)
+four_is w name from to =
+    cond_both (is_word (codes "map") w && (is_name name && (is_name from && is_name to))) (map_line name from to) no_line IsLine
+    (λ k. (and_parts (is_name name) (is_name from && is_name to) (and_parts (is_word (codes "map") w) (is_name name && (is_name from && is_name to)) k).1).0) (λ k. tt)
+
 few_is : (w : List ℕ) (vs : List (List ℕ)) → IsLine (line_of_few w vs)
 few_is w [] = cond_both (is_word (codes "end") w) end_line no_line IsLine (λ e. tt) (λ e. tt)
 few_is w (v ∷ []) = two_is w v
-few_is w (v ∷ u ∷ us) = tt
+few_is w (v ∷ u ∷ []) = three_is w v u
+few_is w (v ∷ u ∷ t ∷ []) = four_is w v u t
+few_is w (v ∷ u ∷ t ∷ r ∷ rs) = tt
 
 numbers_are : (o : Option (List ℕ)) → ((ns : List ℕ) → o ≡ Some ns → IsVertexList ns) → IsLine (facet_line o)
 numbers_are None h = tt
@@ -164,6 +188,33 @@ complex_kept s c h = record {
   whole_maps = maps_stay s.complexes c s.maps h.kept.whole_maps;
 }
 
+-- ---- a map more
+
+map_names_more : (cs : List ComplexBlock) (ms : List MapBlock) (m : MapBlock) → block_names cs (ms ++ m ∷ []) ≡ block_names cs ms ++ m.name ∷ []
+map_names_more cs ms m =
+    ap (λ (ns : List (List ℕ)). map (λ (b : ComplexBlock). b.name) cs ++ ns) (map-append (λ (b : MapBlock). b.name) ms (m ∷ []))
+    ∙ sym (append_assoc (map (λ (b : ComplexBlock). b.name) cs) (map (λ (b : MapBlock). b.name) ms) (m.name ∷ []))
+
+distinct_end : (ns : List (List ℕ)) (n : List ℕ) → are_distinct ns ≡ true → has_name ns n ≡ false → are_distinct (ns ++ n ∷ []) ≡ true
+distinct_end ns n h f = distinct_more ns [] n (ap are_distinct (append-nil ns) ∙ h) (ap (λ (ms : List (List ℕ)). has_name ms n) (append-nil ns) ∙ f)
+
+map_from : (s : Spelled) (m : MapBlock) → IsMapBegun s m → end_fault (facets_at s.complexes m.from) (facets_at s.complexes m.to) m.sends ≡ None → is_map s.complexes m ≡ true
+map_from s m h e =
+    let none : map_fault (facets_at s.complexes m.from) (facets_at s.complexes m.to) m.sends ≡ None = map_free (facets_at s.complexes m.from) (facets_at s.complexes m.to) [] 0 m.sends h.free e in
+    and_from (nat_lt m.from (length s.complexes) && nat_lt m.to (length s.complexes)) (is_none (map_fault (facets_at s.complexes m.from) (facets_at s.complexes m.to) m.sends))
+    (and_from (nat_lt m.from (length s.complexes)) (nat_lt m.to (length s.complexes)) h.from_there h.to_there) (rw none refl)
+
+map_kept : (s : Spelled) (m : MapBlock) → IsMapBegun s m → end_fault (facets_at s.complexes m.from) (facets_at s.complexes m.to) m.sends ≡ None → IsKept (with_map s m)
+map_kept s m h e = record {
+  prime = h.kept.prime;
+  few = h.kept.few;
+  few_maps = le-leb (length (s.maps ++ m ∷ [])) 8 (omega (arith, h.room, length-append s.maps (m ∷ [])));
+  named = subst (λ (ns : List (List ℕ)). list_all is_name ns ≡ true) (sym (map_names_more s.complexes s.maps m)) (all_end is_name (block_names s.complexes s.maps) m.name h.kept.named h.named);
+  distinct = subst (λ (ns : List (List ℕ)). are_distinct ns ≡ true) (sym (map_names_more s.complexes s.maps m)) (distinct_end (block_names s.complexes s.maps) m.name h.kept.distinct h.fresh);
+  whole = h.kept.whole;
+  whole_maps = all_end (is_map s.complexes) s.maps m h.kept.whole_maps (map_from s m h e);
+}
+
 -- ---- each line
 
 prime_kept : (o : Option ℕ) (q : Place) → after_prime o ≡ Ok q → IsPlace q
@@ -190,12 +241,62 @@ facet_kept s c (Some vs) q begun line h =
     let found = facets_found s c (with_facet c.facets (ascending vs)) q once.second in
     subst IsPlace found.2 (record { kept = begun.kept; room = begun.room; named = begun.named; fresh = begun.fresh; whole = complex_more c.facets found.0 vs begun.whole line once.first found.1 })
 
+-- a complex with that name is there
+place_there : (cs : List ComplexBlock) (name : List ℕ) (k : ℕ) → place_of_name cs name ≡ Some k → nat_lt k (length cs) ≡ true
+place_there cs name k h = there (nat_lt (position_or_len (λ c. bytes_eq name c.name) cs) (length cs)) (position_or_len (λ c. bytes_eq name c.name) cs) k (length cs) refl h
+  where
+    there : (b : Bool) (i k n : ℕ) → nat_lt i n ≡ b → cond b (Some i) None ≡ Some k → nat_lt k n ≡ true
+    there true i k n e h = let same : i ≡ k = cc in rw (← same) e
+    there false i k n e h = absurd cc
+
+begun_kept : (s : Spelled) (name : List ℕ) (from to : Option ℕ) (q : Place) → IsKept s → length s.maps < 8 → is_name name ≡ true → has_name (block_names s.complexes s.maps) name ≡ false
+    → ((k : ℕ) → from ≡ Some k → nat_lt k (length s.complexes) ≡ true) → ((k : ℕ) → to ≡ Some k → nat_lt k (length s.complexes) ≡ true)
+    → begun_map s name from to ≡ Ok q → IsPlace q
+begun_kept s name None to q kept room named fresh f t h = absurd cc
+begun_kept s name (Some i) None q kept room named fresh f t h = absurd cc
+begun_kept s name (Some i) (Some j) q kept room named fresh f t h =
+    subst IsPlace (ok_same h) (record { kept = kept; room = room; named = named; fresh = fresh; from_there = f i refl; to_there = t j refl; free = tt })
+
+map_opened : (s : Spelled) (name from to : List ℕ) (q : Place) → IsKept s → is_name name ≡ true → after_map s name from to ≡ Ok q → IsPlace q
+map_opened s name from to q kept named h =
+    let room = passed (nat_le 8 (length s.maps)) _ _ q h in
+    let fresh = passed (has_name (block_names s.complexes s.maps) name) _ _ q room.second in
+    begun_kept s name (place_of_name s.complexes from) (place_of_name s.complexes to) q kept (leb-false 8 (length s.maps) room.first) named fresh.first
+    (place_there s.complexes from) (place_there s.complexes to) fresh.second
+
+sends_found : (s : Spelled) (m : MapBlock) (r : Result (List Sent) InputKind) (q : Place) → with_sends s m r ≡ Ok q
+    → (sends : List Sent) × (r ≡ Ok sends) × (in_map s (record { name = m.name; from = m.from; to = m.to; sends = sends }) ≡ q)
+sends_found s m (Ok sends) q h = (sends, refl, ok_same h)
+sends_found s m (Err k) q h = absurd cc
+
+send_kept : (s : Spelled) (m : MapBlock) (o : Option Sent) (q : Place) → IsMapBegun s m → after_send s m o ≡ Ok q → IsPlace q
+send_kept s m None q begun h = absurd cc
+send_kept s m (Some sent) q begun h =
+    let from = facets_at s.complexes m.from in
+    let to = facets_at s.complexes m.to in
+    let found = sends_found s m (with_send from to m.sends sent) q h in
+    let good = fault_free (send_fault from to m.sends sent) (m.sends ++ sent ∷ []) found.0 found.1 in
+    subst IsPlace found.2 (record {
+      kept = begun.kept;
+      room = begun.room;
+      named = begun.named;
+      fresh = begun.fresh;
+      from_there = begun.from_there;
+      to_there = begun.to_there;
+      free = subst (AreFree from to []) good.second (free_send from to [] m.sends sent begun.free good.first);
+    })
+
 kept_after : (p : Place) (l : Line) (q : Place) → IsPlace p → IsLine l → after p l ≡ Ok q → IsPlace q
 kept_after at_start heading q hp hl h = let same : at_prime ≡ q = ok_same h in subst IsPlace same tt
 kept_after at_prime (prime_line n) q hp hl h = prime_kept n q h
 kept_after (between s) (complex_line name) q hp hl h = opened_kept s name q hp hl h
 kept_after (in_complex s c) (facet_line vs) q hp hl h = facet_kept s c vs q hp hl h
 kept_after (in_complex s c) end_line q hp hl h = subst IsPlace (ok_same h) (complex_kept s c hp)
+kept_after (between s) (map_line name from to) q hp hl h = map_opened s name from to q hp hl h
+kept_after (in_map s m) (send_line sent) q hp hl h = send_kept s m sent q hp h
+kept_after (in_map s m) end_line q hp hl h =
+    let good = fault_free (end_fault (facets_at s.complexes m.from) (facets_at s.complexes m.to) m.sends) (between (with_map s m)) q h in
+    subst IsPlace good.second (map_kept s m hp good.first)
 kept_after _ _ q hp hl h = absurd cc
 
 -- ---- all lines
@@ -226,6 +327,7 @@ end_kept n (between t) s hp h = subst IsKept (ok_same h) hp
 end_kept n at_start s hp h = absurd cc
 end_kept n at_prime s hp h = absurd cc
 end_kept n (in_complex t c) s hp h = absurd cc
+end_kept n (in_map t m) s hp h = absurd cc
 
 bind_ok : {A B E : Type 0} (r : Result A E) (f : A → Result B E) (y : B) → (r >>= f) ≡ Ok y → (x : A) × (r ≡ Ok x) × (f x ≡ Ok y)
 bind_ok (Ok x) f y h = (x, refl, h)

@@ -1,13 +1,14 @@
 -- Names in the sets of names and in the blocks.
-use Rattle.std.proofs.Common.{◌≡◌, ◌∙◌, ◌||◌, List, [], ◌∷◌, ℕ, Bool, true, map, Bor, ap, sym, refl, false, ◌++◌}
-use Rattle.std.proofs.lemmas.List.{map-append}
+use Rattle.std.proofs.Common.{◌≡◌, ◌∙◌, ◌||◌, List, [], ◌∷◌, ℕ, Bool, true, map, Bor, ap, sym, refl, false, not, cond, ◌+◌, ◌++◌}
+use Rattle.std.proofs.lemmas.List.{length-map, map-append}
 use Rattle.std.proofs.lemmas.List.Folds.{list_any-append}
 use Rattle.indexmap.specs.IndexSet.{insert_key}
-use Rattle.std.specs.List.{list_any}
+use Rattle.std.specs.Prelude.{position, nat_lt, Some, None}
+use Rattle.std.specs.List.{list_any, prefix_len}
 use Rattle.std.specs.Str.{bytes_eq}
 use Rattle.complex_file.specs.declared.block.ComplexBlock.{ComplexBlock}
 use Rattle.complex_file.specs.declared.block.MapBlock.{MapBlock}
-use Rattle.complex_file.specs.Jobs.{block_names, has_name}
+use Rattle.complex_file.specs.Jobs.{block_names, has_name, place_of_name}
 use Rattle.complex_file.specs.Named.{AreComplexNames, AreMapNames}
 
 any-map : {X Y : Type 0} (f : X → Y) (p : Y → Bool) (xs : List X) → list_any (λ x. p (f x)) xs ≡ list_any p (map f xs)
@@ -75,3 +76,28 @@ complexes_more keys more cs blocks ms name block named same fresh is added =
     ∙ ap (λ (n : List ℕ). map (λ (c : ComplexBlock). c.name) cs ++ n ∷ []) (sym same)
     ∙ sym (map-append (λ (c : ComplexBlock). c.name) cs (block ∷ []))
     ∙ ap (map (λ (c : ComplexBlock). c.name)) (sym added)
+
+pub maps_more : (keys more : List (Bor (List ℕ))) (cs : List ComplexBlock) (ms blocks : List MapBlock) (name : Bor (List ℕ)) (block : MapBlock) → AreMapNames keys ms
+    → block.name ≡ name.now → has_name (block_names cs ms) name.now ≡ false → more ≡ insert_key (λ (a b : Bor (List ℕ)). bytes_eq a.now b.now) keys name → blocks ≡ ms ++ block ∷ []
+    → AreMapNames more blocks
+maps_more keys more cs ms blocks name block named same fresh is added =
+    key_more keys more (map (λ (m : MapBlock). m.name) ms) name named (fresh_map cs ms name.now fresh) is
+    ∙ ap (λ (n : List ℕ). map (λ (m : MapBlock). m.name) ms ++ n ∷ []) (sym same)
+    ∙ sym (map-append (λ (m : MapBlock). m.name) ms (block ∷ []))
+    ∙ ap (map (λ (m : MapBlock). m.name)) (sym added)
+
+-- ---- places
+
+prefix-map : {X Y : Type 0} (f : X → Y) (p : Y → Bool) (xs : List X) → prefix_len (λ x. p (f x)) xs ≡ prefix_len p (map f xs)
+prefix-map f p [] = refl
+prefix-map f p (x ∷ xs) = ap (λ (n : ℕ). cond (p (f x)) (1 + n) 0) (prefix-map f p xs)
+
+position-map : {X Y : Type 0} (f : X → Y) (p : Y → Bool) (xs : List X) → position (λ x. p (f x)) xs ≡ position p (map f xs)
+position-map f p xs = λ i. cond (nat_lt (prefix-map f (λ y. not (p y)) xs i) (sym (length-map xs f) i)) (Some (prefix-map f (λ y. not (p y)) xs i)) None
+
+-- the keys tell the place of a complex
+pub place_by_key : (keys : List (Bor (List ℕ))) (cs : List ComplexBlock) (name : List ℕ) → AreComplexNames keys cs
+    → position (λ (k : Bor (List ℕ)). bytes_eq name k.now) keys ≡ place_of_name cs name
+place_by_key keys cs name named =
+    position-map (λ (k : Bor (List ℕ)). k.now) (bytes_eq name) keys ∙ ap (position (bytes_eq name)) named
+    ∙ sym (position-map (λ (c : ComplexBlock). c.name) (bytes_eq name) cs)

@@ -1,9 +1,10 @@
 -- What tests and steps that went well tell.
-use Rattle.std.proofs.Common.{◌≡◌, Bool, true, false, cond, refl}
+use Rattle.std.proofs.Common.{ℕ, ◌≡◌, Bool, true, false, cond, refl}
 use Rattle.std.specs.Prelude.{Ok, Err, Result, Some, None, is_none}
 use Rattle.std.specs.declared.option.Option.{Option}
+use Rattle.complex_file.specs.declared.fault.BlockFault.{BlockFault}
 use Rattle.complex_file.specs.declared.kind.InputKind.{InputKind}
-use Rattle.complex_file.specs.Complexes.{unless}
+use Rattle.complex_file.specs.Complexes.{or_later, unless}
 
 pub record Both (P Q : Type 0) : Type 0 where
   pub first : P
@@ -33,3 +34,9 @@ fault_found (Some j) x k h = cc
 pub none_from : {X : Type 0} (o : Option X) → is_none o ≡ true → o ≡ None
 none_from None h = refl
 none_from (Some x) h = absurd cc
+
+pub later_fault : (o : Option InputKind) (k : InputKind) (at : ℕ) (later : Option BlockFault) → o ≡ Some k → or_later o at later ≡ Some (record { kind = k; at = at })
+later_fault o k at later h = rw h refl
+
+pub later_none : (o : Option InputKind) (at : ℕ) (later : Option BlockFault) → o ≡ None → or_later o at later ≡ later
+later_none o at later h = rw h refl

@@ -5,12 +5,14 @@ use Rattle.std.specs.List.{list_all}
 use Rattle.fp_field.specs.Served.{served}
 use Rattle.complex_file.specs.declared.block.ComplexBlock.{ComplexBlock}
 use Rattle.complex_file.specs.declared.block.MapBlock.{MapBlock}
+use Rattle.complex_file.specs.declared.block.Sent.{Sent}
 use Rattle.complex_file.specs.declared.kind.InputKind.{InputKind}
-use Rattle.complex_file.specs.declared.kind.InputKind.TheVariants.{TooLong, NotText, BadLine, BadNumber, RepeatedVertex, RepeatedName, Unfinished, TooManyBlocks, OtherPrime}
+use Rattle.complex_file.specs.declared.kind.InputKind.TheVariants.{TooLong, NotText, BadLine, BadNumber, RepeatedVertex, RepeatedName, UnknownName, Unfinished, TooManyBlocks, OtherPrime}
 use Rattle.complex_file.specs.Text.{is_allowed, is_line_end, lines, words}
-use Rattle.complex_file.specs.Lines.{Line, heading, prime_line, complex_line, facet_line, end_line, is_skipped, line_of}
-use Rattle.complex_file.specs.Complexes.{ascending, has_repeat, with_facet}
-use Rattle.complex_file.specs.Jobs.{block_names, has_name}
+use Rattle.complex_file.specs.Lines.{Line, heading, prime_line, complex_line, facet_line, map_line, send_line, end_line, is_skipped, line_of}
+use Rattle.complex_file.specs.Complexes.{ascending, has_repeat, unless, with_facet}
+use Rattle.complex_file.specs.Maps.{end_fault, with_send}
+use Rattle.complex_file.specs.Jobs.{block_names, facets_at, has_name, place_of_name}
 
 -- what the lines spell: a prime, and the complexes and maps in the order of the file
 pub record Spelled : Type 0 where
@@ -18,12 +20,13 @@ pub record Spelled : Type 0 where
   pub complexes : List ComplexBlock
   pub maps : List MapBlock
 
--- What may stand next: `comch 1`; `prime P`; a block; a facet or the end of a complex.
+-- What may stand next: `comch 1`; `prime P`; a block; a facet or the end of a complex; a send or the end of a map.
 pub data Place : Type 0 where
   at_start : Place
   at_prime : Place
   between : Spelled → Place
   in_complex : Spelled → ComplexBlock → Place
+  in_map : Spelled → MapBlock → Place
 
 -- what a line makes of a place, or the kind of its first fault
 abbrev pub Step : Type 0
@@ -54,13 +57,44 @@ after_facet s c (Some vs) = if has_repeat vs then Err RepeatedVertex else with_f
 abbrev pub with_complex : Spelled → ComplexBlock → Spelled
 with_complex s c = record { prime = s.prime; complexes = s.complexes ++ c ∷ []; maps = s.maps }
 
+-- the map with FROM and TO at these places, without sends
+abbrev pub begun_map : Spelled → List ℕ → Option ℕ → Option ℕ → Step
+begun_map s name (Some from) (Some to) = Ok (in_map s (record { name = name; from = from; to = to; sends = [] }))
+begun_map s name _ _ = Err UnknownName
+
+-- `map NAME FROM TO` opens a map between complexes that stand before it
+abbrev pub after_map : Spelled → List ℕ → List ℕ → List ℕ → Step
+after_map s name from to = if nat_le 8 (length s.maps) then Err TooManyBlocks
+    else (if has_name (block_names s.complexes s.maps) name then Err RepeatedName
+    else begun_map s name (place_of_name s.complexes from) (place_of_name s.complexes to))
+
+-- the map with these sends
+abbrev pub with_sends : Spelled → MapBlock → Result (List Sent) InputKind → Step
+with_sends s m (Ok sends) = Ok (in_map s (record { name = m.name; from = m.from; to = m.to; sends = sends }))
+with_sends s m (Err kind) = Err kind
+
+-- `send V W` adds a send
+abbrev pub after_send : Spelled → MapBlock → Option Sent → Step
+after_send s m None = Err BadNumber
+after_send s m (Some sent) = with_sends s m (with_send (facets_at s.complexes m.from) (facets_at s.complexes m.to) m.sends sent)
+
+-- `end` of a map adds it to the job
+abbrev pub with_map : Spelled → MapBlock → Spelled
+with_map s m = record { prime = s.prime; complexes = s.complexes; maps = s.maps ++ m ∷ [] }
+
+abbrev pub after_map_end : Spelled → MapBlock → Step
+after_map_end s m = unless (end_fault (facets_at s.complexes m.from) (facets_at s.complexes m.to) m.sends) (between (with_map s m))
+
 -- What each line makes of each place. A line that may not stand there is a bad line.
 abbrev pub after : Place → Line → Step
 after at_start heading = Ok at_prime
 after at_prime (prime_line p) = after_prime p
 after (between s) (complex_line name) = after_complex s name
+after (between s) (map_line name from to) = after_map s name from to
 after (in_complex s c) (facet_line vs) = after_facet s c vs
 after (in_complex s c) end_line = Ok (between (with_complex s c))
+after (in_map s m) (send_line sent) = after_send s m sent
+after (in_map s m) end_line = after_map_end s m
 after _ _ = Err BadLine
 
 -- a line that is skipped changes nothing

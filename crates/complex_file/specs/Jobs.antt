@@ -1,5 +1,6 @@
 -- What a job consists of, and what each job keeps.
-use Rattle.std.specs.Prelude.{ℕ, Bool, true, not, ◌&&◌, List, [], ◌∷◌, ◌++◌, map, length, is_none, nat_le, nat_lt, slice_index_or}
+use Rattle.std.specs.Prelude.{ℕ, Bool, true, not, ◌&&◌, List, [], ◌∷◌, ◌++◌, map, length, is_none, nat_le, nat_lt, position, slice_index_or}
+use Rattle.std.specs.declared.option.Option.{Option}
 use Rattle.std.specs.List.{list_all, list_any}
 use Rattle.std.specs.Str.{bytes_eq}
 use Rattle.fp_field.specs.Served.{served}
@@ -12,6 +13,10 @@ use Rattle.complex_file.specs.Maps.{map_fault}
 -- the facets of the complex at a place; none past the end
 abbrev pub facets_at : List ComplexBlock → ℕ → List (List ℕ)
 facets_at complexes k = (slice_index_or complexes k (record { name = []; facets = [] })).facets
+
+-- the place of the complex with this name
+abbrev pub place_of_name : List ComplexBlock → List ℕ → Option ℕ
+place_of_name complexes name = position (λ c. bytes_eq name c.name) complexes
 
 -- the names of the blocks: complexes and maps share one set of names
 abbrev pub block_names : List ComplexBlock → List MapBlock → List (List ℕ)

@@ -1,6 +1,7 @@
 -- What a line says, by its words. Where it may stand does not matter here.
 use Rattle.std.specs.Prelude.{ℕ, Bool, false, true, ◌&&◌, ◌==◌, List, [], ◌∷◌, Some, None, if◌then◌else◌, codes}
 use Rattle.std.specs.declared.option.Option.{Option}
+use Rattle.complex_file.specs.declared.block.Sent.{Sent}
 use Rattle.complex_file.specs.Text.{is_name, is_word, number}
 
 -- A word that should be a number and is none leaves None.
@@ -9,6 +10,8 @@ pub data Line : Type 0 where
   prime_line : Option ℕ → Line
   complex_line : List ℕ → Line
   facet_line : Option (List ℕ) → Line
+  map_line : List ℕ → List ℕ → List ℕ → Line
+  send_line : Option Sent → Line
   end_line : Line
   no_line : Line
 
@@ -36,10 +39,25 @@ line_of_two w v = if is_word (codes "comch") w && is_word (codes "1") v then hea
     else (if is_word (codes "prime") w then prime_line (number v)
     else (if is_word (codes "complex") w then line_of_complex v else no_line))
 
+abbrev pub send_of : Option ℕ → Option ℕ → Option Sent
+send_of (Some v) (Some w) = Some (record { from = v; to = w })
+send_of _ _ = None
+
+-- three words: `send V W`
+abbrev pub line_of_three : List ℕ → List ℕ → List ℕ → Line
+line_of_three w from to = if is_word (codes "send") w then send_line (send_of (number from) (number to)) else no_line
+
+-- four words: `map NAME FROM TO`
+abbrev pub line_of_four : List ℕ → List ℕ → List ℕ → List ℕ → Line
+line_of_four w name from to =
+    if is_word (codes "map") w && (is_name name && (is_name from && is_name to)) then map_line name from to else no_line
+
 -- any line but `facet`, by the count of its words
 abbrev pub line_of_few : List ℕ → List (List ℕ) → Line
 line_of_few w [] = if is_word (codes "end") w then end_line else no_line
 line_of_few w (v ∷ []) = line_of_two w v
+line_of_few w (v ∷ u ∷ []) = line_of_three w v u
+line_of_few w (v ∷ u ∷ t ∷ []) = line_of_four w v u t
 line_of_few w _ = no_line
 
 abbrev pub line_of : List (List ℕ) → Line

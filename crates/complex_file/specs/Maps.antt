@@ -1,15 +1,17 @@
 -- The sends of a map between two complexes, and their faults.
-use Rattle.std.specs.Prelude.{ℕ, ◌+◌, Bool, false, not, ◌&&◌, ◌==◌, List, [], ◌∷◌, ◌++◌, Some, None, if◌then◌else◌, nat_lt}
+use Rattle.std.specs.Prelude.{ℕ, ◌+◌, Bool, true, not, ◌&&◌, ◌==◌, List, [], ◌∷◌, ◌++◌, map, Some, None, Result, if◌then◌else◌, nat_le}
 use Rattle.std.specs.declared.option.Option.{Option}
 use Rattle.std.specs.List.{list_all, list_any}
+use Rattle.std.specs.Str.{bytes_eq}
+use Rattle.simplicial_law.specs.ListedSimplices.{simplices}
 use Rattle.simplicial_law.specs.Simplices.{subsets}
 use Rattle.complex_file.specs.declared.block.Sent.{Sent}
 use Rattle.complex_file.specs.declared.fault.BlockFault.{BlockFault}
 use Rattle.complex_file.specs.declared.kind.InputKind.{InputKind}
 use Rattle.complex_file.specs.declared.kind.InputKind.TheVariants.{VertexNotSent, VertexSentTwice, VertexUnknown, NotOrderPreserving, ImageNotASimplex}
-use Rattle.complex_file.specs.Complexes.{or_later}
+use Rattle.complex_file.specs.Complexes.{ascending, or_later, unless}
 
--- v is a vertex of the list
+-- v is among the vertices
 abbrev pub has_vertex : List ℕ → ℕ → Bool
 has_vertex f v = list_any (λ w. v == w) f
 
@@ -17,7 +19,7 @@ has_vertex f v = list_any (λ w. v == w) f
 abbrev pub is_vertex : List (List ℕ) → ℕ → Bool
 is_vertex facets v = list_any (λ f. has_vertex f v) facets
 
--- v was sent
+-- v is sent
 abbrev pub is_sent : List Sent → ℕ → Bool
 is_sent sends v = list_any (λ s. v == s.from) sends
 
@@ -26,33 +28,41 @@ abbrev pub image : List Sent → ℕ → ℕ
 image [] v = 0
 image (s ∷ ss) v = if v == s.from then s.to else image ss v
 
--- the fault of a send behind those before it: V is no vertex of FROM, or W is none of TO, or V was sent before
+-- the fault of a send behind those before it: V is no vertex of FROM, or W is none of TO; V was sent before
 abbrev pub send_fault : List (List ℕ) → List (List ℕ) → List Sent → Sent → Option InputKind
 send_fault from to before s = if not (is_vertex from s.from && is_vertex to s.to) then Some VertexUnknown
     else (if is_sent before s.from then Some VertexSentTwice else None)
 
--- some vertex of FROM is not sent
-abbrev pub misses_vertex : List (List ℕ) → List Sent → Bool
-misses_vertex from sends = list_any (λ f. list_any (λ v. not (is_sent sends v)) f) from
+-- the sends with one more, or its fault
+abbrev pub with_send : List (List ℕ) → List (List ℕ) → List Sent → Sent → Result (List Sent) InputKind
+with_send from to before s = unless (send_fault from to before s) (before ++ s ∷ [])
 
--- the edge has its lower end sent above its upper end
-abbrev pub is_turned : List Sent → List ℕ → Bool
-is_turned sends (v ∷ w ∷ []) = nat_lt (image sends w) (image sends v)
-is_turned sends _ = false
+-- each vertex of FROM is sent
+abbrev pub sends_each : List (List ℕ) → List Sent → Bool
+sends_each from sends = list_all (list_all (is_sent sends)) from
 
--- some edge of FROM is turned: the edges are the two-element subsets of its facets
-abbrev pub turns_edge : List (List ℕ) → List Sent → Bool
-turns_edge from sends = list_any (λ f. list_any (is_turned sends) (subsets 2 f)) from
+-- the lower end of the edge is sent at most as high as its upper end
+abbrev pub keeps_edge : List Sent → List ℕ → Bool
+keeps_edge sends (v ∷ w ∷ []) = nat_le (image sends v) (image sends w)
+keeps_edge sends _ = true
 
--- the image of a facet is a simplex of TO: one facet of TO has the image of each of its vertices
-abbrev pub sends_to_simplex : List (List ℕ) → List Sent → List ℕ → Bool
-sends_to_simplex to sends f = list_any (λ g. list_all (λ v. has_vertex g (image sends v)) f) to
+-- each edge of FROM is kept: the edges are the subsets of two vertices of its facets
+abbrev pub keeps_order : List (List ℕ) → List Sent → Bool
+keeps_order from sends = list_all (λ f. list_all (keeps_edge sends) (subsets 2 f)) from
+
+-- the vertices to which those of a facet are sent, in ascending order
+abbrev pub image_of_facet : List Sent → List ℕ → List ℕ
+image_of_facet sends f = ascending (map (image sends) f)
+
+-- the image of each facet of FROM is a simplex of TO
+abbrev pub keeps_simplices : List (List ℕ) → List (List ℕ) → List Sent → Bool
+keeps_simplices from to sends = list_all (λ f. list_any (bytes_eq (image_of_facet sends f)) (simplices to)) from
 
 -- the fault of a map's end
 abbrev pub end_fault : List (List ℕ) → List (List ℕ) → List Sent → Option InputKind
-end_fault from to sends = if misses_vertex from sends then Some VertexNotSent
-    else (if turns_edge from sends then Some NotOrderPreserving
-    else (if list_all (sends_to_simplex to sends) from then None else Some ImageNotASimplex))
+end_fault from to sends = if not (sends_each from sends) then Some VertexNotSent
+    else (if not (keeps_order from sends) then Some NotOrderPreserving
+    else (if not (keeps_simplices from to sends) then Some ImageNotASimplex else None))
 
 -- the first fault of sends that stand behind others, at places from `at` on, or else that of the end
 abbrev pub first_send_fault : List (List ℕ) → List (List ℕ) → List Sent → ℕ → List Sent → Option BlockFault

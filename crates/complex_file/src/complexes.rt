@@ -15,19 +15,27 @@ fn items_of(alloc: Global, set: &BTreeSet<u32>) -> Result<Vec<u32>, AllocError>
     set.iter().copied().collect(alloc)
 }
 
-/// The simplex with these vertices in ascending order, where none stands twice.
-pub fn facet_of(alloc: Global, vertices: &[u32]) -> Result<Option<Simplex>, AllocError>
-    ensures { IfOk result (λ o. o ≡ (if has_repeat vertices.now then None else Some (ascending vertices.now))) }
+/// The simplex with these vertices in ascending order, each once.
+pub fn ascending_of(alloc: Global, vertices: &[u32]) -> Result<Simplex, AllocError>
+    ensures { IfOk result (λ s. s ≡ ascending vertices.now) }
 {
     let mut set = BTreeSet::new(alloc);
     for v in vertices {
         set.insert(*v)?;
     }
-    if set.len() < vertices.len() {
+    let ascending = items_of(alloc, &set)?;
+    Simplex::new(alloc, &ascending)
+}
+
+/// The simplex with these vertices in ascending order, where none stands twice.
+pub fn facet_of(alloc: Global, vertices: &[u32]) -> Result<Option<Simplex>, AllocError>
+    ensures { IfOk result (λ o. o ≡ (if has_repeat vertices.now then None else Some (ascending vertices.now))) }
+{
+    let simplex = ascending_of(alloc, vertices)?;
+    if simplex.vertices().len() < vertices.len() {
         return Ok(None);
     }
-    let ascending = items_of(alloc, &set)?;
-    Ok(Some(Simplex::new(alloc, &ascending)?))
+    Ok(Some(simplex))
 }
 
 /// The facets with one more, or its fault.

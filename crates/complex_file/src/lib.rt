@@ -9,6 +9,8 @@ mod input;
 mod job;
 mod kind;
 mod line;
+mod maps;
+mod open_map;
 mod place;
 mod text;
 
@@ -18,6 +20,7 @@ pub use fault::{BlockFault, JobRefused};
 pub use input::read_job;
 pub use job::Job;
 pub use kind::InputKind;
+pub use maps::map_fault;
 pub use simplex_set::Simplex;
 
 #[cfg(test)]

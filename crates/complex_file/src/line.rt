@@ -1,7 +1,9 @@
 ghost use Rattle.std.specs.Prelude.{◌≡◌, IfOk, option_map};
-ghost use Rattle.complex_file.specs.Lines.{begins_with_hash, is_skipped, line_of, line_of_complex, line_of_facet, line_of_few, line_of_two, numbers};
+ghost use Rattle.complex_file.specs.Lines.{begins_with_hash, is_skipped, line_of, line_of_complex, line_of_facet, line_of_few, line_of_four, line_of_three, line_of_two, numbers, send_line, send_of};
+ghost use Rattle.complex_file.specs.Text.{number};
 ghost use Rattle.complex_file.specs.Views.{line_seen, texts};
 
+use crate::Sent;
 use crate::text::{is_name, number_of};
 use std::alloc::{AllocError, Global};
 
@@ -12,6 +14,8 @@ pub enum Line<'a> {
     Prime(Option<u32>),
     Complex(&'a [u8]),
     Facet(Option<Vec<u32>>),
+    Map(&'a [u8], &'a [u8], &'a [u8]),
+    Send(Option<Sent>),
     End,
     Other,
 }
@@ -51,10 +55,10 @@ fn numbers_of(alloc: Global, words: &[&[u8]]) -> Result<Option<Vec<u32>>, AllocE
 fn facet_line<'a>(alloc: Global, vertices: &[&[u8]]) -> Result<Line<'a>, AllocError>
     ensures { IfOk result (λ l. line_seen l ≡ line_of_facet (texts vertices.now)) }
 {
-    match vertices {
-        [] => Ok(Line::Other),
-        [_, ..] => Ok(Line::Facet(numbers_of(alloc, vertices)?)),
+    if vertices.is_empty() {
+        return Ok(Line::Other);
     }
+    Ok(Line::Facet(numbers_of(alloc, vertices)?))
 }
 
 fn complex_line(name: &[u8]) -> Line<'_>
@@ -81,6 +85,35 @@ fn line_of_two<'a>(word: &[u8], value: &'a [u8]) -> Line<'a>
     }
 }
 
+fn send_line<'a>(from: &[u8], to: &[u8]) -> Line<'a>
+    ensures { line_seen result ≡ send_line (send_of (number from.now) (number to.now)) }
+{
+    match (number_of(from), number_of(to)) {
+        (Some(from), Some(to)) => Line::Send(Some(Sent { from, to })),
+        _ => Line::Send(None),
+    }
+}
+
+fn line_of_three<'a>(word: &[u8], from: &[u8], to: &[u8]) -> Line<'a>
+    ensures { line_seen result ≡ line_of_three word.now from.now to.now }
+{
+    if word == b"send".as_slice() {
+        send_line(from, to)
+    } else {
+        Line::Other
+    }
+}
+
+fn line_of_four<'a>(word: &[u8], name: &'a [u8], from: &'a [u8], to: &'a [u8]) -> Line<'a>
+    ensures { line_seen result ≡ line_of_four word.now name.now from.now to.now }
+{
+    if word == b"map".as_slice() && is_name(name) && is_name(from) && is_name(to) {
+        Line::Map(name, from, to)
+    } else {
+        Line::Other
+    }
+}
+
 fn line_of_few<'a>(word: &[u8], values: &[&'a [u8]]) -> Line<'a>
     ensures { line_seen result ≡ line_of_few word.now (texts values.entry.now) }
 {
@@ -93,7 +126,9 @@ fn line_of_few<'a>(word: &[u8], values: &[&'a [u8]]) -> Line<'a>
             }
         }
         [value] => line_of_two(word, value),
-        _ => Line::Other,
+        [from, to] => line_of_three(word, from, to),
+        [name, from, to] => line_of_four(word, name, from, to),
+        [_, _, _, _, ..] => Line::Other,
     }
 }
 

@@ -1,14 +1,17 @@
-ghost use Rattle.std.specs.Prelude.{◌≡◌, ◌∷◌, ◌++◌, [], false, IfOk, Ok, option_map};
-ghost use Rattle.complex_file.specs.Input.{after, after_complex, after_facet, after_prime, at_prime, at_start, between, in_complex, with_complex};
-ghost use Rattle.complex_file.specs.Jobs.{block_names, has_name};
+ghost use Rattle.std.specs.Prelude.{◌≡◌, ◌∷◌, ◌++◌, [], ◌<◌, false, length, IfOk, IfSome, Ok, Some, option_map};
+ghost use Rattle.complex_file.specs.Input.{after, after_complex, after_facet, after_map, after_map_end, after_prime, after_send, at_prime, at_start, begun_map, between, in_complex, in_map, with_complex, with_map};
+ghost use Rattle.complex_file.specs.Jobs.{block_names, facets_at, has_name, place_of_name};
+ghost use Rattle.complex_file.specs.Maps.{end_fault};
+ghost use Rattle.complex_file.specs.OpenMaps.{sends_seen};
 ghost use Rattle.complex_file.specs.Reading.{Gives};
-ghost use Rattle.complex_file.specs.Views.{complex_seen, line_seen, place_seen, spelled_by};
+ghost use Rattle.complex_file.specs.Views.{complex_seen, line_seen, map_seen, place_seen, spelled_by};
 
 use crate::complexes::{facet_of, with_facet};
 use crate::fault::LineFault;
-use crate::found::{BegunComplex, Found, Place};
+use crate::found::{BegunComplex, BegunMap, Found, Place};
 use crate::line::Line;
-use crate::{ComplexBlock, InputKind, Name};
+use crate::open_map::OpenMap;
+use crate::{ComplexBlock, InputKind, MapBlock, Name, Sent};
 use comch_io::Listed;
 use indexmap::IndexSet;
 use simplex_set::OpenComplex;
@@ -90,6 +93,7 @@ fn with_complex<'a>(
 ) -> Result<Found<'a>, AllocError>
     requires name { block.name ≡ name.now }
     requires fresh { has_name (block_names found.complexes found.maps) name.now ≡ false }
+    requires room { length found.complexes < 8 }
     ensures { IfOk result (λ f. spelled_by f ≡ with_complex (spelled_by found.entry) block) }
 {
     let Found {
@@ -128,6 +132,143 @@ fn closed<'a>(alloc: Global, begun: BegunComplex<'a>) -> Result<Place<'a>, LineF
     Ok(Place::Between(with_complex(found, name, block)?))
 }
 
+// The map between the complexes at two places begins.
+fn begun_map<'a>(
+    alloc: Global,
+    found: Found<'a>,
+    name: &'a [u8],
+    from: usize,
+    to: usize,
+) -> Result<Place<'a>, LineFault>
+    requires fresh { has_name (block_names found.complexes found.maps) name.now ≡ false }
+    requires from { from < length found.complexes }
+    requires to { to < length found.complexes }
+    ensures { Gives place_seen result (begun_map (spelled_by found.entry) name.now (Some from) (Some to)) }
+{
+    let complexes = found.complexes.as_slice();
+    let map = OpenMap::new(
+        alloc,
+        complexes[from].facets.as_slice(),
+        complexes[to].facets.as_slice(),
+    )?;
+    Ok(Place::InMap(BegunMap {
+        found,
+        name,
+        from: from as u32,
+        to: to as u32,
+        map,
+    }))
+}
+
+// The place of the complex with this name.
+fn place_of_name(found: &Found<'_>, name: &[u8]) -> Option<usize>
+    ensures place { result ≡ place_of_name found.now.complexes name.now }
+    ensures there { IfSome result (λ k. k < length found.now.complexes) }
+{
+    found.complex_names.get_index_of(name)
+}
+
+fn after_map<'a>(
+    alloc: Global,
+    found: Found<'a>,
+    name: &'a [u8],
+    from: &[u8],
+    to: &[u8],
+) -> Result<Place<'a>, LineFault>
+    ensures { Gives place_seen result (after_map (spelled_by found.entry) name.now from.now to.now) }
+{
+    if found.maps.len() >= 8 {
+        return Err(LineFault::Kind(InputKind::TooManyBlocks));
+    }
+    if has_name(&found, name) {
+        return Err(LineFault::Kind(InputKind::RepeatedName));
+    }
+    match (place_of_name(&found, from), place_of_name(&found, to)) {
+        (Some(from), Some(to)) => begun_map(alloc, found, name, from, to),
+        _ => Err(LineFault::Kind(InputKind::UnknownName)),
+    }
+}
+
+fn after_send<'a>(begun: BegunMap<'a>, sent: Option<Sent>) -> Result<Place<'a>, LineFault>
+    ensures { Gives place_seen result (after_send (spelled_by begun.entry.found) (map_seen begun.entry) sent) }
+{
+    let Some(sent) = sent else {
+        return Err(LineFault::Kind(InputKind::BadNumber));
+    };
+    let BegunMap {
+        found,
+        name,
+        from,
+        to,
+        map,
+    } = begun;
+    Ok(Place::InMap(BegunMap {
+        found,
+        name,
+        from,
+        to,
+        map: map.with_send(sent)?,
+    }))
+}
+
+// The fault of the map's end.
+fn map_end_fault(alloc: Global, begun: &BegunMap<'_>) -> Result<Option<InputKind>, AllocError>
+    ensures { IfOk result (λ r. r ≡ end_fault (facets_at begun.now.found.complexes begun.now.from) (facets_at begun.now.found.complexes begun.now.to) (sends_seen begun.now.map)) }
+{
+    let complexes = begun.found.complexes.as_slice();
+    let from = complexes[begun.from as usize].facets.as_slice();
+    let to = complexes[begun.to as usize].facets.as_slice();
+    begun.map.end_fault(alloc, from, to)
+}
+
+// The blocks with one more map.
+fn with_map<'a>(found: Found<'a>, name: &'a [u8], block: MapBlock) -> Result<Found<'a>, AllocError>
+    requires name { block.name ≡ name.now }
+    requires fresh { has_name (block_names found.complexes found.maps) name.now ≡ false }
+    ensures { IfOk result (λ f. spelled_by f ≡ with_map (spelled_by found.entry) block) }
+{
+    let Found {
+        prime,
+        complex_names,
+        complexes,
+        mut map_names,
+        mut maps,
+    } = found;
+    map_names.insert(name)?;
+    match maps.push(block) {
+        Ok(()) => Ok(Found {
+            prime,
+            complex_names,
+            complexes,
+            map_names,
+            maps,
+        }),
+        Err(_) => Err(AllocError),
+    }
+}
+
+fn after_map_end<'a>(alloc: Global, begun: BegunMap<'a>) -> Result<Place<'a>, LineFault>
+    ensures { Gives place_seen result (after_map_end (spelled_by begun.entry.found) (map_seen begun.entry)) }
+{
+    if let Some(kind) = map_end_fault(alloc, &begun)? {
+        return Err(LineFault::Kind(kind));
+    }
+    let BegunMap {
+        found,
+        name,
+        from,
+        to,
+        map,
+    } = begun;
+    let block = MapBlock {
+        name: Name::new(alloc, name)?,
+        from,
+        to,
+        sends: map.listed(alloc)?,
+    };
+    Ok(Place::Between(with_map(found, name, block)?))
+}
+
 fn from_start<'a>(line: Line<'a>) -> Result<Place<'a>, LineFault>
     ensures { Gives place_seen result (after at_start (line_seen line.entry)) }
 {
@@ -151,6 +292,7 @@ fn from_block<'a>(alloc: Global, found: Found<'a>, line: Line<'a>) -> Result<Pla
 {
     match line {
         Line::Complex(name) => after_complex(alloc, found, name),
+        Line::Map(name, from, to) => after_map(alloc, found, name, from, to),
         _ => Err(LineFault::Kind(InputKind::BadLine)),
     }
 }
@@ -169,6 +311,16 @@ fn from_facet<'a>(
     }
 }
 
+fn from_send<'a>(alloc: Global, begun: BegunMap<'a>, line: Line<'a>) -> Result<Place<'a>, LineFault>
+    ensures { Gives place_seen result (after (in_map (spelled_by begun.entry.found) (map_seen begun.entry)) (line_seen line.entry)) }
+{
+    match line {
+        Line::Send(sent) => after_send(begun, sent),
+        Line::End => after_map_end(alloc, begun),
+        _ => Err(LineFault::Kind(InputKind::BadLine)),
+    }
+}
+
 /// What a line makes of a place, or the kind of its fault.
 pub fn after<'a>(alloc: Global, place: Place<'a>, line: Line<'a>) -> Result<Place<'a>, LineFault>
     ensures { Gives place_seen result (after (place_seen place.entry) (line_seen line.entry)) }
@@ -178,5 +330,6 @@ pub fn after<'a>(alloc: Global, place: Place<'a>, line: Line<'a>) -> Result<Plac
         Place::AtPrime => from_heading(alloc, line),
         Place::Between(found) => from_block(alloc, found, line),
         Place::InComplex(begun) => from_facet(alloc, begun, line),
+        Place::InMap(begun) => from_send(alloc, begun, line),
     }
 }

@@ -2,7 +2,7 @@ use Rattle.std.proofs.Common.{◌∙◌, List, [], ℕ, get_or, ap, sym, arith}
 use Rattle.std.specs.Ordering.{nat_cmp}
 use Rattle.std.specs.BTreeSet.{insert_key}
 use Rattle.std.proofs.lemmas.List.Sums.{fold_more}
-use Rattle.complex_file.proofs.complexes.facet_of.Goals as goal
+use Rattle.complex_file.proofs.complexes.ascending_of.Goals as goal
 
 pub loop-v-preserved : goal.loop-v-preserved
 loop-v-preserved c =

@@ -1,6 +1,6 @@
 use Rattle.std.proofs.Common.{◌≡◌, take}
 use Rattle.complex_file.specs.Complexes.{ascending}
-use Rattle.complex_file.proofs.complexes.facet_of.Given as goal
+use Rattle.complex_file.proofs.complexes.ascending_of.Given as goal
 
 abbrev pub invariant-loop-v : goal.invariant-loop-v
 invariant-loop-v l = l.set.keys ≡ ascending (take l.v-index l.vertices)
