@@ -32,6 +32,11 @@ const MOORE_AT_2: &str = "comch 1\nprime 2\n\
     facet 0 2 11\nfacet 0 3 11\nfacet 3 11 12\n\
     end\n";
 
+const CIRCLE_IN_DISC: &str =
+    "comch 1\nprime 5\ncomplex circle\nfacet 0 1\nfacet 0 2\nfacet 1 2\nend\n\
+    complex disc\nfacet 0 1 2\nend\n\
+    map inclusion circle disc\nsend 0 0\nsend 1 1\nsend 2 2\nend\n";
+
 const WIDE: &str = "comch 1\nprime 2\ncomplex big\n\
     facet 0 1 2 3 4 5 6 7 8 9 10 11 12 13 14 15 16\n";
 
@@ -50,7 +55,7 @@ fn words_of(alloc: Global, line: &str) -> Result<Vec<String>, AllocError> {
 #[test]
 fn inputs_are_answered_by_their_bases(rt: HostRuntime) -> Result<(), Fail> {
     let alloc = rt.alloc();
-    let cases: [(&str, &str); 7] = [
+    let cases: [(&str, &str); 8] = [
         ("comch 1\nprime 5\n", "comch basis 1\nprime 5\ndone\n"),
         (
             "comch 1\nprime 2\ncomplex none\nend\n",
@@ -81,6 +86,12 @@ fn inputs_are_answered_by_their_bases(rt: HostRuntime) -> Result<(), Fail> {
             class 1:0 1:1 1:2 1:3 1:4 1:5 1:6 1:7 1:8 1:9 1:10 1:11 1:12\n\
             degree 1 rank 0\ndegree 2 rank 0\nend\ndone\n",
         ),
+        (
+            CIRCLE_IN_DISC,
+            "comch basis 1\nprime 5\ncomplex circle\ndegree 0 rank 1\nclass 1:0 1:1 1:2\n\
+            degree 1 rank 1\nclass 1:1.2\nend\ncomplex disc\ndegree 0 rank 1\nclass 1:0 1:1 1:2\n\
+            degree 1 rank 0\ndegree 2 rank 0\nend\ndone\n",
+        ),
     ];
     let words = words_of(alloc, "basis")?;
     for (input, text) in cases {
@@ -96,7 +107,7 @@ fn inputs_are_answered_by_their_bases(rt: HostRuntime) -> Result<(), Fail> {
 #[test]
 fn refusals_write_one_line(rt: HostRuntime) -> Result<(), Fail> {
     let alloc = rt.alloc();
-    let cases: [(&str, &[u64], usize, u8, &str); 9] = [
+    let cases: [(&str, &[u64], usize, u8, &str); 10] = [
         ("", &[], 99, 3, "refused input 15 line 1\n"),
         (
             "comch 1\nprime 7\n",
@@ -118,6 +129,13 @@ fn refusals_write_one_line(rt: HostRuntime) -> Result<(), Fail> {
             99,
             3,
             "refused input 15 line 4\n",
+        ),
+        (
+            "comch 1\nprime 2\ncomplex e\nfacet 0 1\nend\nmap f e e\nsend 0 1\nsend 1 0\nend\n",
+            &[],
+            99,
+            3,
+            "refused input 13 line 9\n",
         ),
         (WIDE, &[], 99, 3, "refused input 6 line 4\n"),
         (LARGE, &[], 99, 3, "refused input 7 line 5\n"),
