@@ -60,7 +60,7 @@ module _ (facets : List (List ℕ)) (n p : ℕ) (here : List (List ℕ)) (all_he
             | inr b ↦ absurd (let on = simplex_at facets n p here all_here y c in omega (arith, on.size, ap (λ (s : List ℕ). length s) (sym (past here x b) ∙ f)))
           ]
 
-  row_by_place : (row : List (ℕ × ℕ)) (x : ℕ) → x < length here → cochain_of (terms_of here row) (get_or here x []) ≡ value_in row x
+  pub row_by_place : (row : List (ℕ × ℕ)) (x : ℕ) → x < length here → cochain_of (terms_of here row) (get_or here x []) ≡ value_in row x
   row_by_place [] x b = refl
   row_by_place (e ∷ es) x b = ap₂ (λ m n. e.1 * m + n) (unit_by_place e.0 x b) (row_by_place es x b)
 

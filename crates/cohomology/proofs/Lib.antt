@@ -3,3 +3,4 @@ pub mod ClassLemmas
 pub mod CircleLemmas
 pub mod BoundLemmas
 pub mod DataLemmas
+pub mod CoordinateLemmas

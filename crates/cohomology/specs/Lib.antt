@@ -1,2 +1,4 @@
 pub mod Classes
 pub mod Data
+pub mod Coordinates
+pub mod Refused

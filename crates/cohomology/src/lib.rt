@@ -2,9 +2,11 @@
 #![tactic(auto)]
 
 mod classes;
+mod coordinates;
 mod data;
 
 pub use classes::classes_of;
+pub use coordinates::{Coordinates, CoordinatesRefused};
 pub use data::{Bound, Cohomology, DegreeData};
 
 #[cfg(test)]
