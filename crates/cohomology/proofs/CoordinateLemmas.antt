@@ -62,8 +62,7 @@ module _ (facets : List (List ℕ)) (n p : ℕ) where
   combination_at (s ∷ ss) (z ∷ zs) [] h o e = absurd (omega arith)
   combination_at (s ∷ ss) (z ∷ zs) (c ∷ cs) h o e =
       let apart = after_first s ss o in
-      let here = combination_none p s cs zs (others_here ss zs h.1 apart) in
-      (
+      let here = combination_none p s cs zs (others_here ss zs h.1 apart) in (
         Congruent_from (Congruent_add (Congruent_scale c h.0.canonical.one) here) (omega arith),
         later ss cs (others_later ss zs h.1 apart) (combination_at ss zs cs h.1 (λ j k a b. o (suc j) (suc k) (omega arith) (omega arith)) (omega arith)),
       )

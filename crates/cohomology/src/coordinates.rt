@@ -108,10 +108,7 @@ pub struct Coordinates<const P: u32> {
 pub enum CoordinatesRefused {
     OutOfMemory,
     /// Its coboundary is not zero: the place of the least simplex where it is not, and its value there.
-    NotClosed {
-        place: u32,
-        value: u32,
-    },
+    NotClosed { place: u32, value: u32 },
 }
 
 ghost use Rattle.cohomology.specs.declared.coordinates.CoordinatesRefused.TheVariants.{OutOfMemory};

@@ -1,0 +1,86 @@
+-- The steps of the walk over cuts.
+use Rattle.std.proofs.Common.{◌≡◌, ℕ, ◌+◌, List, [], ◌∷◌, ◌++◌, map, length, refl, sym, ◌∙◌, ap, ap₂, arith, subst, zero-add, ◌≤◌, inl, inr, length-append}
+use Rattle.std.specs.Prelude.{zero, suc, replicate, Option, Some, None}
+use Rattle.std.specs.Prelude.{IsSome, is_some}
+use Rattle.std.proofs.lemmas.Bool.{false≢true}
+use Rattle.std.proofs.lemmas.Option.{none-some}
+use Rattle.interval_cut_law.specs.Cuts.{IsCutFrom, rising_lists}
+use Rattle.interval_cut_law.specs.LiveCuts.{next_rising}
+use Rattle.interval_cut.specs.Walking.{CutWalk, lists_after, next_walk}
+use Rattle.interval_cut.specs.Stages.{OnAt, shown}
+use Rattle.interval_cut.specs.declared.stage.Stage.{Stage}
+use Rattle.interval_cut.specs.declared.stage.Stage.TheVariants.{Before, At, Done}
+use Rattle.interval_cut.proofs.ListLemmas.{lists_after-first, lists_after-next, lists_after-none, next_tells}
+
+-- from before the first cut
+pub walk-first : (values inner new : List ℕ) (top : ℕ) (s : Stage) (w : CutWalk) → shown values top s inner ≡ w → s ≡ Before → length inner + 1 ≡ length values → new ≡ replicate (length inner) 0
+    → shown values top At new ≡ next_walk w
+walk-first [] inner new top s w is st l e = absurd (omega arith)
+walk-first (v ∷ u) inner new top s w is st l e =
+    let k : length inner ≡ length u = omega arith in
+    let first : rising_lists 0 top (length u) ≡ new ∷ lists_after top new =
+    lists_after-first (length u) top 0 ∙ ap₂ (λ (n : ℕ) (p : List ℕ). p ∷ lists_after n p) (zero-add top) (ap (λ j. replicate j 0) (sym k) ∙ sym e) in
+    ap (λ (r : List (List ℕ)). next_walk (record { values = v ∷ u; top = top; here = None; left = map (λ p. p ++ (top ∷ [])) r })) (sym first)
+    ∙ ap (λ t. next_walk (shown (v ∷ u) top t inner)) (sym st) ∙ ap next_walk is
+
+-- from a cut to the next one
+pub walk-next : (values inner new : List ℕ) (top : ℕ) (s : Stage) (w : CutWalk) → shown values top s inner ≡ w → s ≡ At → next_rising top inner ≡ Some new
+    → shown values top At new ≡ next_walk w
+walk-next values inner new top s w is st e =
+    ap (λ (r : List (List ℕ)). next_walk (record { values = values; top = top; here = Some (inner ++ (top ∷ [])); left = map (λ p. p ++ (top ∷ [])) r })) (sym (lists_after-next top inner new e))
+    ∙ ap (λ t. next_walk (shown values top t inner)) (sym st) ∙ ap next_walk is
+
+-- past the last
+pub walk-last : (values inner new : List ℕ) (top : ℕ) (s : Stage) (w : CutWalk) → shown values top s inner ≡ w → s ≡ At → next_rising top inner ≡ None
+    → shown values top Done new ≡ next_walk w
+walk-last values inner new top s w is st e =
+    ap (λ (r : List (List ℕ)). next_walk (record { values = values; top = top; here = Some (inner ++ (top ∷ [])); left = map (λ p. p ++ (top ∷ [])) r })) (sym (lists_after-none top inner e))
+    ∙ ap (λ t. next_walk (shown values top t inner)) (sym st) ∙ ap next_walk is
+
+-- ---- the ends stay those of a cut
+
+length-cut : (u : List ℕ) (a : ℕ) (p : List ℕ) → IsCutFrom u a p → length u ≡ length p
+length-cut [] a [] c = refl
+length-cut [] a (b ∷ p) c = absurd c
+length-cut (v ∷ u) a [] c = absurd c
+length-cut (v ∷ u) a (b ∷ p) c = ap suc (length-cut u b p c.1)
+
+cut-constant : (u : List ℕ) (a m top : ℕ) → length u ≡ suc m → a ≤ top → IsCutFrom u a (replicate m a ++ (top ∷ []))
+cut-constant [] a m top l b = absurd (omega arith)
+cut-constant (v ∷ []) a zero top l b = (b, tt)
+cut-constant (v ∷ w ∷ u) a zero top l b = absurd (omega arith)
+cut-constant (v ∷ u) a (suc m) top l b = let own : a ≤ a = omega arith in (own, cut-constant u a m top (omega arith) b)
+
+pub cut-next : (u : List ℕ) (a top : ℕ) (p q : List ℕ) → IsCutFrom u a (p ++ (top ∷ [])) → next_rising top p ≡ Some q → IsCutFrom u a (q ++ (top ∷ []))
+cut-next [] a top [] q c e = absurd c
+cut-next [] a top (b ∷ p) q c e = absurd c
+cut-next (v ∷ u) a top [] q c e = absurd (none-some q e)
+cut-next (v ∷ u) a top (b ∷ p) q c e = elim (next_tells top b p q e) [
+  | inl s ↦ subst (λ (x : List ℕ). IsCutFrom (v ∷ u) a (x ++ (top ∷ []))) s.2 (c.0, cut-next u b top p s.0 c.1 s.1)
+  | inr s ↦
+      let long : length u ≡ suc (length p) = length-cut u b (p ++ (top ∷ [])) c.1 ∙ length-append p (top ∷ []) ∙ plus (length p) in
+      let low = c.0 in
+      let up : a ≤ suc b = omega arith in
+      subst (λ (x : List ℕ). IsCutFrom (v ∷ u) a (x ++ (top ∷ []))) s.2 (up, cut-constant u (suc b) (length p) top long s.1)
+]
+  where
+    plus : (n : ℕ) → n + 1 ≡ suc n
+    plus n = omega arith
+
+pub cut-first : (u : List ℕ) (a top : ℕ) (p : List ℕ) → IsCutFrom u a (p ++ (top ∷ [])) → IsCutFrom u 0 (replicate (length p) 0 ++ (top ∷ []))
+cut-first u a top p c = cut-constant u 0 (length p) top (length-cut u a (p ++ (top ∷ [])) c ∙ length-append p (top ∷ []) ∙ plus (length p)) (omega arith)
+  where
+    plus : (n : ℕ) → n + 1 ≡ suc n
+    plus n = omega arith
+
+pub cut-start : (u : List ℕ) (m top : ℕ) → length u ≡ m + 1 → IsCutFrom u 0 (replicate m 0 ++ (top ∷ []))
+cut-start u m top l = cut-constant u 0 m top (omega arith) (omega arith)
+
+-- where a cut is shown, the walk is at one
+pub is_at : (values : List ℕ) (top : ℕ) (s : Stage) (inner : List ℕ) (w : CutWalk) → shown values top s inner ≡ w → IsSome w.here → s ≡ At
+is_at values top Before inner w e h = absurd (false≢true (ap (λ v. is_some v.here) e ∙ h))
+is_at values top At inner w e h = refl
+is_at values top Done inner w e h = absurd (false≢true (ap (λ v. is_some v.here) e ∙ h))
+
+pub on_at : (s : Stage) (P : Type 0) → s ≡ At → OnAt s P → P
+on_at s P e h = subst (λ t. OnAt t P) e h

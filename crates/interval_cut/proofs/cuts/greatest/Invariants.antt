@@ -1,0 +1,6 @@
+use Rattle.std.proofs.Common.{◌≡◌, max, drop}
+use Rattle.surjection_law.specs.Surjections.{arity}
+use Rattle.interval_cut.proofs.cuts.greatest.Given as goal
+
+abbrev pub invariant-loop-value : goal.invariant-loop-value
+invariant-loop-value l = max l.most (arity (drop l.value-index l.values)) ≡ arity l.values

@@ -1,0 +1,38 @@
+use Rattle.std.proofs.Common.{◌≡◌, List, ℕ, [], ◌∷◌, ◌++◌, ◌∙◌, ap, refl, sym, length, replicate, Some, subst}
+use Rattle.std.proofs.lemmas.List.{with_items_is}
+use Rattle.std.specs.Vec.{with_items}
+use Rattle.interval_cut_law.specs.Cuts.{IsCutFrom}
+use Rattle.interval_cut_law.specs.LiveCuts.{next_rising}
+use Rattle.interval_cut.proofs.ListLemmas.{length-next}
+use Rattle.interval_cut.proofs.WalkLemmas.{walk-first, walk-next, walk-last, cut-first, cut-next}
+use Rattle.interval_cut.proofs.stage.step.Goals as goal
+
+pub returns-in-Before-clause-walk : goal.returns-in-Before-clause-walk
+returns-in-Before-clause-walk c u l =
+    walk-first u c.args.inner.now.items _ c.args.top c.args.stage _ refl c.in-Before.is l
+    (with_items_is c.args.inner.now c.fill.new.self (c.fill.ensures.len ∙ c.as_mut_slice.ensures.len) ∙ c.fill.ensures.after (λ y e. e) ∙ ap (λ r. replicate (length r) 0) c.as_mut_slice.ensures.value)
+
+pub returns-in-Before-clause-cut : goal.returns-in-Before-clause-cut
+returns-in-Before-clause-cut c u h =
+    subst (λ (r : List ℕ). IsCutFrom u 0 (r ++ (c.args.top ∷ [])))
+    (sym (with_items_is c.args.inner.now c.fill.new.self (c.fill.ensures.len ∙ c.as_mut_slice.ensures.len) ∙ c.fill.ensures.after (λ y e. e) ∙ ap (λ r. replicate (length r) 0) c.as_mut_slice.ensures.value))
+    (cut-first u 0 c.args.top c.args.inner.now.items h)
+
+pub returns-then-next_list-clause-walk : goal.returns-then-next_list-clause-walk
+returns-then-next_list-clause-walk c u l =
+    let next : next_rising c.args.top c.as_mut_slice-in-At.result.now ≡ Some c.next_list.new.list = c.if-next_list.ensures in
+    let long : length c.next_list.new.list ≡ c.args.inner.now.len = length-next c.args.top c.as_mut_slice-in-At.result.now c.next_list.new.list next ∙ c.as_mut_slice-in-At.ensures.len in
+    walk-next u c.args.inner.now.items (with_items c.args.inner.now c.next_list.new.list).items c.args.top c.args.stage _ refl c.in-At.is
+    (ap (next_rising c.args.top) (sym c.as_mut_slice-in-At.ensures.value) ∙ next ∙ ap (λ r. Some r) (sym (with_items_is c.args.inner.now c.next_list.new.list long)))
+
+pub returns-then-next_list-clause-cut : goal.returns-then-next_list-clause-cut
+returns-then-next_list-clause-cut c u h =
+    let next : next_rising c.args.top c.as_mut_slice-in-At.result.now ≡ Some c.next_list.new.list = c.if-next_list.ensures in
+    let long : length c.next_list.new.list ≡ c.args.inner.now.len = length-next c.args.top c.as_mut_slice-in-At.result.now c.next_list.new.list next ∙ c.as_mut_slice-in-At.ensures.len in
+    cut-next u 0 c.args.top c.args.inner.now.items (with_items c.args.inner.now c.next_list.new.list).items h
+    (ap (next_rising c.args.top) (sym c.as_mut_slice-in-At.ensures.value) ∙ next ∙ ap (λ r. Some r) (sym (with_items_is c.args.inner.now c.next_list.new.list long)))
+
+pub returns-else-next_list-clause-walk : goal.returns-else-next_list-clause-walk
+returns-else-next_list-clause-walk c u l =
+    walk-last u c.args.inner.now.items (with_items c.args.inner.now c.next_list.new.list).items c.args.top c.args.stage _ refl c.in-At.is
+    (ap (next_rising c.args.top) (sym c.as_mut_slice-in-At.ensures.value) ∙ c.if-next_list.ensures.0)

@@ -1,0 +1,5 @@
+pub mod Walking
+pub mod Ends
+pub mod Faces
+pub mod Stages
+pub mod Views
