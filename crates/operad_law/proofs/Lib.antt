@@ -5,3 +5,5 @@ pub mod Unique
 pub mod WordLemmas
 pub mod PermLemmas
 pub mod TurnSums
+pub mod ListOrder
+pub mod Merging

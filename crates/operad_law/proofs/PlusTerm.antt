@@ -13,7 +13,7 @@ use Rattle.operad_law.specs.Places.{IsAbove}
 use Rattle.signed_sum.proofs.SumLemmas.{is_zero-true}
 use Rattle.operad_law.specs.FormalSums.{with_term, plus_first, plus_term}
 
-value_at-with_term : {X : Type 0} (phi : X → ℤ) (x : X) (c : ℤ) (ts : List (X × ℤ)) → value_at phi (with_term x c ts) ≡ c *ℤ phi x +ℤ value_at phi ts
+pub value_at-with_term : {X : Type 0} (phi : X → ℤ) (x : X) (c : ℤ) (ts : List (X × ℤ)) → value_at phi (with_term x c ts) ≡ c *ℤ phi x +ℤ value_at phi ts
 value_at-with_term phi x c ts = elim (cases_Bool (is_zero c)) [
   | inl z ↦ let a : c *ℤ phi x ≡ pos 0 *ℤ phi x = ap (λ v. v *ℤ phi x) (is_zero-true c z) in rw z (omega (arith, ints, a))
   | inr z ↦ rw z refl
@@ -28,13 +28,13 @@ value_at-plus_term cmp same phi (t ∷ ts) x c = at_first (value_at-plus_term cm
     at_first ih Equal e = omega (arith, ints, value_at-with_term phi t.0 (t.1 +ℤ c) ts, add-mul t.1 c (phi t.0), ap (λ v. c *ℤ phi v) (same t.0 x e))
     at_first ih Greater e = value_at-with_term phi x c (t ∷ ts)
 
-weight_of-with_term : {X : Type 0} (x : X) (c : ℤ) (ts : List (X × ℤ)) → weight_of (with_term x c ts) ≡ nat_abs c + weight_of ts
+pub weight_of-with_term : {X : Type 0} (x : X) (c : ℤ) (ts : List (X × ℤ)) → weight_of (with_term x c ts) ≡ nat_abs c + weight_of ts
 weight_of-with_term x c ts = elim (cases_Bool (is_zero c)) [
   | inl z ↦ let a : nat_abs c ≡ nat_abs (pos 0) = ap nat_abs (is_zero-true c z) in rw z (omega (arith, a))
   | inr z ↦ rw z refl
 ]
 
-abs_sum : (a b : ℤ) → nat_abs (a +ℤ b) ≤ nat_abs a + nat_abs b
+pub abs_sum : (a b : ℤ) → nat_abs (a +ℤ b) ≤ nat_abs a + nat_abs b
 abs_sum a b = omega (arith, ints)
 
 pub weight_of-plus_term : {X : Type 0} (cmp : X → X → Ordering) (ts : List (X × ℤ)) (x : X) (c : ℤ) → weight_of (plus_term cmp ts x c) ≤ nat_abs c + weight_of ts
@@ -59,7 +59,7 @@ IsBelow-plus_term cmp y (t ∷ ts) x c l b = at_head (IsBelow-plus_term cmp y ts
     at_head ih Equal = IsBelow-with_term cmp y t.0 (t.1 +ℤ c) ts b.0 b.1
     at_head ih Greater = IsBelow-with_term cmp y x c (t ∷ ts) l b
 
-IsBelow-less : {X : Type 0} (cmp : X → X → Ordering) (o : IsTotalOrder cmp) (x y : X) (ts : List (X × ℤ)) → cmp x y ≡ Less → IsBelow cmp y ts → IsBelow cmp x ts
+pub IsBelow-less : {X : Type 0} (cmp : X → X → Ordering) (o : IsTotalOrder cmp) (x y : X) (ts : List (X × ℤ)) → cmp x y ≡ Less → IsBelow cmp y ts → IsBelow cmp x ts
 IsBelow-less cmp o x y [] l b = tt
 IsBelow-less cmp o x y (t ∷ ts) l b = (o.trans x y t.0 l b.0, IsBelow-less cmp o x y ts l b.1)
 

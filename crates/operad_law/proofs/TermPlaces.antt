@@ -12,7 +12,7 @@ use Rattle.operad_law.specs.FormalSums.{IsAscending, IsBelow, coefficient_of}
 use Rattle.std.specs.Ordering.{ordering_reverse}
 use Rattle.signed_sum.specs.Sums.{is_zero, weight_of}
 use Rattle.operad_law.specs.FormalSums.{with_term, plus_term, plus_first}
-use Rattle.operad_law.proofs.PlusTerm.{plus_term-append}
+use Rattle.operad_law.proofs.PlusTerm.{plus_term-append, weight_of-with_term}
 
 IsAbove-push : {X : Type 0} (cmp : X → X → Ordering) (x : X) (ts : List (X × ℤ)) (t : X × ℤ) → IsAbove cmp x ts → cmp t.0 x ≡ Less → IsAbove cmp x (ts ++ t ∷ [])
 IsAbove-push cmp x [] t a l = (l, tt)
@@ -130,6 +130,21 @@ IsAbove-up_to cmp o x (t ∷ ts) zero d a h l = (l, tt)
 IsAbove-up_to cmp o x (t ∷ ts) (suc k) d a h l =
     let n : k < length ts = omega arith in
     (o.trans t.0 (get_or ts k d).0 x (below_at cmp t.0 ts k d a.0 n) l, IsAbove-up_to cmp o x ts k d a.1 n l)
+
+-- ---- the weight
+pub weight_inserted : {X : Type 0} (ts : List (X × ℤ)) (k : ℕ) (x : X) (c : ℤ) → weight_of (take k ts ++ (x, c) ∷ drop k ts) ≡ weight_of ts + nat_abs c
+weight_inserted ts zero x c = omega arith
+weight_inserted [] (suc k) x c = omega arith
+weight_inserted (t ∷ ts) (suc k) x c = omega (arith, weight_inserted ts k x c)
+
+weight_put : {X : Type 0} (ts : List (X × ℤ)) (k : ℕ) (d : X × ℤ) (x : X) (c : ℤ) → k < length ts → weight_of (take k ts ++ with_term x c (drop (suc k) ts)) + nat_abs (get_or ts k d).1 ≡ weight_of ts + nat_abs c
+weight_put [] k d x c h = absurd (omega arith)
+weight_put (t ∷ ts) zero d x c h = omega (arith, weight_of-with_term x c ts)
+weight_put (t ∷ ts) (suc k) d x c h = omega (arith, weight_put ts k d x c (omega arith))
+
+pub weight_changed : {X : Type 0} (ts new : List (X × ℤ)) (k : ℕ) (t : X × ℤ) (c : ℤ) (w : ℕ) → k < length ts → t ≡ get_or ts k t → new ≡ take k ts ++ with_term (get_or ts k t).0 ((get_or ts k t).1 +ℤ c) (drop (suc k) ts) → w + nat_abs t.1 ≡ weight_of ts + nat_abs (t.1 +ℤ c) → w ≡ weight_of new
+weight_changed ts new k t c w h e n v =
+    omega (arith, ap weight_of n, v, weight_put ts k t (get_or ts k t).0 ((get_or ts k t).1 +ℤ c) h, ap (λ u. nat_abs u.1) e, ap (λ u. nat_abs (u.1 +ℤ c)) e)
 
 -- ---- the coefficient of an element, at its place
 not_less : {X : Type 0} (cmp : X → X → Ordering) (o : IsTotalOrder cmp) (x y u : X) → cmp y u ≡ Less → (r : Ordering) → cmp y x ≡ r → r ≢ Less → cmp u x ≡ Greater

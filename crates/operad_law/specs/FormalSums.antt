@@ -1,5 +1,5 @@
 -- Formal sums: lists of terms, each an element with a whole coefficient.
-use Rattle.std.specs.Prelude.{◌≡◌, ◌+◌, ◌*◌, ◌≤◌, ◌^◌, List, [], ◌∷◌, ℤ, pos, ◌+ℤ◌, ◌*ℤ◌, nat_abs, false, cond}
+use Rattle.std.specs.Prelude.{◌≡◌, ◌+◌, ◌*◌, ◌≤◌, ◌^◌, ℕ, List, [], ◌∷◌, ℤ, pos, ◌+ℤ◌, ◌*ℤ◌, nat_abs, false, cond}
 use Rattle.std.specs.Ordering.{is_eq}
 use Rattle.std.specs.declared.cmp.Ordering.{Ordering}
 use Rattle.std.specs.declared.cmp.Ordering.TheVariants.{Less, Equal, Greater}
@@ -30,6 +30,11 @@ pub record IsFormalSum {X : Type 0} (cmp : X → X → Ordering) (ts : List (X �
   pub ascending : IsAscending cmp ts
   pub nonzero : IsNonzero ts
   pub light : weight_of ts ≤ 10 ^ 18
+
+-- the terms of a formal sum, and their weight
+pub record IsWeighed {X : Type 0} (cmp : X → X → Ordering) (ts : List (X × ℤ)) (weight : ℕ) : Type 0 where
+  pub sum : IsFormalSum cmp ts
+  pub weighed : weight ≡ weight_of ts
 
 -- the coefficient of an element: the sum of the coefficients of the terms with it
 abbrev pub coefficient_of : {X : Type 0} → (X → X → Ordering) → X → List (X × ℤ) → ℤ

@@ -1,11 +1,11 @@
 //! The boundary of a formal sum.
-ghost use Rattle.std.specs.Prelude.{◌≡◌, ◌≤◌, ◌<◌, ◌*◌, ◌^◌, ◌↔◌, ℤ, IfOk, Err};
+ghost use Rattle.std.specs.Prelude.{◌≡◌, ◌≤◌, ◌<◌, ◌+◌, ◌*◌, ◌^◌, ◌↔◌, ℤ, IfOk, Err, nat_abs, List, [], ◌∷◌};
 ghost use Rattle.signed_sum.specs.Sums.{value_at, weight_of};
 ghost use Rattle.operad_law.specs.FormalSums.{SumsBoundaries};
 
 use crate::basis::Narrow;
 use crate::formal_sum::{FormalSum, SumEnd};
-use crate::scaled::add_scaled;
+use crate::scaled::scaled_total;
 use std::alloc::{AllocError, Global};
 
 // The greatest weight of which 255 times is at most 10^18.
@@ -20,26 +20,39 @@ pub fn boundary_of<B: Narrow>(alloc: Global, sum: &FormalSum<B>) -> Result<Forma
     if MOST_NARROW_WEIGHT < sum.weight() {
         return Err(SumEnd::TooLarge);
     }
-    match sum_of_boundaries(alloc, sum) {
+    match sum_of_boundaries(alloc, sum.as_slice()) {
         Ok(total) => Ok(total),
         Err(_) => Err(SumEnd::OutOfMemory),
     }
 }
 
+// The sum of the boundaries of the terms: of each half, and then of both.
 fn sum_of_boundaries<B: Narrow>(
     alloc: Global,
-    sum: &FormalSum<B>,
+    terms: &[(B, i64)],
 ) -> Result<FormalSum<B>, AllocError>
-    requires { 255 * weight_of sum.now ≤ 10 ^ 18 }
-    ensures { IfOk result (SumsBoundaries B.boundary sum.now) }
+    requires { 255 * weight_of terms.now ≤ 10 ^ 18 }
+    ensures { IfOk result (SumsBoundaries B.boundary terms.now) }
 {
-    let mut total = FormalSum::new(alloc);
-    for k in 0..sum.len() {
-        let (item, by) = sum.term(k);
-        let _degree = item.degree();
-        let faces = item.boundary(alloc)?;
-        let _weight = faces.weight();
-        add_scaled(alloc, &mut total, &faces, by)?;
+    if terms.is_empty() {
+        return Ok(FormalSum::new(alloc));
     }
-    Ok(total)
+    if terms.len() == 1 {
+        return scaled_boundary(alloc, &terms[0].0, terms[0].1);
+    }
+    let (front, back) = terms.split_at(terms.len() / 2);
+    let first = sum_of_boundaries(alloc, front)?;
+    let other = sum_of_boundaries(alloc, back)?;
+    scaled_total(alloc, &first, &other, 1)
+}
+
+// The boundary of one term.
+fn scaled_boundary<B: Narrow>(alloc: Global, item: &B, by: i64) -> Result<FormalSum<B>, AllocError>
+    requires { 255 * nat_abs by ≤ 10 ^ 18 }
+    ensures { IfOk result (SumsBoundaries B.boundary ((item.now, by) ∷ [])) }
+{
+    let _degree = item.degree();
+    let faces = item.boundary(alloc)?;
+    let _weight = faces.weight();
+    scaled_total(alloc, &FormalSum::new(alloc), &faces, by)
 }

@@ -20,7 +20,7 @@ pub trait CyclicModel<const P: u32>: SignedBasis {
     fn fits(&self) -> bool
         ensures { result ≡ fits self.now };
 
-    /// The after_turns element, and a sign.
+    /// The turned element, and a sign.
     fn turn(&self, alloc: Global) -> Result<(Self, i64), AllocError>
         requires { IsTrue (fits self.now) }
         ensures { IfOk result (λ r. r ≡ turn self.now) };

@@ -1,5 +1,5 @@
 //! Formal sums: elements with whole coefficients.
-ghost use Rattle.std.specs.Prelude.{◌≡◌, ◌≤◌, ◌<◌, ◌+ℤ◌, ℤ, [], List, length, slice_index_or, IsTrue, OnOk, OnErr, ◌↔◌, ◌+◌, ◌^◌, ◌≢◌, nat_abs, Err, take, drop, suc, ◌++◌};
+ghost use Rattle.std.specs.Prelude.{◌≡◌, ◌≤◌, ◌<◌, ◌+ℤ◌, ℤ, [], List, length, slice_index_or, IsTrue, IfOk, OnOk, OnErr, ◌↔◌, ◌+◌, ◌^◌, ◌≢◌, nat_abs, Err, take, drop, suc, ◌++◌};
 ghost use Rattle.std.specs.declared.cmp.Ordering.TheVariants.{Less};
 ghost use Rattle.signed_sum.specs.Sums.{weight_of};
 ghost use Rattle.operad_law.specs.FormalSums.{IsFormalSum, IsAscending, coefficient_of, plus_term, with_term};
@@ -27,17 +27,18 @@ pub const MOST_WEIGHT: u64 = 1_000_000_000_000_000_000;
 #[derive(Drop)]
 pub struct FormalSum<B: Ord + Drop> {
     terms: Vec<(B, i64)>,
+    weight: u64,
 }
 
 impl<B: Ord + Drop> Model for FormalSum<B> {
     ghost use Rattle.std.specs.Prelude.{◌≡◌, List, ℤ};
-    ghost use Rattle.operad_law.specs.FormalSums.{IsFormalSum};
+    ghost use Rattle.operad_law.specs.FormalSums.{IsWeighed};
 
     ghost Value = { List (B × ℤ) };
 
     ghost view = { λ s. s.terms.items };
 
-    ghost invariant = { λ s. IsFormalSum B.cmp s.terms.items };
+    ghost invariant = { λ s. IsWeighed B.cmp s.terms.items s.weight };
 }
 
 impl<B: Ord + Drop> FormalSum<B> {
@@ -47,6 +48,7 @@ impl<B: Ord + Drop> FormalSum<B> {
     {
         FormalSum {
             terms: Vec::new(alloc),
+            weight: 0,
         }
     }
 
@@ -69,7 +71,7 @@ impl<B: Ord + Drop> FormalSum<B> {
         ensures value { result ≡ weight_of self.now }
         ensures sum { IsFormalSum B.cmp self.now }
     {
-        weight_of_terms(&self.terms)
+        self.weight
     }
 
     /// The term at a place, from 0: an element and its coefficient.
@@ -96,13 +98,33 @@ impl<B: Ord + Drop> FormalSum<B> {
         ensures grows { OnOk result (weight_of self.new ≤ weight_of self.old + nat_abs by) }
         ensures err { OnErr result (self.new ≡ self.old) }
     {
-        if by.unsigned_abs() > MOST_WEIGHT - weight_of_terms(&self.terms) {
+        if by.unsigned_abs() > MOST_WEIGHT - self.weight {
             return Err(SumEnd::TooLarge);
         }
-        match add_to(&mut self.terms, item, by) {
-            Ok(()) => Ok(()),
+        match add_to(&mut self.terms, self.weight, item, by) {
+            Ok(weight) => {
+                self.weight = weight;
+                Ok(())
+            }
             Err(_) => Err(SumEnd::OutOfMemory),
         }
+    }
+
+    // The sum of these terms.
+    pub(crate) fn from_terms(terms: Vec<(B, i64)>) -> Self
+        requires { IsFormalSum B.cmp terms.items }
+        ensures { result ≡ terms.items }
+    {
+        let weight = weight_of_terms(&terms);
+        FormalSum { terms, weight }
+    }
+
+    // The terms.
+    pub(crate) fn as_slice(&self) -> &[(B, i64)]
+        ensures value { result.now ≡ self.now }
+        ensures sum { IsFormalSum B.cmp self.now }
+    {
+        &self.terms
     }
 
     // The allocator of the terms.
@@ -168,23 +190,40 @@ fn change_at<B: Drop>(terms: &mut Vec<(B, i64)>, place: usize, by: i64)
     }
 }
 
-// Adds one term to an ascending list.
-fn add_to<B: Ord + Drop>(terms: &mut Vec<(B, i64)>, item: B, by: i64) -> Result<(), AllocError>
+// The weight after `by` is added to a coefficient.
+fn weight_after(weight: u64, before: i64, by: i64) -> u64
+    requires within { nat_abs before ≤ weight }
+    requires fits { weight + nat_abs by ≤ 10 ^ 18 }
+    ensures { result + nat_abs before ≡ weight + nat_abs (before +ℤ by) }
+{
+    weight - before.unsigned_abs() + (before + by).unsigned_abs()
+}
+
+// Adds one term to an ascending list. The result is the new weight.
+fn add_to<B: Ord + Drop>(
+    terms: &mut Vec<(B, i64)>,
+    weight: u64,
+    item: B,
+    by: i64,
+) -> Result<u64, AllocError>
     requires ascending { IsAscending B.cmp terms.old.items }
+    requires weighed { weight ≡ weight_of terms.old.items }
     requires fits { weight_of terms.old.items + nat_abs by ≤ 10 ^ 18 }
     ensures ok { OnOk result (terms.new.items ≡ plus_term B.cmp terms.old.items item by) }
+    ensures weighed { IfOk result (λ w. w ≡ weight_of terms.new.items) }
     ensures err { OnErr result (terms.new.items ≡ terms.old.items) }
 {
     let place = place_of(terms, &item);
     if place < terms.len() && terms[place].0.cmp(&item).is_eq() {
+        let before = terms[place].1;
         change_at(terms, place, by);
-        return Ok(());
+        return Ok(weight_after(weight, before, by));
     }
     if by == 0 {
-        return Ok(());
+        return Ok(weight);
     }
     match terms.insert(place, (item, by)) {
-        Ok(()) => Ok(()),
+        Ok(()) => Ok(weight + by.unsigned_abs()),
         Err(_) => Err(AllocError),
     }
 }
