@@ -12,16 +12,11 @@ use Rattle.steenrod_law.proofs.AdditiveMaps.{adds-neg}
 use Rattle.steenrod_law.proofs.Forms.{IsPrime}
 use Rattle.steenrod_law.proofs.Primes.{two-or-odd}
 use Rattle.steenrod_law.proofs.Staircase.{sign-two}
+use Rattle.table_reduction_law.proofs.BinomialLemmas.{absorb}
 use Rattle.table_reduction_law.proofs.PowerPairs.{sum_below}
 use Rattle.table_reduction_law.specs.Counts.{binomial}
 
 -- binomial coefficients
-
-absorb : (n k : ℕ) → suc k * binomial (suc n) (suc k) ≡ suc n * binomial n k
-absorb zero zero = refl
-absorb zero (suc k) = omega arith
-absorb (suc n) zero = let h = absorb n zero in omega arith
-absorb (suc n) (suc k) = let h = absorb n (suc k) in let g = absorb n k in omega arith
 
 choose-over : (n e : ℕ) → binomial n (suc (n + e)) ≡ 0
 choose-over zero e = refl

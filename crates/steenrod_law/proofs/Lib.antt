@@ -21,6 +21,7 @@ pub mod Faces
 pub mod MayFamily
 pub mod Complexes
 pub mod OperationLaws
+pub mod SurjectionValues
 pub mod ClassLaws
 pub mod InducedMaps
 pub mod PowerLaws

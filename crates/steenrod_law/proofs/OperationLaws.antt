@@ -102,7 +102,7 @@ module _ (p : ℕ) (field : IsField p) where
       go true = omega (arith, ints)
       go false = refl
 
-  sign-same : (d x : ℕ) → CongruentInt p (signed d (pos x)) (pos (sign_power p d * x))
+  pub sign-same : (d x : ℕ) → CongruentInt p (signed d (pos x)) (pos (sign_power p d * x))
   sign-same zero x = CongruentInt_of (ap pos (let e : sign_power p 0 * x ≡ 1 * x = ap (λ j. j * x) (pow-zero (negated p 1)) in omega arith))
   sign-same (suc d) x =
       let y : ℕ = sign_power p d * x in

@@ -1,5 +1,5 @@
 -- The laws of the Steenrod operations.
-use Rattle.std.specs.Prelude.{◌≡◌, ℕ, ◌+◌, ◌*◌, ◌-◌, ◌≤◌, Bool, List, ◌∷◌, length, map, ℤ, pos, ◌+ℤ◌, suc, IsTrue, ◌<◌}
+use Rattle.std.specs.Prelude.{◌≡◌, ℕ, ◌+◌, ◌*◌, ◌-◌, ◌≤◌, Bool, List, [], ◌∷◌, ◌++◌, length, map, sum, ℤ, pos, ◌+ℤ◌, suc, IsTrue, ◌<◌}
 use Rattle.std.specs.List.{AllZip}
 use Rattle.fp_field.specs.Element.{sign_power}
 use Rattle.fp_field.specs.Served.{served}
@@ -8,7 +8,11 @@ use Rattle.linear_law.specs.Lists.{Each}
 use Rattle.linear_law.specs.ReducedBases.{combination}
 use Rattle.simplicial_law.specs.Simplices.{IsSimplex}
 use Rattle.simplicial_law.specs.Cochains.{AgreesOnSimplices, Cochain, HasCoordinates, IsCoboundary, IsCocycle, IsCohomologyBasis, coboundary}
-use Rattle.steenrod_law.specs.Operations.{IsBocksteinPower, IsPower, IsSimplicial, IsSquare, cochain_products, coefficient_products, cup_product, matrix_times, may_operation, orbit_primitive, power_degree, pull_back, scaled_operation, staircase_primitive}
+use Rattle.steenrod_law.specs.Operations.{IsBocksteinPower, IsPower, IsSimplicial, IsSquare, cochain_products, coefficient_products, cup_product, matrix_times, may_operation, orbit_primitive, power_degree, pull_back, scaled_operation, staircase_primitive, value_on}
+use Rattle.signed_sum.specs.Permutations.{cycle}
+use Rattle.signed_sum.specs.Sums.{unit_terms}
+use Rattle.surjection_law.specs.Boundary.{caesura_count, surjection_boundary}
+use Rattle.surjection_law.specs.Surjections.{IsOnto}
 use Rattle.simplicial_law.specs.Integral.{CongruentInt}
 use Rattle.steenrod_law.specs.Words.{IsOrbitTable, contraction, letter_degree, norm, orbit_words_of_2, orbit_words_of_3, orbit_words_of_5, staircase, step, turn, turn_back, turn_power, turn_sum, word_boundary}
 
@@ -42,6 +46,21 @@ pub record OrbitTables : Type 0 where
   pub three : IsOrbitTable 3 orbit_words_of_3
   pub five : IsOrbitTable 5 orbit_words_of_5
   pub all_served : (p : ℕ) → IsTrue (served p) → (ms : List (List Bool)) × IsOrbitTable p ms
+
+-- On cocycles in every place the coboundary of the value of a surjection of degree d is (-1)^(d+1) times the value
+-- of its boundary.
+abbrev pub CocycleValueLaw : Type 0
+CocycleValueLaw = (facets : List (List ℕ)) (p r n : ℕ) (u qs : List ℕ) (bs : List Cochain) → IsField p → IsOnto r u → 1 ≤ length u →
+    AllZip (λ q a. IsCocycle facets q p a) qs bs →
+    AgreesOnSimplices facets n p (coboundary p (value_on p r (unit_terms (u ∷ [])) qs bs))
+    (λ s. sign_power p (caesura_count u + 1) * value_on p r (surjection_boundary u) qs bs s)
+
+-- To turn a surjection by the cycle is to move the first cochain behind the others, with the sign of their degrees.
+abbrev pub TurnedValueLaw : Type 0
+TurnedValueLaw = (p q : ℕ) (u qs s : List ℕ) (a : Cochain) (bs : List Cochain) → IsField p → length qs ≡ length bs →
+    IsOnto (suc (length bs)) u → 1 ≤ length s →
+    Congruent p (value_on p (suc (length bs)) (unit_terms (map (cycle (suc (length bs))) u ∷ [])) (q ∷ qs) (a ∷ bs) s)
+    (sign_power p (q * sum qs) * value_on p (suc (length bs)) (unit_terms (u ∷ [])) (qs ++ q ∷ []) (bs ++ a ∷ []) s)
 
 -- A May operation takes cocycles to cocycles.
 abbrev pub ClosedLaw : Type 0

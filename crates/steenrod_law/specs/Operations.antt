@@ -26,6 +26,16 @@ residue p (negsuc n) = negated p (suc n) % p
 abbrev pub residue_cochain : ℕ → (List ℕ → ℤ) → Cochain
 residue_cochain p b s = residue p (unless_empty s (b s))
 
+-- cochains of the degrees qs, as functions of all lists
+abbrev pub all_extended : List ℕ → List Cochain → List (List ℕ → ℤ)
+all_extended [] bs = []
+all_extended (q ∷ qs) [] = []
+all_extended (q ∷ qs) (a ∷ bs) = extended q a ∷ all_extended qs bs
+
+-- the value of a sum x of surjections of arity r on cochains of the degrees qs
+abbrev pub value_on : ℕ → ℕ → List (List ℕ × ℤ) → List ℕ → List Cochain → Cochain
+value_on p r x qs bs = residue_cochain p (sum_value r x (all_extended qs bs))
+
 -- D_d of a cochain of degree q: the sum over the terms of the May element of degree d of the coefficient
 -- times the value of the surjection on p times the cochain. It has degree p * q - d.
 abbrev pub may_operation : ℕ → ℕ → ℕ → Cochain → Cochain

@@ -1,7 +1,7 @@
 //! The Steenrod operations on cochains and on classes: definitions and laws.
 #![tactic(auto)]
 
-ghost use Rattle.steenrod_law.specs.Laws.{AdditivityLaw, ClosedLaw, DegreeLaw, InducedMapLaw, LinearityLaw, NaturalityLaw, OperationMatrixLaw, OrbitTables, ProductLaw, PullBackLaw, RepresentativeLaw, ScalingLaw, StaircaseLaw, SteenrodMatrixLaw, SubcomplexLaw, TargetLaw, WordLaws};
+ghost use Rattle.steenrod_law.specs.Laws.{AdditivityLaw, ClosedLaw, CocycleValueLaw, DegreeLaw, InducedMapLaw, LinearityLaw, NaturalityLaw, OperationMatrixLaw, OrbitTables, ProductLaw, PullBackLaw, RepresentativeLaw, ScalingLaw, StaircaseLaw, SteenrodMatrixLaw, SubcomplexLaw, TargetLaw, TurnedValueLaw, WordLaws};
 
 /// Words are a cyclic model.
 pub fn word_laws()
@@ -16,6 +16,16 @@ pub fn staircase_law()
 /// The orbit words of 2, 3 and 5.
 pub fn orbit_tables()
     ensures { OrbitTables }
+{}
+
+/// The coboundary of the value of a surjection on cocycles.
+pub fn cocycle_value_law()
+    ensures { CocycleValueLaw }
+{}
+
+/// The value of a turned surjection.
+pub fn turned_value_law()
+    ensures { TurnedValueLaw }
 {}
 
 /// A May operation takes cocycles to cocycles.

@@ -141,7 +141,7 @@ is_same_list-map r t i (x ∷ u) [] m k l = refl
 is_same_list-map r t i (x ∷ u) (y ∷ w) m k l =
     λ j. test-moved r t i x y m (k x (occurs-self x u)) (l y (occurs-self y w)) j && is_same_list-map r t i u w m (within-tail r x u k) (within-tail r y w l) j
 
-is_degenerate_tuple-map : (r : ℕ) (t i : ℕ → ℕ) (w : List (List ℕ)) → IsRelabelling r t i → IsTuple r w → is_degenerate_tuple (map (λ x. map t x) w) ≡ is_degenerate_tuple w
+pub is_degenerate_tuple-map : (r : ℕ) (t i : ℕ → ℕ) (w : List (List ℕ)) → IsRelabelling r t i → IsTuple r w → is_degenerate_tuple (map (λ x. map t x) w) ≡ is_degenerate_tuple w
 is_degenerate_tuple-map r t i [] m k = refl
 is_degenerate_tuple-map r t i (x ∷ []) m k = refl
 is_degenerate_tuple-map r t i (x ∷ y ∷ w) m k =

@@ -12,6 +12,7 @@ pub mod DegenerateTuples
 pub mod FormalSums
 pub mod ReducedLists
 pub mod RowCounts
+pub mod BinomialLemmas
 pub mod RowLengths
 pub mod CandidateCounts
 pub mod MayTwo

@@ -62,8 +62,8 @@ terms (w ∷ ws) [] a n P g e h =
 terms (w ∷ ws) (x ∷ xs) a zero P g e h = absurd (omega (arith, e))
 terms (w ∷ ws) (x ∷ xs) a (suc m) P g e h =
     let k : ℕ = suc (length ws) in
-    let L1 : List (List ℕ) = row_lengths k (suc m) in
-    let L2 : List (List ℕ) = row_lengths (suc k) (suc m) in
+    let from_one : List (List ℕ) = row_lengths k (suc m) in
+    let longer : List (List ℕ) = row_lengths (suc k) (suc m) in
     let l : Alike (unused a w) (x ∷ xs) = left w ws (x ∷ xs) a g in
     let c : length (unused a w) ≡ suc (length xs) = count-alike (unused a w) (x ∷ xs) (unused-distinct a w g.0) (good-distinct ws (x ∷ xs) a g.2) l in
     let ih1 = terms ws (unused a w) a m (λ u. P (x ∷ u)) (good-end w ws (x ∷ xs) a g) (omega (arith, c, e))
@@ -71,10 +71,10 @@ terms (w ∷ ws) (x ∷ xs) a (suc m) P g e h =
     let ih2 = terms (w ∷ ws) xs (x ∷ a) m (λ u. P (x ∷ u)) (good-use (w ∷ ws) x xs a g) (omega (arith, e))
     (λ u k n. h (x ∷ u) (Alike-cons x u xs k) (ap suc n)) in
     let f : List ℕ → List ℕ = λ ls. rows_from a (x ∷ xs) (w ∷ ws) ls in
-    every-append (λ ls. P (f ls)) (map (λ ls. 1 ∷ ls) L1) (map with_longer_first L2)
-    (every-map (λ ls. P (f ls)) (λ ls. 1 ∷ ls) L1
-    (subst (λ (f : List ℕ → List ℕ). Every (λ ls. P (x ∷ f ls)) L1) (λ i ls. sym (rows-from a w ws ls) i) ih1))
-    (every-map (λ ls. P (f ls)) with_longer_first L2
+    every-append (λ ls. P (f ls)) (map (λ ls. 1 ∷ ls) from_one) (map with_longer_first longer)
+    (every-map (λ ls. P (f ls)) (λ ls. 1 ∷ ls) from_one
+    (subst (λ (f : List ℕ → List ℕ). Every (λ ls. P (x ∷ f ls)) from_one) (λ i ls. sym (rows-from a w ws ls) i) ih1))
+    (every-map (λ ls. P (f ls)) with_longer_first longer
     (every-positive k (suc m) (λ ls. P (x ∷ rows_from (x ∷ a) xs (w ∷ ws) ls)) (λ ls. P (f (with_longer_first ls))) (λ q ls p. subst P (sym (rows-longer a xs x q (w ∷ ws) ls)) p) ih2))
 
 every-all : (P : List ℕ → Type 0) (us : List (List ℕ)) → Every P us → All P us

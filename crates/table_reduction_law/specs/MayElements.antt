@@ -1,21 +1,9 @@
 -- May elements.
-use Rattle.std.specs.Prelude.{ℕ, cond, ◌==◌, List, [], ◌∷◌, ◌++◌, flat_map, map, zero, suc, ℤ}
+use Rattle.std.specs.Prelude.{ℕ, List, [], ◌∷◌, ◌++◌, flat_map, map, zero, suc, ℤ}
 use Rattle.signed_sum.specs.Lists.{is_degenerate, numbers_from}
+pub use Rattle.signed_sum.specs.Permutations.{cycle, cycle_power, turned}
 use Rattle.signed_sum.specs.Sums.{kept_terms, unit_terms}
 use Rattle.table_reduction_law.specs.Reduction.{reduced_lists}
-
--- the cycle 1 -> 2 -> .. -> p -> 1
-abbrev pub cycle : ℕ → ℕ → ℕ
-cycle p v = cond (v == p) 1 (suc v)
-
--- a list of values turned e times by the cycle
-abbrev pub turned : ℕ → ℕ → List ℕ → List ℕ
-turned p zero u = u
-turned p (suc e) u = map (cycle p) (turned p e u)
-
--- the powers of the cycle, each as the list of its values
-abbrev pub cycle_power : ℕ → ℕ → List ℕ
-cycle_power p e = turned p e (numbers_from 1 p)
 
 -- all lists of k pairs of a power and the next power, with exponents from 0 to p - 1
 abbrev pub power_pairs : ℕ → ℕ → List (List (List ℕ))

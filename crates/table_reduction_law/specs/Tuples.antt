@@ -1,6 +1,7 @@
 -- Tuples of permutations: the generators of the Barratt-Eccles operad.
-use Rattle.std.specs.Prelude.{ℕ, ◌||◌, Bool, true, false, List, [], ◌∷◌, map, ℤ, get_or}
+use Rattle.std.specs.Prelude.{ℕ, ◌||◌, Bool, true, false, List, [], ◌∷◌, map, ℤ}
 use Rattle.signed_sum.specs.Lists.{IsDistinct, is_same_list}
+pub use Rattle.signed_sum.specs.Permutations.{entry_at}
 use Rattle.signed_sum.specs.Sums.{alternating_terms, kept_terms, without_each}
 use Rattle.surjection_law.specs.Surjections.{IsOnto}
 
@@ -13,10 +14,6 @@ pub record IsPermutationOf (r : ℕ) (w : List ℕ) : Type 0 where
 abbrev pub IsTuple : ℕ → List (List ℕ) → Type 0
 IsTuple r [] = Unit {0}
 IsTuple r (w ∷ ws) = IsPermutationOf r w × IsTuple r ws
-
--- the value at a place, from 1
-abbrev pub entry_at : List ℕ → ℕ → ℕ
-entry_at t v = get_or (0 ∷ t) v 0
 
 -- the permutation t acts on a tuple: it is applied to each value of each entry
 abbrev pub permuted_tuple : List ℕ → List (List ℕ) → List (List ℕ)
