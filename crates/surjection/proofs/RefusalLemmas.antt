@@ -1,8 +1,8 @@
 -- Equal neighbours and gaps, step by step; and that a list without a fault is a surjection.
-use Rattle.std.proofs.Common.{◌≡◌, ℕ, zero, suc, ◌+◌, ◌-◌, ◌<◌, ◌≤◌, ◌≢◌, ◌==◌, ◌||◌, max, Bool, true, false, cond, List, [], ◌∷◌, length, drop, get_or, Option, None, Some, is_some, refl, sym, ap, ◌∙◌, inl, inr, arith}
-use Rattle.std.specs.Prelude.{find, nat_lt}
+use Rattle.std.proofs.Common.{◌≡◌, ℕ, zero, suc, ◌+◌, ◌-◌, ◌<◌, ◌≤◌, ◌==◌, max, true, false, List, [], ◌∷◌, length, drop, get_or, None, Some, is_some, refl, sym, ap, ◌∙◌, inl, inr, arith}
+use Rattle.std.specs.Prelude.{find}
 use Rattle.std.proofs.Math.Seq.{drop-cons}
-use Rattle.std.proofs.lemmas.Bool.{cases_Bool, cases_eq, eq-eqb, ne_eqb, eqb-false, eqb-true, or_parts}
+use Rattle.std.proofs.lemmas.Bool.{cases_Bool, cases_eq, eq-eqb, ne_eqb, eqb-false, eqb-true}
 use Rattle.signed_sum.specs.Lists.{begins_with, is_degenerate, numbers_from, occurs}
 use Rattle.signed_sum.proofs.ListLemmas.{numbers_from-least, occurs-01, occurs-cons, occurs-mid}
 use Rattle.surjection_law.specs.Surjections.{IsOnto, IsSurjection, arity}

@@ -1,5 +1,5 @@
 -- The walk over the places of a surjection that sums up its boundary: what is to come, and what is kept.
-use Rattle.std.proofs.Common.{◌≡◌, ℕ, zero, suc, ◌+◌, ◌-◌, ◌≤◌, ◌<◌, ◌⊎◌, ◌≢◌, Bool, true, false, cond, ◌||◌, eqb, List, [], ◌∷◌, ◌++◌, length, take, drop, set, get_or, replicate, map, get_or-set_same, append_assoc, refl, sym, ap, ◌∙◌, inl, inr, arith, subst, IsTrue, ◌==◌}
+use Rattle.std.proofs.Common.{◌≡◌, ℕ, zero, suc, ◌+◌, ◌-◌, ◌≤◌, ◌<◌, ◌≢◌, Bool, true, false, cond, eqb, List, [], ◌∷◌, ◌++◌, length, take, drop, set, get_or, replicate, map, get_or-set_same, append_assoc, refl, sym, ap, ◌∙◌, inl, inr, arith, subst, IsTrue, ◌==◌}
 use Rattle.std.specs.Prelude.{ℤ, pos, neg_ℤ, ◌+ℤ◌, ◌*ℤ◌, nat_abs, remove}
 use Rattle.std.specs.Cmp.Lexicographic.{slice_cmp}
 use Rattle.std.specs.Ordering.{nat_cmp}
@@ -19,8 +19,8 @@ use Rattle.operad_law.proofs.WordLemmas.{drop_rest}
 use Rattle.surjection.specs.Action.{comes_again}
 use Rattle.operad_law.proofs.PlusTerm.{value_at-plus_term, weight_of-plus_term}
 use Rattle.surjection.specs.ActionLaws.{InRange, in_range}
-use Rattle.surjection.specs.OrderLaws.{equal_is_same}
-use Rattle.surjection.specs.Walk.{AddsFace}
+use Rattle.operad_law.proofs.ListOrder.{equal_numbers}
+use Rattle.surjection.specs.Walk.{AddsList}
 
 -- the lists without each place of xs, behind pre
 abbrev pub rest_lists : List ℕ → List ℕ → List (List ℕ)
@@ -106,7 +106,7 @@ face_again u i sum s bs h t w n =
     let f : AllToCome (IsFace no_sign u) (take i u) s (kept_signs bs) (get_or u i 0 ∷ drop (suc i) u) = rw (at_place u i h) at w.faces in
     (AllToCome-again (IsFace no_sign u) (take i u) s (kept_signs bs) (get_or u i 0) (drop (suc i) u) t f).0 n
 
-pub IsWalk-last : (u : List ℕ) (i : ℕ) (old new : List (List ℕ × ℤ)) (s : ℤ) (bs : List ℤ) → i < length u → occurs (get_or u i 0) (drop (suc i) u) ≡ 0 → IsWalk u i old s bs → AddsFace u i (neg_ℤ (kept_signs bs (get_or u i 0))) old new → IsWalk u (suc i) new s bs
+pub IsWalk-last : (u : List ℕ) (i : ℕ) (old new : List (List ℕ × ℤ)) (s : ℤ) (bs : List ℤ) → i < length u → occurs (get_or u i 0) (drop (suc i) u) ≡ 0 → IsWalk u i old s bs → AddsList (remove u i) (neg_ℤ (kept_signs bs (get_or u i 0))) old new → IsWalk u (suc i) new s bs
 IsWalk-last u i old new s bs h t w a =
     let x : ℕ = get_or u i 0 in
     let e : take (suc i) u ≡ take i u ++ get_or u i 0 ∷ [] = take-suc u i 0 h in
@@ -121,7 +121,7 @@ IsWalk-last u i old new s bs h t w a =
       kept_small = w.kept_small;
     }
 
-pub IsWalk-again : (u : List ℕ) (i : ℕ) (old new : List (List ℕ × ℤ)) (s : ℤ) (bs : List ℤ) → i < length u → occurs (get_or u i 0) (drop (suc i) u) ≢ 0 → get_or u i 0 < length bs → IsWalk u i old s bs → AddsFace u i s old new → IsWalk u (suc i) new (neg_ℤ s) (set bs (get_or u i 0) s)
+pub IsWalk-again : (u : List ℕ) (i : ℕ) (old new : List (List ℕ × ℤ)) (s : ℤ) (bs : List ℤ) → i < length u → occurs (get_or u i 0) (drop (suc i) u) ≢ 0 → get_or u i 0 < length bs → IsWalk u i old s bs → AddsList (remove u i) s old new → IsWalk u (suc i) new (neg_ℤ s) (set bs (get_or u i 0) s)
 IsWalk-again u i old new s bs h t r w a =
     let e : take (suc i) u ≡ take i u ++ get_or u i 0 ∷ [] = take-suc u i 0 h in
     let k : kept_signs (set bs (get_or u i 0) s) ≡ with_sign (get_or u i 0) s (kept_signs bs) = kept_signs-set bs (get_or u i 0) s r in
@@ -171,12 +171,12 @@ IsWalk-end u i sum s bs h w =
     let d : drop i u ≡ [] = drop_past u i h in
     record { at = λ phi. let q = rw d at w.sums phi in omega (arith, ints, q, none_to_come (normalized phi) (take i u) s (kept_signs bs)) }
 
-pub AddsFace-term : (u : List ℕ) (i : ℕ) (s : ℤ) (old : List (List ℕ × ℤ)) (v : List ℕ) → v ≡ remove u i → is_degenerate v ≡ false → nat_abs s ≤ 1 → AddsFace u i s old (plus_term (slice_cmp nat_cmp) old v s)
-AddsFace-term u i s old v e d m = record {
+pub AddsList-term : (w : List ℕ) (s : ℤ) (old : List (List ℕ × ℤ)) → is_degenerate w ≡ false → nat_abs s ≤ 1 → AddsList w s old (plus_term (slice_cmp nat_cmp) old w s)
+AddsList-term w s old d m = record {
   sums = λ phi.
-      let a : s *ℤ phi v ≡ s *ℤ normalized phi (remove u i) = ap (λ z. s *ℤ z) (sym (restricted-there is_degenerate phi v d) ∙ ap (normalized phi) e) in
-      omega (arith, ints, a, value_at-plus_term (slice_cmp nat_cmp) equal_is_same phi old v s);
-  grows = omega (arith, weight_of-plus_term (slice_cmp nat_cmp) old v s);
+      let a : s *ℤ phi w ≡ s *ℤ normalized phi w = ap (λ z. s *ℤ z) (sym (restricted-there is_degenerate phi w d)) in
+      omega (arith, ints, a, value_at-plus_term (slice_cmp nat_cmp) equal_numbers phi old w s);
+  grows = omega (arith, weight_of-plus_term (slice_cmp nat_cmp) old w s);
 }
 
 range-at : (n : ℕ) (u : List ℕ) (i : ℕ) → InRange n u → i < length u → get_or u i 0 ≤ n
@@ -224,9 +224,9 @@ caesura-test u (suc i) b h e =
       λ o. e ∙ eq-eqb (occurs (get_or u (suc i - 1) 0) (take (length u - suc i) (drop (suc i) u))) 1 (same ∙ o),
     )
 
--- a degenerate face adds nothing
-pub AddsFace-degenerate : (u : List ℕ) (i : ℕ) (s : ℤ) (old : List (List ℕ × ℤ)) → is_degenerate (remove u i) ≡ true → AddsFace u i s old old
-AddsFace-degenerate u i s old d = record {
-  sums = λ phi. let a : s *ℤ normalized phi (remove u i) ≡ s *ℤ pos 0 = ap (λ z. s *ℤ z) (restricted-gone is_degenerate phi (remove u i) d) in omega (arith, ints, a);
+-- a degenerate list adds nothing, and one with the sign 0
+pub AddsList-degenerate : (w : List ℕ) (s : ℤ) (old : List (List ℕ × ℤ)) → is_degenerate w ≡ true → AddsList w s old old
+AddsList-degenerate w s old d = record {
+  sums = λ phi. let a : s *ℤ normalized phi w ≡ s *ℤ pos 0 = ap (λ z. s *ℤ z) (restricted-gone is_degenerate phi w d) in omega (arith, ints, a);
   grows = omega arith;
 }

@@ -1,7 +1,7 @@
 -- The laws of the action of permutations on surjections, which the impls cite: it is an action, it
 -- keeps surjections, their arity and degree, and it commutes with the boundary.
-use Rattle.std.proofs.Common.{◌≡◌, ℕ, zero, suc, ◌+◌, ◌-◌, ◌<◌, ◌≤◌, ◌≢◌, ◌==◌, ◌||◌, max, Bool, true, false, cond, eqb, List, [], ◌∷◌, ◌++◌, length, map, get_or, refl, sym, ap, ◌∙◌, inl, inr, arith, subst}
-use Rattle.std.specs.Prelude.{ℤ, pos, ◌+ℤ◌, nat_abs, All}
+use Rattle.std.proofs.Common.{◌≡◌, ℕ, zero, suc, ◌+◌, ◌-◌, ◌<◌, ◌≤◌, ◌||◌, cond, List, [], ◌∷◌, ◌++◌, length, map, get_or, refl, sym, ap, ◌∙◌, inl, inr, arith, subst}
+use Rattle.std.specs.Prelude.{ℤ, pos}
 use Rattle.std.proofs.lemmas.Int.{ints}
 use Rattle.std.proofs.lemmas.Bool.{cases_eq, eq-eqb, ne_eqb}
 use Rattle.std.proofs.lemmas.List.{length-map, map-append}
@@ -24,12 +24,12 @@ abbrev pub InRange : ℕ → List ℕ → Type 0
 InRange n [] = Unit {0}
 InRange n (x ∷ u) = (1 ≤ x) × (x ≤ n) × InRange n u
 
-range-append : (n : ℕ) (p u : List ℕ) → InRange n p → InRange n u → InRange n (p ++ u)
+pub range-append : (n : ℕ) (p u : List ℕ) → InRange n p → InRange n u → InRange n (p ++ u)
 range-append n [] u a b = b
 range-append n (x ∷ p) u a b = (a.0, a.1, range-append n p u a.2 b)
 
 -- entries that are among those from 1 to n are in range
-among : (n : ℕ) (u : List ℕ) → ((v : ℕ) → occurs v u ≡ 1 → occurs v (numbers_from 1 n) ≡ 1) → InRange n u
+pub among : (n : ℕ) (u : List ℕ) → ((v : ℕ) → occurs v u ≡ 1 → occurs v (numbers_from 1 n) ≡ 1) → InRange n u
 among n [] h = tt
 among n (x ∷ u) h =
     let o = h x (occurs-mid x [] u) in
@@ -52,7 +52,7 @@ among n (x ∷ u) h =
 pub in_range : (u : List ℕ) → IsSurjection u → InRange (arity u) u
 in_range u s = among (arity u) u (λ v o. sym (s.onto v) ∙ o)
 
-in_numbers : (n : ℕ) (u : List ℕ) → InRange n u → (v : ℕ) → occurs v u ≡ 1 → occurs v (numbers_from 1 n) ≡ 1
+pub in_numbers : (n : ℕ) (u : List ℕ) → InRange n u → (v : ℕ) → occurs v u ≡ 1 → occurs v (numbers_from 1 n) ≡ 1
 in_numbers n [] r v o = absurd (omega (arith, o))
 in_numbers n (x ∷ u) r v o = elim (occurs-cons v x u) [
   | inl e ↦ ap (λ w. occurs w (numbers_from 1 n)) e ∙ numbers_from-has 1 n x r.0 (omega (arith, r.1))
@@ -67,7 +67,7 @@ range-arity : (n : ℕ) (u : List ℕ) → InRange n u → arity u ≤ n
 range-arity n [] r = omega arith
 range-arity n (x ∷ u) r = omega (arith, r.1, range-arity n u r.2)
 
-arity-is : (n : ℕ) (u : List ℕ) → InRange n u → IsOnto n u → 1 ≤ n → arity u ≡ n
+pub arity-is : (n : ℕ) (u : List ℕ) → InRange n u → IsOnto n u → 1 ≤ n → arity u ≡ n
 arity-is n u r o h = omega (arith, range-arity n u r, occurs-arity n u (o n ∙ numbers_from-has 1 n n h (omega arith)))
 
 -- ---- maps of values that permute 1 to n

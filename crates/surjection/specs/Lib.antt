@@ -1,6 +1,8 @@
 pub mod Action
+pub mod Composition
 pub mod Refusals
 pub mod Walk
-pub mod OrderLaws
+pub mod Splicing
 pub mod ActionLaws
 pub mod CycleLaws
+pub mod CompositionLaws

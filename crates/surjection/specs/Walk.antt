@@ -1,8 +1,13 @@
--- One step of the walk over the places of a surjection.
-use Rattle.std.specs.Prelude.{◌≡◌, ℕ, ◌≤◌, suc, List, ℤ, ◌+ℤ◌, ◌*ℤ◌, remove}
+-- Steps of the sums over places and over cuts: forms for proofs.
+use Rattle.std.specs.Prelude.{◌≡◌, ℕ, ◌+◌, ◌≤◌, suc, List, length, ℤ, ◌+ℤ◌, ◌*ℤ◌}
 use Rattle.signed_sum.specs.Sums.{normalized, value_at, weight_of}
 
--- `new` is `old` plus s times the list without a place, from 0, where that list is not degenerate
-pub record AddsFace (u : List ℕ) (i : ℕ) (s : ℤ) (old new : List (List ℕ × ℤ)) : Type 0 where
-  pub sums : (phi : List ℕ → ℤ) → value_at phi new ≡ s *ℤ normalized phi (remove u i) +ℤ value_at phi old
+-- `new` is `old` plus s times the list w, where that is not degenerate
+pub record AddsList (w : List ℕ) (s : ℤ) (old new : List (List ℕ × ℤ)) : Type 0 where
+  pub sums : (phi : List ℕ → ℤ) → value_at phi new ≡ s *ℤ normalized phi w +ℤ value_at phi old
   pub grows : weight_of new ≤ suc (weight_of old)
+
+-- `new` is `old` plus the terms that are not degenerate
+pub record AddsTerms (ts old new : List (List ℕ × ℤ)) : Type 0 where
+  pub sums : (phi : List ℕ → ℤ) → value_at phi new ≡ value_at (normalized phi) ts +ℤ value_at phi old
+  pub grows : weight_of new ≤ length ts + weight_of old

@@ -1,6 +1,9 @@
-//! The surjection operad: boundary, action of permutations, and the cyclic model.
+//! The surjection operad: boundary, action of permutations, compositions, and the cyclic model.
 #![tactic(auto)]
 
+mod composition;
 pub mod cyclic;
 pub mod surj;
 mod symmetric;
+#[cfg(test)]
+mod tests;

@@ -1,5 +1,5 @@
 //! Generators of the surjection operad.
-ghost use Rattle.std.specs.Prelude.{◌≡◌, ◌↔◌, ℕ, ◌≤◌, ◌<◌, ◌==◌, length, nat_abs, false, None, IfOk, IfSome, IsErrOf, IsOkUnless, IsTrue, OnOk, remove};
+ghost use Rattle.std.specs.Prelude.{◌≡◌, ◌↔◌, ℕ, ◌≤◌, ◌<◌, ◌^◌, ◌==◌, length, nat_abs, false, None, IfOk, IfSome, IsErrOf, IsOkUnless, IsTrue, OnOk, remove};
 ghost use Rattle.std.proofs.Common.{rules};
 ghost use Rattle.std.specs.Cmp.{partial_order_from_own_ties};
 ghost use Rattle.std.specs.Cmp.Rules.{comparing};
@@ -15,9 +15,9 @@ ghost use Rattle.surjection_law.proofs.SurjectionTerms.{degree_falls, narrow, no
 ghost use Rattle.operad_law.specs.FormalSums.{IsSameSum};
 ghost use Rattle.surjection.specs.Action.{comes_again};
 ghost use Rattle.surjection.specs.ActionLaws.{boundary_weight as boundary_weight_law, narrow_degree as narrow_degree_law};
-ghost use Rattle.surjection.specs.OrderLaws.{equal_is_same as equal_is_same_law};
+ghost use Rattle.operad_law.proofs.ListOrder.{equal_numbers};
 ghost use Rattle.surjection.specs.Refusals.{equal_neighbours_from, gap_of, surjection_fault};
-ghost use Rattle.surjection.specs.Walk.{AddsFace};
+ghost use Rattle.surjection.specs.Walk.{AddsList};
 
 use operad_law::basis::{Narrow, SignedBasis};
 use operad_law::formal_sum::FormalSum;
@@ -200,7 +200,7 @@ impl SignedBasis for Surj {
         })
     }
 
-    ghost equal_is_same = { equal_is_same_law };
+    ghost equal_is_same = { equal_numbers };
 
     ghost boundary_valid = { valid };
 
@@ -220,14 +220,14 @@ impl Narrow for Surj {
 }
 
 // Whether a value is in a list.
-fn stands_in(values: &[u8], value: u8) -> bool
+pub(crate) fn stands_in(values: &[u8], value: u8) -> bool
     ensures { result ≡ (occurs value values.now == 1) }
 {
     values.contains(&value)
 }
 
 // The greatest value.
-fn greatest(values: &[u8]) -> u8
+pub(crate) fn greatest(values: &[u8]) -> u8
     ensures { result ≡ arity values.now }
 {
     let mut most: u8 = 0;
@@ -276,6 +276,26 @@ fn copy_without(alloc: Global, values: &[u8], place: usize) -> Result<SmallVec<u
     Ok(face)
 }
 
+// Adds a list with a sign, if no two neighbours are equal.
+pub(crate) fn add_list(
+    sum: &mut FormalSum<Surj>,
+    values: SmallVec<u8, 16>,
+    sign: i64,
+) -> Result<(), AllocError>
+    requires surjection { is_degenerate values.items ≡ false → IsSurjection values.items }
+    requires small { nat_abs sign ≤ 1 }
+    requires light { weight_of sum.old < 10 ^ 18 }
+    ensures { OnOk result (AddsList values.items sign sum.old sum.new) }
+{
+    if equal_neighbours(values.as_slice()).is_some() {
+        return Ok(());
+    }
+    match sum.add_term(Surj { values }, sign) {
+        Ok(()) => Ok(()),
+        Err(_) => Err(AllocError),
+    }
+}
+
 // Adds the list without a place, from 0, if that is no zero.
 fn add_face(
     alloc: Global,
@@ -288,19 +308,12 @@ fn add_face(
     requires face { is_zero sign ≡ false → is_degenerate (remove values.now place) ≡ false → IsSurjection (remove values.now place) }
     requires small { nat_abs sign ≤ 1 }
     requires light { weight_of sum.old ≤ 255 }
-    ensures { OnOk result (AddsFace values.now place sign sum.old sum.new) }
+    ensures { OnOk result (AddsList (remove values.now place) sign sum.old sum.new) }
 {
     if sign == 0 {
         return Ok(());
     }
-    let face = copy_without(alloc, values, place)?;
-    if equal_neighbours(face.as_slice()).is_some() {
-        return Ok(());
-    }
-    match sum.add_term(Surj { values: face }, sign) {
-        Ok(()) => Ok(()),
-        Err(_) => Err(AllocError),
-    }
+    add_list(sum, copy_without(alloc, values, place)?, sign)
 }
 
 fn sum_of_faces(alloc: Global, values: &[u8]) -> Result<FormalSum<Surj>, AllocError>

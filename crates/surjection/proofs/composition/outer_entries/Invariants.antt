@@ -1,0 +1,9 @@
+use Rattle.std.proofs.Common.{◌≡◌, ◌++◌, drop}
+use Rattle.surjection_law.specs.Surjections.{arity}
+use Rattle.surjection.specs.Composition.{grown, with_values}
+use Rattle.surjection.specs.Splicing.{marked}
+use Rattle.surjection.specs.declared.composition.Mark.TheVariants.{Outer}
+use Rattle.surjection.proofs.composition.outer_entries.Given as goal
+
+abbrev pub invariant-loop-i : goal.invariant-loop-i
+invariant-loop-i l = l.entries.items ++ with_values (grown l.k (arity l.inner)) (marked Outer (drop l.i l.values)) ≡ with_values (grown l.k (arity l.inner)) (marked Outer l.values)
