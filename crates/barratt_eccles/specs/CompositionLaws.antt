@@ -1,0 +1,126 @@
+-- The laws of the composition of tuples, which the impl cites.
+use Rattle.std.proofs.Common.{◌≡◌, ℕ, zero, suc, ◌+◌, ◌-◌, ◌<◌, ◌≤◌, Bool, false, List, [], ◌∷◌, length, map, get_or, refl, sym, ◌∙◌, inl, inr, arith, subst}
+use Rattle.std.specs.Prelude.{ℤ, All}
+use Rattle.std.proofs.lemmas.Bool.{cases_Bool}
+use Rattle.std.proofs.lemmas.List.{length-map}
+use Rattle.std.proofs.lemmas.List.Elements.{All-nil, All-cons, All-head, All-tail, All-append, All-map, All-weaker}
+use Rattle.signed_sum.specs.Sums.{kept_terms}
+use Rattle.table_reduction_law.proofs.ReductionBoundary.{permutation-length}
+use Rattle.table_reduction_law.specs.Tuples.{IsPermutationOf, IsTuple, is_degenerate_tuple}
+use Rattle.barratt_eccles.specs.Generators.{IsGenerator, tuple_arity, tuple_degree}
+use Rattle.barratt_eccles.specs.Composition.{IsWithinLimits, Step, inserted, lattice_paths, path_sign, points_from, step_x, step_y, tuple_along, tuple_composition}
+use Rattle.barratt_eccles.specs.InsertedLaws.{inserted-permutation}
+
+-- a path of d steps x and e steps y has d + e + 1 points, and none is past the end
+record IsPath (d e : ℕ) (s : List Step) : Type 0 where
+  size : (i j : ℕ) → length (points_from i j s) ≡ suc (d + e)
+  inside : (i j : ℕ) → All (λ (q : ℕ × ℕ). (q.0 ≤ i + d) × (q.1 ≤ j + e)) (points_from i j s)
+
+along_x : (d e : ℕ) (s : List Step) → IsPath d e s → IsPath (suc d) e (step_x ∷ s)
+along_x d e s p = record {
+  size = λ i j. omega (arith, p.size (suc i) j);
+  inside = λ i j. All-cons (λ (q : ℕ × ℕ). (q.0 ≤ i + suc d) × (q.1 ≤ j + e)) (i, j) (points_from (suc i) j s) (omega arith, omega arith)
+      (All-weaker (λ (q : ℕ × ℕ). (q.0 ≤ suc i + d) × (q.1 ≤ j + e)) (λ (q : ℕ × ℕ). (q.0 ≤ i + suc d) × (q.1 ≤ j + e)) (λ q k. (omega (arith, k.0), k.1)) (points_from (suc i) j s) (p.inside (suc i) j));
+}
+
+along_y : (d e : ℕ) (s : List Step) → IsPath d e s → IsPath d (suc e) (step_y ∷ s)
+along_y d e s p = record {
+  size = λ i j. omega (arith, p.size i (suc j));
+  inside = λ i j. All-cons (λ (q : ℕ × ℕ). (q.0 ≤ i + d) × (q.1 ≤ j + suc e)) (i, j) (points_from i (suc j) s) (omega arith, omega arith)
+      (All-weaker (λ (q : ℕ × ℕ). (q.0 ≤ i + d) × (q.1 ≤ suc j + e)) (λ (q : ℕ × ℕ). (q.0 ≤ i + d) × (q.1 ≤ j + suc e)) (λ q k. (k.0, omega (arith, k.1))) (points_from i (suc j) s) (p.inside i (suc j)));
+}
+
+-- what is kept from one step to the next holds of all lattice paths
+pub each-path : (P : ℕ → ℕ → List Step → Type 0) → P 0 0 [] → ((d e : ℕ) (s : List Step) → P d e s → P (suc d) e (step_x ∷ s)) → ((d e : ℕ) (s : List Step) → P d e s → P d (suc e) (step_y ∷ s)) →
+    (d e : ℕ) → All (P d e) (lattice_paths d e)
+each-path P n x y zero zero = All-cons (P 0 0) [] [] n (All-nil (P 0 0))
+each-path P n x y zero (suc e) = All-map (P 0 (suc e)) (λ s. step_y ∷ s) (lattice_paths 0 e) (All-weaker (P 0 e) (λ s. P 0 (suc e) (step_y ∷ s)) (y 0 e) (lattice_paths 0 e) (each-path P n x y zero e))
+each-path P n x y (suc d) zero = All-map (P (suc d) 0) (λ s. step_x ∷ s) (lattice_paths d 0) (All-weaker (P d 0) (λ s. P (suc d) 0 (step_x ∷ s)) (x d 0) (lattice_paths d 0) (each-path P n x y d zero))
+each-path P n x y (suc d) (suc e) =
+    All-append (P (suc d) (suc e)) (map (λ s. step_x ∷ s) (lattice_paths d (suc e))) (map (λ s. step_y ∷ s) (lattice_paths (suc d) e))
+    (All-map (P (suc d) (suc e)) (λ s. step_x ∷ s) (lattice_paths d (suc e)) (All-weaker (P d (suc e)) (λ s. P (suc d) (suc e) (step_x ∷ s)) (x d (suc e)) (lattice_paths d (suc e)) (each-path P n x y d (suc e))))
+    (All-map (P (suc d) (suc e)) (λ s. step_y ∷ s) (lattice_paths (suc d) e) (All-weaker (P (suc d) e) (λ s. P (suc d) (suc e) (step_y ∷ s)) (y (suc d) e) (lattice_paths (suc d) e) (each-path P n x y (suc d) e)))
+
+are-paths : (d e : ℕ) → All (IsPath d e) (lattice_paths d e)
+are-paths = each-path IsPath (record { size = λ i j. refl; inside = λ i j. All-cons (λ (q : ℕ × ℕ). (q.0 ≤ i + 0) × (q.1 ≤ j + 0)) (i, j) [] (omega arith, omega arith) (All-nil (λ (q : ℕ × ℕ). (q.0 ≤ i + 0) × (q.1 ≤ j + 0))) }) along_x along_y
+
+-- ---- the tuple along a path
+entry-of : (r : ℕ) (w : List (List ℕ)) (i : ℕ) → IsTuple r w → i < length w → IsPermutationOf r (get_or w i [])
+entry-of r [] i t h = absurd (omega arith)
+entry-of r (x ∷ w) zero t h = t.0
+entry-of r (x ∷ w) (suc i) t h = entry-of r w i t.1 (omega arith)
+
+tuple-from : (r : ℕ) (ps : List (ℕ × ℕ)) (f : ℕ × ℕ → List ℕ) → All (λ q. IsPermutationOf r (f q)) ps → IsTuple r (map f ps)
+tuple-from r [] f a = tt
+tuple-from r (q ∷ ps) f a = (All-head (λ q. IsPermutationOf r (f q)) q ps a, tuple-from r ps f (All-tail (λ q. IsPermutationOf r (f q)) q ps a))
+
+-- what is known of two tuples that compose
+record Compose (k : ℕ) (w v : List (List ℕ)) : Type 0 where
+  outer : IsGenerator w
+  inner : IsGenerator v
+  place : 1 ≤ k
+  within : k ≤ tuple_arity w
+  limits : IsWithinLimits w v
+
+entries-along : (k : ℕ) (w v : List (List ℕ)) (s : List Step) → Compose k w v → IsPath (tuple_degree w) (tuple_degree v) s → IsTuple (tuple_arity w + tuple_arity v - 1) (tuple_along k w v s)
+entries-along k w v s c p =
+    let r : ℕ = tuple_arity w + tuple_arity v - 1 in
+    let f : ℕ × ℕ → List ℕ = λ q. inserted k (get_or w q.0 []) (get_or v q.1 []) in
+    tuple-from r (points_from 0 0 s) f
+    (All-weaker (λ (q : ℕ × ℕ). (q.0 ≤ 0 + tuple_degree w) × (q.1 ≤ 0 + tuple_degree v)) (λ (q : ℕ × ℕ). IsPermutationOf r (f q))
+    (λ q b. inserted-permutation k (tuple_arity w) (tuple_arity v) (get_or w q.0 []) (get_or v q.1 []) c.place c.within c.inner.wide
+    (entry-of (tuple_arity w) w q.0 c.outer.entries (omega (arith, b.0, c.outer.some))) (entry-of (tuple_arity v) v q.1 c.inner.entries (omega (arith, b.1, c.inner.some))))
+    (points_from 0 0 s) (p.inside 0 0))
+
+length-along : (k : ℕ) (w v : List (List ℕ)) (s : List Step) → IsPath (tuple_degree w) (tuple_degree v) s → length (tuple_along k w v s) ≡ suc (tuple_degree w + tuple_degree v)
+length-along k w v s p = length-map (points_from 0 0 s) (λ q. inserted k (get_or w q.0 []) (get_or v q.1 [])) ∙ p.size 0 0
+
+-- a tuple of permutations of 1 to r that is not empty has the arity r
+pub arity-of : (r : ℕ) (w : List (List ℕ)) → IsTuple r w → 1 ≤ length w → tuple_arity w ≡ r
+arity-of r [] t h = absurd (omega arith)
+arity-of r (x ∷ w) t h = permutation-length r x t.0
+
+-- ---- the terms
+term-all : {X S : Type 0} (gone : X → Bool) (P : S → Type 0) (Q : X → Type 0) (f : S → X) (g : S → ℤ) → ((s : S) → P s → gone (f s) ≡ false → Q (f s)) → (ss : List S) → All P ss → All (λ (t : X × ℤ). Q t.0) (kept_terms gone (map (λ s. (f s, g s)) ss))
+term-all {X} {S} gone P Q f g h [] a = All-nil (λ (t : X × ℤ). Q t.0)
+term-all {X} {S} gone P Q f g h (s ∷ ss) a =
+    let ih = term-all gone P Q f g h ss (All-tail P s ss a) in
+    elim (cases_Bool (gone (f s))) [
+      | inl z ↦ rw z ih
+      | inr z ↦ rw z (All-cons (λ (t : X × ℤ). Q t.0) (f s, g s) (kept_terms gone (map (λ s. (f s, g s)) ss)) (h s (All-head P s ss a) z) ih)
+    ]
+
+terms : (k : ℕ) (w v : List (List ℕ)) (Q : List (List ℕ) → Type 0) → ((s : List Step) → IsPath (tuple_degree w) (tuple_degree v) s → is_degenerate_tuple (tuple_along k w v s) ≡ false → Q (tuple_along k w v s)) → All (λ t. Q t.0) (tuple_composition k w v)
+terms k w v Q h =
+    term-all is_degenerate_tuple (IsPath (tuple_degree w) (tuple_degree v)) Q (tuple_along k w v) (path_sign (tuple_degree w) (tuple_degree v)) h
+    (lattice_paths (tuple_degree w) (tuple_degree v)) (are-paths (tuple_degree w) (tuple_degree v))
+
+compose : (k : ℕ) (w v : List (List ℕ)) → IsGenerator w → IsGenerator v → 1 ≤ k → k ≤ tuple_arity w → IsWithinLimits w v → Compose k w v
+compose k w v g h a b l = record { outer = g; inner = h; place = a; within = b; limits = l }
+
+arity-along : (k : ℕ) (w v : List (List ℕ)) (s : List Step) → Compose k w v → IsPath (tuple_degree w) (tuple_degree v) s → tuple_arity (tuple_along k w v s) ≡ tuple_arity w + tuple_arity v - 1
+arity-along k w v s c p = arity-of (tuple_arity w + tuple_arity v - 1) (tuple_along k w v s) (entries-along k w v s c p) (omega (arith, length-along k w v s p))
+
+pub compose_valid : (k : ℕ) (w v : List (List ℕ)) → IsGenerator w → IsGenerator v → 1 ≤ k → k ≤ tuple_arity w → IsWithinLimits w v → All (λ t. IsGenerator t.0) (tuple_composition k w v)
+compose_valid k w v g h a b l =
+    let c = compose k w v g h a b l in
+    terms k w v IsGenerator (λ s p z.
+    let e = arity-along k w v s c p in
+    let n = length-along k w v s p in
+    record {
+      some = omega (arith, n);
+      short = omega (arith, n, l.short);
+      wide = omega (arith, e, g.wide, h.wide);
+      narrow = omega (arith, e, l.narrow);
+      entries = subst (λ (r : ℕ). IsTuple r (tuple_along k w v s)) (sym e) (entries-along k w v s c p);
+      plain = z;
+    })
+
+pub compose_arity : (k : ℕ) (w v : List (List ℕ)) → IsGenerator w → IsGenerator v → 1 ≤ k → k ≤ tuple_arity w → IsWithinLimits w v → All (λ t. tuple_arity t.0 + 1 ≡ tuple_arity w + tuple_arity v) (tuple_composition k w v)
+compose_arity k w v g h a b l =
+    let c = compose k w v g h a b l in
+    terms k w v (λ t. tuple_arity t + 1 ≡ tuple_arity w + tuple_arity v) (λ s p z. omega (arith, arity-along k w v s c p, g.wide))
+
+pub compose_degree : (k : ℕ) (w v : List (List ℕ)) → IsGenerator w → IsGenerator v → 1 ≤ k → k ≤ tuple_arity w → IsWithinLimits w v → All (λ t. tuple_degree t.0 ≡ tuple_degree w + tuple_degree v) (tuple_composition k w v)
+compose_degree k w v g h a b l =
+    terms k w v (λ t. tuple_degree t ≡ tuple_degree w + tuple_degree v) (λ s p z. omega (arith, length-along k w v s p))

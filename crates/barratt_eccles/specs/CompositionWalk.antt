@@ -1,0 +1,51 @@
+-- The walk over the lattice paths, entry by entry.
+use Rattle.std.specs.Prelude.{◌≡◌, ℕ, ◌+◌, ◌-◌, ◌≤◌, List, [], ◌∷◌, ◌++◌, length, suc, ℤ, pos, ◌+ℤ◌, ◌*ℤ◌}
+use Rattle.signed_sum.specs.Signs.{signed}
+use Rattle.signed_sum.specs.Sums.{restricted, value_at, weight_of}
+use Rattle.table_reduction_law.specs.Tuples.{IsTuple, is_degenerate_tuple}
+use Rattle.barratt_eccles.specs.Composition.{inserted, lattice_paths}
+
+-- z where both lists are empty, else 0
+abbrev pub at_end : List (List ℕ) → List (List ℕ) → ℤ → ℤ
+at_end [] [] z = z
+at_end [] (v ∷ vs) z = pos 0
+at_end (w ∷ ws) vs z = pos 0
+
+-- The signed sum of h over the tuples along the paths from the first entries of two lists to the last.
+-- A step in the inner list costs a sign for each step in the outer list that is left.
+abbrev pub path_sum : ℕ → List (List ℕ) → List (List ℕ) → (List (List ℕ) → ℤ) → ℤ
+path_sum k [] vs h = pos 0
+path_sum k (w ∷ ws) [] h = pos 0
+path_sum k (w ∷ ws) (v ∷ vs) h =
+    at_end ws vs (h (inserted k w v ∷ []))
+    +ℤ (path_sum k ws (v ∷ vs) (λ r. h (inserted k w v ∷ r)) +ℤ signed (length ws) (path_sum k (w ∷ ws) vs (λ r. h (inserted k w v ∷ r))))
+
+-- the number of these paths
+abbrev pub paths_through : List (List ℕ) → List (List ℕ) → ℕ
+paths_through [] vs = 0
+paths_through (w ∷ ws) [] = 0
+paths_through (w ∷ ws) (v ∷ vs) = length (lattice_paths (length ws) (length vs))
+
+-- `new` is `old` plus s times the sum over the paths through two lists, where `before` comes first
+pub record AddsPaths (k : ℕ) (outer inner before : List (List ℕ)) (s : ℤ) (old new : List (List (List ℕ) × ℤ)) : Type 0 where
+  pub sums : (phi : List (List ℕ) → ℤ) → value_at phi new ≡ s *ℤ path_sum k outer inner (λ r. restricted is_degenerate_tuple phi (before ++ r)) +ℤ value_at phi old
+  pub grows : weight_of new ≤ weight_of old + paths_through outer inner
+
+-- `new` is `old` plus s times a tuple, where that is not degenerate
+pub record AddsTuple (w : List (List ℕ)) (s : ℤ) (old new : List (List (List ℕ) × ℤ)) : Type 0 where
+  pub sums : (phi : List (List ℕ) → ℤ) → value_at phi new ≡ s *ℤ restricted is_degenerate_tuple phi w +ℤ value_at phi old
+  pub grows : weight_of new ≤ suc (weight_of old)
+
+-- `outer` and `inner` are the rest of two tuples of arities r and s from a point of a path on, and
+-- `before` has the entries at the points before it
+pub record IsAtPoint (k : ℕ) (outer inner before : List (List ℕ)) : Type 0 where
+  pub r : ℕ
+  pub s : ℕ
+  pub place : 1 ≤ k
+  pub within : k ≤ r
+  pub some : 1 ≤ s
+  pub narrow : r + s ≤ 33
+  pub outer_entries : IsTuple r outer
+  pub inner_entries : IsTuple s inner
+  pub entries : IsTuple (r + s - 1) before
+  pub short : length before + length outer + length inner ≤ 202

@@ -1,0 +1,92 @@
+-- The laws of the turn of tuples, which the impls cite.
+use Rattle.std.proofs.Common.{◌≡◌, ℕ, zero, suc, ◌≤◌, ◌==◌, Bool, List, length, refl, sym, ap, ◌∙◌, inl, arith, subst, IsTrue}
+use Rattle.std.specs.Prelude.{ℤ, pos, ◌*ℤ◌, All}
+use Rattle.std.proofs.Math.Nat.{mod_self}
+use Rattle.std.proofs.lemmas.Bool.{eqb-true, eq-eqb}
+use Rattle.std.proofs.lemmas.List.Elements.{All-weaker}
+use Rattle.signed_sum.specs.Lists.{numbers_from}
+use Rattle.signed_sum.specs.Permutations.{cycle, cycle_power, entry_at}
+use Rattle.signed_sum.specs.Sums.{value_at}
+use Rattle.signed_sum.specs.Turns.{IsSign, after_turns}
+use Rattle.signed_sum.proofs.Ring.{one-mul}
+use Rattle.operad_law.specs.Permutations.{IsPerm, composed}
+use Rattle.operad_law.proofs.PermLemmas.{IsPerm-cycle_power, cycle_power-mod, length-cycle_power, length-numbers_from}
+use Rattle.table_reduction_law.proofs.Permutations.{Within, perm-within}
+use Rattle.table_reduction_law.specs.Tuples.{IsPermutationOf, permuted_tuple, tuple_boundary}
+use Rattle.barratt_eccles.specs.Generators.{IsGenerator, tuple_arity, tuple_degree, turned_tuple}
+use Rattle.barratt_eccles.specs.ActionLaws.{act_arity, act_composed, act_degree, act_identity, act_valid, boundary_act, entry-identity, entry-map, permutation, same-map}
+use Rattle.barratt_eccles.specs.BoundaryLaws.{boundary_arity}
+
+-- whether a tuple has the arity p
+abbrev pub has_arity : ℕ → List (List ℕ) → Bool
+has_arity p w = tuple_arity w == p
+
+-- the powers of the cycle act on a tuple of arity p
+record Turns (p : ℕ) (w : List (List ℕ)) : Type 0 where
+  arity : tuple_arity w ≡ p
+  perm : (n : ℕ) → IsPerm (cycle_power p n)
+  size : (n : ℕ) → length (cycle_power p n) ≡ tuple_arity w
+
+turns : (p : ℕ) (w : List (List ℕ)) → IsGenerator w → IsTrue (has_arity p w) → Turns p w
+turns p w g f =
+    let e : tuple_arity w ≡ p = eqb-true (tuple_arity w) p f in
+    record { arity = e; perm = λ n. IsPerm-cycle_power p n (omega (arith, g.wide)) (omega (arith, g.narrow)); size = λ n. length-cycle_power p n ∙ sym e }
+
+pub turn_valid : (p : ℕ) (w : List (List ℕ)) → IsGenerator w → IsTrue (has_arity p w) → IsGenerator (turned_tuple p w).0
+turn_valid p w g f = let k = turns p w g f in act_valid (cycle_power p 1) w g (k.perm 1) (k.size 1)
+
+pub turn_fits : (p : ℕ) (w : List (List ℕ)) → IsGenerator w → IsTrue (has_arity p w) → IsTrue (has_arity p (turned_tuple p w).0)
+turn_fits p w g f = let k = turns p w g f in eq-eqb (tuple_arity (turned_tuple p w).0) p (act_arity (cycle_power p 1) w g (k.perm 1) (k.size 1) ∙ k.arity)
+
+pub turn_degree : (p : ℕ) (w : List (List ℕ)) → IsGenerator w → IsTrue (has_arity p w) → tuple_degree (turned_tuple p w).0 ≡ tuple_degree w
+turn_degree p w g f = let k = turns p w g f in act_degree (cycle_power p 1) w g (k.perm 1) (k.size 1)
+
+pub turn_sign : (p : ℕ) (w : List (List ℕ)) → IsGenerator w → IsTrue (has_arity p w) → IsSign (turned_tuple p w).1
+turn_sign p w g f = inl refl
+
+pub boundary_fits : (p : ℕ) (w : List (List ℕ)) → IsGenerator w → IsTrue (has_arity p w) → All (λ t. IsTrue (has_arity p t.0)) (tuple_boundary w)
+boundary_fits p w g f =
+    All-weaker (λ t. tuple_arity t.0 ≡ tuple_arity w) (λ t. IsTrue (has_arity p t.0))
+    (λ t a. eq-eqb (tuple_arity t.0) p (a ∙ eqb-true (tuple_arity w) p f)) (tuple_boundary w) (boundary_arity w g)
+
+pub boundary_turn : (p : ℕ) (phi : List (List ℕ) → ℤ) (w : List (List ℕ)) → IsGenerator w → IsTrue (has_arity p w) →
+    (turned_tuple p w).1 *ℤ value_at phi (tuple_boundary (turned_tuple p w).0) ≡ value_at (λ v. (turned_tuple p v).1 *ℤ phi (turned_tuple p v).0) (tuple_boundary w)
+boundary_turn p phi w g f =
+    let k = turns p w g f in
+    let c = cycle_power p 1 in
+    one-mul (value_at phi (tuple_boundary (permuted_tuple c w)))
+    ∙ boundary_act phi c w g (k.perm 1) (k.size 1)
+    ∙ sym (λ i. value_at (λ v. one-mul (phi (permuted_tuple c v)) i) (tuple_boundary w))
+
+-- ---- p turns are the identity
+-- a power of the cycle after the cycle is the next power
+next_power : (p n : ℕ) → 1 ≤ p → p ≤ 32 → composed (cycle_power p 1) (cycle_power p n) ≡ cycle_power p (suc n)
+next_power p n h k =
+    let inside : Within p (cycle_power p n) =
+    perm-within p (cycle_power p n) (subst (λ (r : ℕ). IsPermutationOf r (cycle_power p n)) (length-cycle_power p n) (permutation (cycle_power p n) (IsPerm-cycle_power p n h k))) in
+    same-map p (entry_at (cycle_power p 1)) (cycle p) (cycle_power p n) inside
+    (λ v a b. entry-map (cycle p) (numbers_from 1 p) v a (omega (arith, length-numbers_from 1 p)) ∙ ap (cycle p) (entry-identity p v a b))
+
+pub turned_round : (p : ℕ) (w : List (List ℕ)) → IsGenerator w → IsTrue (has_arity p w) → after_turns (turned_tuple p) p w ≡ (w, pos 1)
+turned_round p w g f = steps p ∙ (λ i. (back i, pos 1))
+  where
+    k : Turns p w
+    k = turns p w g f
+
+    none : permuted_tuple (cycle_power p 0) w ≡ w
+    none = ap (λ (r : ℕ). permuted_tuple (numbers_from 1 r) w) (sym k.arity) ∙ act_identity w g
+
+    steps : (n : ℕ) → after_turns (turned_tuple p) n w ≡ (permuted_tuple (cycle_power p n) w, pos 1)
+    steps zero = λ i. (sym none i, pos 1)
+    steps (suc n) =
+        let e : permuted_tuple (cycle_power p 1) (permuted_tuple (cycle_power p n) w) ≡ permuted_tuple (cycle_power p (suc n)) w =
+        act_composed (cycle_power p 1) (cycle_power p n) w g (k.perm 1) (k.perm n) (k.size 1) (k.size n)
+        ∙ ap (λ t. permuted_tuple t w) (next_power p n (omega (arith, k.arity, g.wide)) (omega (arith, k.arity, g.narrow))) in
+        (λ i. (permuted_tuple (cycle_power p 1) (steps n i).0, (steps n i).1 *ℤ pos 1)) ∙ (λ i. (e i, pos 1))
+
+    back : permuted_tuple (cycle_power p p) w ≡ w
+    back = ap (λ t. permuted_tuple t w) (sym (cycle_power-mod p p (omega (arith, k.arity, g.wide))) ∙ ap (cycle_power p) (mod_self p)) ∙ none
+
+-- the turn of a tuple by its own arity
+pub own_turn : (w : List (List ℕ)) → IsGenerator w → IsGenerator (permuted_tuple (cycle_power (tuple_arity w) 1) w)
+own_turn w g = turn_valid (tuple_arity w) w g (eq-eqb (tuple_arity w) (tuple_arity w) refl)

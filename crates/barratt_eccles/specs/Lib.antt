@@ -1,0 +1,10 @@
+pub mod Generators
+pub mod Refusals
+pub mod BoundaryLaws
+pub mod Faces
+pub mod ActionLaws
+pub mod CycleLaws
+pub mod Composition
+pub mod CompositionWalk
+pub mod InsertedLaws
+pub mod CompositionLaws

@@ -1,0 +1,10 @@
+//! The Barratt-Eccles operad: tuples of permutations with their boundary, the action of permutations,
+//! the cyclic model and composition.
+#![tactic(auto)]
+
+pub mod composing;
+pub mod cyclic;
+mod symmetric;
+#[cfg(test)]
+mod tests;
+pub mod tuple;
