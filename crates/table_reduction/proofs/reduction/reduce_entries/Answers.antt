@@ -1,0 +1,15 @@
+use Rattle.std.proofs.Common.{subst}
+use Rattle.barratt_eccles.specs.Generators.{tuple_arity}
+use Rattle.table_reduction.proofs.ReductionLemmas.{reduces, rows-distinct}
+use Rattle.table_reduction_law.specs.Tuples.{IsTuple}
+use Rattle.table_reduction.proofs.reduction.reduce_entries.Goals as goal
+
+pub add_from-requires-clause-rows : goal.add_from-requires-clause-rows
+add_from-requires-clause-rows c =
+    rows-distinct (tuple_arity c.args.entries.now) c.in-Some.rows.now (subst (IsTuple (tuple_arity c.args.entries.now)) c.in-Some.ensures.cases.0 c.requires.tuple).1
+
+pub returns : goal.returns
+returns c =
+    let walk = c.new-walk.result in
+    reduces c.args.entries.now c.in-Some.rows.now c.in-Some.row.now c.as_slice.result.now walk.used.items walk.values.items walk.sum c.add_from.new.self.sum c.into_sum-2.result (tuple_arity c.args.entries.now)
+    c.in-Some.ensures.cases.0 c.as_slice.ensures c.new-walk.ensures.used c.new-walk.ensures.values c.new-walk.ensures.sum c.requires.wide c.requires.tuple c.in_ok-add_from.ensures.sum c.into_sum-2.ensures

@@ -1,0 +1,58 @@
+use Rattle.std.proofs.Common.{◌≡◌, ◌∙◌, ◌++◌, List, ℕ, [], ◌∷◌, ap, arith, length, sym, subst}
+use Rattle.std.proofs.lemmas.List.Elements.{All-head, All-tail}
+use Rattle.std.specs.Prelude.{All, ◌==◌, ℤ}
+use Rattle.signed_sum.specs.Lists.{IsDistinct, occurs}
+use Rattle.table_reduction.specs.Walks.{AddsLists, entry_count, is_last}
+use Rattle.table_reduction.proofs.WalkLemmas.{adds-in_last, adds-pruned, adds-steps, no_rows, occurs-no}
+use Rattle.table_reduction.proofs.walk.Walk.+rows.Goals as goal
+use Rattle.table_reduction.proofs.walk.Walk.+rows.Goals.{add_value-in-Some+in_ok-add_from+in_ok-push-2+in_ok-add_from-2, add_value-in_default+in_ok-add_from-3}
+
+pub add_from-returns-then-ends_with-clause-sum : goal.add_from-returns-then-ends_with-clause-sum
+add_from-returns-then-ends_with-clause-sum t c =
+    let used = c.args.self.now.used.items in
+    let values = c.args.self.now.values.items in
+    let x = c.in-Some.value.now in
+    subst (λ (left : List ℕ). AddsLists c.args.later.now left used values c.args.self.now.sum c.args.self.now.sum) (sym c.in-Some.ensures.cases.0)
+    (adds-pruned c.args.later.now x c.in-Some.rest.now used values c.args.self.now.sum
+    (occurs-no x used (ap (λ u. occurs x u == 1) (sym c.as_slice.ensures.value) ∙ sym c.contains.ensures ∙ c.if-contains.false))
+    (ap (is_last x) (sym c.as_slice-2.ensures.value) ∙ sym c.ends_with.ensures ∙ c.if-ends_with.true))
+
+pub add_from-add_value-requires : goal.add_from-add_value-requires
+add_from-add_value-requires t c =
+    let x = c.in-Some.value.now in
+    let e : c.args.left.now ≡ x ∷ c.in-Some.rest.now = c.in-Some.ensures.cases.0 in
+    let free = occurs-no x c.args.self.now.used.items (ap (λ u. occurs x u == 1) (sym c.as_slice.ensures.value) ∙ sym c.contains.ensures ∙ c.if-contains.false) in
+    let apart = ap (is_last x) (sym c.as_slice-2.ensures.value) ∙ sym c.ends_with.ensures ∙ c.if-ends_with.false in
+    (omega (arith, ap length e), (subst IsDistinct e c.requires.row, (c.requires.rows, (free, apart))))
+
+pub add_value-add_from-requires : goal.add_value-add_from-requires
+add_value-add_from-requires t c =
+    let e : c.args.later.now ≡ c.in-Some.row.now ∷ c.in-Some.rows.now = c.in-Some.ensures.cases.0 in
+    let q : All IsDistinct (c.in-Some.row.now ∷ c.in-Some.rows.now) = subst (All IsDistinct) e c.requires.rows in
+    (omega (arith, ap entry_count e, ap length c.as_slice.ensures), (subst IsDistinct (sym c.as_slice.ensures) (All-head IsDistinct c.in-Some.row.now c.in-Some.rows.now q), All-tail IsDistinct c.in-Some.row.now c.in-Some.rows.now q))
+
+pub add_value-returns-clause-sum : goal.add_value-returns-clause-sum
+add_value-returns-clause-sum t c =
+    let later = c.args.later.now in
+    let old = c.args.self.now.sum in
+    let used = c.args.self.now.used.items in
+    let values = c.args.self.now.values.items in
+    let x = c.args.value in
+    let rest = c.args.rest.now in
+    elim c.match-split_first.branch [
+      | add_value-in-Some+in_ok-add_from+in_ok-push-2+in_ok-add_from-2 w ↦
+          let first = w.add_from.new.self in
+          let second = w.add_from-in-Some.new.self in
+          let a : AddsLists later (x ∷ rest) used values old second.sum =
+          adds-steps later w.in-Some.rows.now w.in-Some.row.now w.as_slice.result.now x rest used first.used.items w.push-in-Some.new.self.items values c.push.new.self.items first.values.items old first.sum second.sum
+          w.in-Some.ensures.cases.0 w.as_slice.ensures c.in_ok-push.ensures.items w.in_ok-add_from.ensures.values w.in_ok-add_from.ensures.used w.in_ok-push-2.ensures.items
+          c.requires.free c.requires.row.0 w.in_ok-add_from.ensures.sum w.in_ok-add_from-2.ensures.sum in
+          subst (λ (s : List (List ℕ × ℤ)). AddsLists later (x ∷ rest) used values old s) (ap (λ s. s.sum) (sym w.self-is)) a
+      | add_value-in_default+in_ok-add_from-3 w ↦
+          let l : later ≡ [] = no_rows later c.split_first.result c.split_first.ensures.cases w.in_default.not-Some in
+          let new = w.add_from-in_default.new.self.sum in
+          let a : AddsLists [] rest used (values ++ (x ∷ [])) old new =
+          subst (λ (k : List (List ℕ)). AddsLists k rest used (values ++ (x ∷ [])) old new) l (subst (λ (v : List ℕ). AddsLists later rest used v old new) c.in_ok-push.ensures.items w.in_ok-add_from-3.ensures.sum) in
+          let b : AddsLists later (x ∷ rest) used values old new = subst (λ (k : List (List ℕ)). AddsLists k (x ∷ rest) used values old new) (sym l) (adds-in_last x rest used values old new c.requires.free a) in
+          subst (λ (s : List (List ℕ × ℤ)). AddsLists later (x ∷ rest) used values old s) (ap (λ s. s.sum) (sym w.self-is)) b
+    ]
