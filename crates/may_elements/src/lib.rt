@@ -1,0 +1,10 @@
+//! May elements, and the count of the terms that they cost.
+#![tactic(auto)]
+
+pub mod elements;
+mod pairs;
+pub mod terms;
+#[cfg(test)]
+mod tests;
+
+pub use elements::MayTable;

@@ -1,0 +1,80 @@
+//! Sums of table reductions over pairs of powers of the cycle.
+ghost use Rattle.std.specs.Prelude.{◌≡◌, ◌≤◌, ◌<◌, ◌++◌, ◌∷◌, [], ℕ, List, suc, true, IsTrue, IfOk, OnOk, length};
+ghost use Rattle.signed_sum.specs.Permutations.{cycle_power};
+ghost use Rattle.table_reduction_law.specs.Tuples.{IsTuple, is_degenerate_tuple};
+ghost use Rattle.may_elements.specs.Pairs.{IsPairSum};
+
+use operad_law::formal_sum::FormalSum;
+use operad_law::perm::Perm;
+use std::alloc::{AllocError, Global};
+use surjection::surj::Surj;
+use table_reduction::reduction::reduce_entries;
+
+// The sum of the table reductions of the tuples that begin with these entries and go on with so many
+// pairs of a power of the cycle of 1 to p and the next.
+#[cycle(pairs)]
+pub(crate) fn sum_over_pairs(
+    alloc: Global,
+    p: u8,
+    entries: &mut Vec<Perm>,
+    pairs: u32,
+) -> Result<FormalSum<Surj>, AllocError>
+    requires some { 1 ≤ p }
+    requires narrow { p ≤ 32 }
+    requires begun { 1 ≤ length entries.old.items }
+    requires tuple { IsTuple p entries.old.items }
+    ensures sum { IfOk result (IsPairSum p pairs entries.old.items) }
+    ensures same { OnOk result (entries.new.items ≡ entries.old.items) }
+{
+    if pairs == 0 {
+        return reduce_entries(alloc, entries.as_slice());
+    }
+    let mut sum = FormalSum::new(alloc);
+    for exponent in 0..u32::from(p) {
+        let part = sum_with_power(alloc, p, entries, exponent, pairs - 1)?;
+        match sum.plus_scaled(&part, 1) {
+            Ok(()) => {}
+            Err(_) => return Err(AllocError),
+        }
+    }
+    Ok(sum)
+}
+
+// The part of this sum in which the first of the pairs begins with this power of the cycle.
+#[cycle(pairs)]
+fn sum_with_power(
+    alloc: Global,
+    p: u8,
+    entries: &mut Vec<Perm>,
+    exponent: u32,
+    pairs: u32,
+) -> Result<FormalSum<Surj>, AllocError>
+    requires some { 1 ≤ p }
+    requires narrow { p ≤ 32 }
+    requires tuple { IsTuple p entries.old.items }
+    requires turn { exponent < p }
+    ensures sum { IfOk result (IsPairSum p pairs (entries.old.items ++ (cycle_power p exponent ∷ cycle_power p (suc exponent) ∷ []))) }
+    ensures same { OnOk result (entries.new.items ≡ entries.old.items) }
+{
+    let power = Perm::cycle(alloc, p, exponent)?;
+    let next = Perm::cycle(alloc, p, exponent + 1)?;
+    if ends_with(entries.as_slice(), &power) {
+        return Ok(FormalSum::new(alloc));
+    }
+    entries.push(power)?;
+    entries.push(next)?;
+    let sum = sum_over_pairs(alloc, p, entries, pairs)?;
+    let _next = entries.pop();
+    let _power = entries.pop();
+    Ok(sum)
+}
+
+// Whether an entry is the last of a list, with which it would make a tuple degenerate.
+fn ends_with(entries: &[Perm], entry: &Perm) -> bool
+    ensures { IsTrue result → (w : List (List ℕ)) → is_degenerate_tuple (entries.now ++ (entry.now ∷ w)) ≡ true }
+{
+    match entries.split_last() {
+        Some((last, _)) => *last == *entry,
+        None => false,
+    }
+}
