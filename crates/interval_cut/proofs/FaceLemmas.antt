@@ -1,10 +1,12 @@
 -- The faces of a cut are written one after the other.
-use Rattle.std.proofs.Common.{◌≡◌, ℕ, zero, suc, ◌+◌, ◌-◌, ◌*◌, ◌≤◌, ◌<◌, ◌≢◌, List, [], ◌∷◌, ◌++◌, take, drop, length, get_or, refl, sym, ◌∙◌, ap, ap₂, arith, subst, inl, inr, cond, eqb, length-append, set, get_or-set_same, get_or-set_other}
+use Rattle.std.proofs.Common.{true, false, ◌≡◌, ℕ, zero, suc, ◌+◌, ◌-◌, ◌≤◌, ◌<◌, ◌≢◌, List, [], ◌∷◌, ◌++◌, take, drop, length, get_or, refl, sym, ◌∙◌, ap, ap₂, arith, subst, length-drop, inl, inr, cond, eqb, length-append, set, get_or-set_same, get_or-set_other}
 use Rattle.std.specs.Prelude.{slice_index}
 use Rattle.std.proofs.lemmas.Bool.{cases_eq, eq-eqb, ne_eqb}
-use Rattle.std.proofs.lemmas.List.{append-nil, append_assoc, drop_more, drop_all, take_more_set, take-append-drop}
+use Rattle.std.proofs.lemmas.List.{append-nil, append_assoc, drop_more, drop_all, take_more_set, take-append-drop, length-take}
 use Rattle.std.proofs.Math.Seq.{drop-append_seam, take-append_seam}
 use Rattle.linear_law.specs.Congruence.{sum_over}
+use Rattle.linear_law.specs.Lists.{Each}
+use Rattle.linear_law.proofs.ListLemmas.{each_append}
 use Rattle.signed_sum.specs.Lists.{IsDistinct, numbers_from, occurs}
 use Rattle.signed_sum.proofs.ListLemmas.{numbers_from-distinct}
 use Rattle.interval_cut_law.specs.Cuts.{IsCutFrom, cut_face}
@@ -294,3 +296,23 @@ face_at u p r m k places starts xs ys e f g h b =
     let small : m + 1 ≤ r = omega arith in
     subst (λ n. P n xs ys) e (subst (λ x. P (m + 1) x ys) (sym f) (subst (λ y. P (m + 1) places y) (sym g)
     (face_begins u p r m places starts h small, face_ends u p r m places starts h small, face_is u p r m places starts h small)))
+
+numbers_below : (a m n : ℕ) → a + m ≤ n → Each (λ k. k < n) (numbers_from a m)
+numbers_below a zero n h = tt
+numbers_below a (suc m) n h = (omega arith, numbers_below (suc a) m n (omega arith))
+
+-- the places of a face are below what the ends of its intervals are below
+pub places_below : (k : ℕ) (u : List ℕ) (a : ℕ) (p : List ℕ) (n : ℕ) → IsCutFrom u a p → Each (λ b. b < n) p → Each (λ m. m < n) (cut_face k u a p)
+places_below k [] a p n c h = tt
+places_below k (v ∷ u) a [] n c h = tt
+places_below k (v ∷ u) a (b ∷ p) n c h =
+    let order = c.0 in
+    let low = h.0 in
+    let rest = places_below k u b p n c.1 h.1 in
+    elim (eqb k v) as (λ t. Each (λ m. m < n) (cond t (numbers_from a (suc (b - a)) ++ cut_face k u b p) (cut_face k u b p))) [
+      | true ↦ each_append (λ m. m < n) (numbers_from a (suc (b - a))) (cut_face k u b p) (numbers_below a (suc (b - a)) n (omega arith)) rest
+      | false ↦ rest
+    ]
+
+pub part_short : (n m : ℕ) (xs : List ℕ) → length (take n (drop m xs)) ≤ length xs
+part_short n m xs = omega (arith, length-take n (drop m xs), length-drop m xs)

@@ -1,4 +1,12 @@
 pub mod ListLemmas
 pub mod WalkLemmas
+pub mod ProductLemmas
+pub mod EvaluationLemmas
+pub mod GapLemmas
+pub mod ExponentLemmas
 pub mod FaceLemmas
 pub mod NeighbourLemmas
+pub mod LiveListLemmas
+pub mod LiveFaceLemmas
+pub mod LiveWalkLemmas
+pub mod LiveValueLemmas

@@ -1,12 +1,14 @@
 -- The steps of the walk over cuts.
-use Rattle.std.proofs.Common.{◌≡◌, ℕ, ◌+◌, List, [], ◌∷◌, ◌++◌, map, length, refl, sym, ◌∙◌, ap, ap₂, arith, subst, zero-add, ◌≤◌, inl, inr, length-append}
-use Rattle.std.specs.Prelude.{zero, suc, replicate, Option, Some, None}
+use Rattle.std.proofs.Common.{◌≡◌, ℕ, ◌+◌, List, [], ◌∷◌, ◌++◌, map, length, refl, sym, ◌∙◌, ap, ap₂, arith, subst, zero-add, ◌<◌, ◌≤◌, inl, inr, length-append}
+use Rattle.std.specs.Prelude.{zero, suc, replicate, Some, None}
 use Rattle.std.specs.Prelude.{IsSome, is_some}
 use Rattle.std.proofs.lemmas.Bool.{false≢true}
 use Rattle.std.proofs.lemmas.Option.{none-some}
 use Rattle.interval_cut_law.specs.Cuts.{IsCutFrom, rising_lists}
 use Rattle.interval_cut_law.specs.LiveCuts.{next_rising}
-use Rattle.interval_cut.specs.Walking.{CutWalk, lists_after, next_walk}
+use Rattle.interval_cut.specs.Walking.{CutWalk, cut_of, lists_after, next_walk}
+use Rattle.linear_law.specs.Lists.{Each}
+use Rattle.interval_cut.specs.Faces.{HasFaces, IsFaceTable}
 use Rattle.interval_cut.specs.Stages.{OnAt, shown}
 use Rattle.interval_cut.specs.declared.stage.Stage.{Stage}
 use Rattle.interval_cut.specs.declared.stage.Stage.TheVariants.{Before, At, Done}
@@ -39,7 +41,7 @@ walk-last values inner new top s w is st e =
 
 -- ---- the ends stay those of a cut
 
-length-cut : (u : List ℕ) (a : ℕ) (p : List ℕ) → IsCutFrom u a p → length u ≡ length p
+pub length-cut : (u : List ℕ) (a : ℕ) (p : List ℕ) → IsCutFrom u a p → length u ≡ length p
 length-cut [] a [] c = refl
 length-cut [] a (b ∷ p) c = absurd c
 length-cut (v ∷ u) a [] c = absurd c
@@ -84,3 +86,29 @@ is_at values top Done inner w e h = absurd (false≢true (ap (λ v. is_some v.he
 
 pub on_at : (s : Stage) (P : Type 0) → s ≡ At → OnAt s P → P
 on_at s P e h = subst (λ t. OnAt t P) e h
+
+-- what holds of the values and the cut that are shown holds of those of the walk
+pub on_walk : (values : List ℕ) (top : ℕ) (s : Stage) (inner : List ℕ) (w : CutWalk) (Q : List ℕ → List ℕ → Type 0) → shown values top s inner ≡ w → s ≡ At → Q values (inner ++ (top ∷ [])) → Q w.values (cut_of w)
+on_walk values top s inner w Q e at h =
+    subst (λ (v : CutWalk). Q v.values (cut_of v)) e (subst (λ t. Q values (cut_of (shown values top t inner))) (sym at) h)
+
+ends_below : (u : List ℕ) (a : ℕ) (p : List ℕ) (top n : ℕ) → IsCutFrom u a (p ++ (top ∷ [])) → top < n → Each (λ b. b < n) (p ++ (top ∷ [])) × (a ≤ top)
+ends_below [] a [] top n c h = absurd c
+ends_below [] a (b ∷ p) top n c h = absurd c
+ends_below (v ∷ u) a [] top n c h = ((h, tt), c.0)
+ends_below (v ∷ u) a (b ∷ p) top n c h =
+    let r = ends_below u b p top n c.1 h in
+    let low = r.1 in
+    let order = c.0 in
+    ((omega arith, r.0), omega arith)
+
+-- the faces of the cut that is shown
+pub has_faces : (u inner places starts : List ℕ) (top r n : ℕ) → IsCutFrom u 0 (inner ++ (top ∷ [])) → IsFaceTable u (inner ++ (top ∷ [])) r places starts → r + 1 ≤ length starts → top < n → HasFaces r n places starts
+has_faces u inner places starts top r n c t room low = record {
+  values = u;
+  points = inner ++ (top ∷ []);
+  cut = c;
+  below = (ends_below u 0 inner top n c low).0;
+  table = t;
+  room = room;
+}

@@ -1,6 +1,7 @@
 -- The faces of a cut, written one after the other.
-use Rattle.std.specs.Prelude.{◌≡◌, ℕ, ◌+◌, ◌≤◌, suc, List, [], ◌∷◌, ◌++◌, drop, length, slice_index, take}
+use Rattle.std.specs.Prelude.{◌≡◌, ℕ, ◌+◌, ◌<◌, ◌≤◌, List, [], ◌∷◌, ◌++◌, drop, length, slice_index, take}
 use Rattle.signed_sum.specs.Lists.{numbers_from}
+use Rattle.linear_law.specs.Lists.{Each}
 use Rattle.interval_cut_law.specs.Cuts.{IsCutFrom, cut_face}
 
 -- the places of the faces of the values ks, one after the other
@@ -24,3 +25,12 @@ pub record IsPartOfTable (u p : List ℕ) (k next : ℕ) (places starts : List �
   pub start : (j : ℕ) → j ≤ k → slice_index starts j ≡ length (flat_faces (numbers_from 1 j) u p)
   pub here : next ≡ length (flat_faces (numbers_from 1 k) u p)
   pub written : take next places ≡ flat_faces (numbers_from 1 k) u p
+
+-- the faces 1 to r of some cut of places below n stand in `places`
+pub record HasFaces (r n : ℕ) (places starts : List ℕ) : Type 0 where
+  pub values : List ℕ
+  pub points : List ℕ
+  pub cut : IsCutFrom values 0 points
+  pub below : Each (λ b. b < n) points
+  pub table : IsFaceTable values points r places starts
+  pub room : r + 1 ≤ length starts

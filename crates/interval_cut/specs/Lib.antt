@@ -3,3 +3,11 @@ pub mod Ends
 pub mod Faces
 pub mod Stages
 pub mod Views
+pub mod LiveWalking
+pub mod LiveSearch
+pub mod LiveViews
+pub mod Exponents
+pub mod Masks
+pub mod Evaluation
+pub mod Gaps
+pub mod Samples

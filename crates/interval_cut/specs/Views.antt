@@ -1,10 +1,10 @@
 -- What a walk over cuts shows of its fields.
-use Rattle.std.specs.Prelude.{◌≡◌, ℕ, ◌+◌, ◌≤◌, List, [], ◌∷◌, ◌++◌, map, length, vec_len, Option, Some, None}
+use Rattle.std.specs.Prelude.{◌≡◌, ◌+◌, ◌≤◌, [], ◌∷◌, ◌++◌, length, vec_len}
 use Rattle.surjection_law.specs.Surjections.{IsSurjection, arity}
-use Rattle.interval_cut_law.specs.Cuts.{IsCutFrom, cuts}
+use Rattle.interval_cut_law.specs.Cuts.{IsCutFrom}
 use Rattle.interval_cut.specs.Faces.{IsFaceTable}
-use Rattle.interval_cut.specs.Walking.{CutWalk, lists_after}
-use Rattle.interval_cut.specs.Stages.{here_of, left_of, shown, OnAt}
+use Rattle.interval_cut.specs.Walking.{CutWalk}
+use Rattle.interval_cut.specs.Stages.{shown, OnAt}
 use Rattle.interval_cut.specs.declared.cuts.Cuts.TheInside.{Inside}
 
 abbrev pub view_of : Inside → CutWalk
@@ -18,5 +18,6 @@ pub record IsSound (a : Inside) : Type 0 where
   pub long : length a.inner.items + 1 ≡ length a.values.items
   pub cut : IsCutFrom a.values.items 0 (a.inner.items ++ a.top ∷ [])
   pub places : a.top + length a.values.items ≤ vec_len a.faces.places
+  pub vertices : vec_len a.faces.places ≤ vec_len a.vertices
   pub starts : a.most + 1 ≤ vec_len a.faces.starts
   pub table : OnAt a.stage (IsFaceTable a.values.items (a.inner.items ++ a.top ∷ []) a.most a.faces.places.items a.faces.starts.items)

@@ -23,10 +23,14 @@ cut_of w = unwrap_or w.here []
 abbrev pub start_of : List ℕ → ℕ → CutWalk
 start_of u n = record { values = u; top = n; here = None; left = cuts u n }
 
+-- the walk past the last cut
+abbrev pub finish_of : List ℕ → ℕ → CutWalk
+finish_of u n = record { values = u; top = n; here = None; left = [] }
+
 -- the step to the first cut that is to come, or past the last
 abbrev pub next_walk : CutWalk → CutWalk
 next_walk w = go w.left
   where
     go : List (List ℕ) → CutWalk
-    go [] = record { values = w.values; top = w.top; here = None; left = [] }
+    go [] = finish_of w.values w.top
     go (p ∷ ps) = record { values = w.values; top = w.top; here = Some p; left = ps }

@@ -1,12 +1,22 @@
-ghost use Rattle.std.specs.Prelude.{◌≡◌, ◌↔◌, ℕ, ◌≤◌, ◌∷◌, IfOk, IsSome, IsTrue, length, slice_index};
-ghost use Rattle.signed_sum.specs.Lists.{numbers_from};
+ghost use Rattle.std.specs.Prelude.{◌≡◌, ◌↔◌, ℕ, ◌+◌, ◌≤◌, ◌∷◌, IfOk, IsSome, IsTrue, length, pos, slice_index};
+ghost use Rattle.signed_sum.specs.Inversions.{inversion_count};
+ghost use Rattle.signed_sum.specs.Lists.{less, numbers_from};
+ghost use Rattle.signed_sum.specs.Signs.{signed};
 ghost use Rattle.surjection_law.specs.Surjections.{IsSurjection, arity};
-ghost use Rattle.interval_cut_law.specs.Cuts.{cut_face, cut_faces};
+ghost use Rattle.interval_cut_law.specs.Cuts.{cut_face, cut_faces, gap_word, sign_exponent};
 ghost use Rattle.interval_cut_law.specs.LiveCuts.{is_live};
-ghost use Rattle.interval_cut.specs.Walking.{cut_of, next_walk, start_of};
+ghost use Rattle.interval_cut.specs.Walking.{cut_of, finish_of, next_walk, start_of};
+ghost use Rattle.interval_cut.specs.Masks.{by_mask, cut_term};
+ghost use Rattle.interval_cut_law.specs.Operations.{operation_value};
+ghost use Rattle.simplicial_law.specs.Integral.{CongruentInt};
+ghost use Rattle.fp_field.specs.Served.{served};
 
-use crate::faces::{Faces, end_of, is_simplex, part};
+use crate::faces::{Faces, is_simplex, point_of};
+use crate::signs::cut_sign;
 use crate::stage::{Stage, step};
+use crate::values::{Values, product, with_sign};
+use crate::words::cut_word_sign;
+use fp_field::Fp;
 use std::alloc::{AllocError, Global};
 use std::marker::Model;
 use surjection::surj::Surj;
@@ -15,12 +25,13 @@ use surjection::surj::Surj;
 /// their right ends. Each cut comes once.
 #[derive(Drop)]
 pub struct Cuts {
-    values: Vec<u8>,
-    most: u8,
-    top: u32,
-    inner: Vec<u32>,
-    stage: Stage,
-    faces: Faces,
+    pub(crate) values: Vec<u8>,
+    pub(crate) most: u8,
+    pub(crate) top: u32,
+    pub(crate) inner: Vec<u32>,
+    pub(crate) stage: Stage,
+    pub(crate) faces: Faces,
+    pub(crate) vertices: Vec<u32>,
 }
 
 impl Model for Cuts {
@@ -60,6 +71,7 @@ impl Cuts {
                 places: vec![in alloc; 0; top as usize + values.len()]?,
                 starts: vec![in alloc; 0; most as usize + 1]?,
             },
+            vertices: vec![in alloc; 0; top as usize + values.len()]?,
         })
     }
 
@@ -94,11 +106,7 @@ impl Cuts {
         requires inside { i ≤ length self.now.values }
         ensures { result ≡ slice_index (0 ∷ cut_of self.now) i }
     {
-        if i == 0 {
-            0
-        } else {
-            end_of(self.inner.as_slice(), self.top, i - 1)
-        }
+        point_of(self.inner.as_slice(), self.top, i)
     }
 
     /// The places of face `k`: the intervals with the value `k`, one after the other.
@@ -108,11 +116,28 @@ impl Cuts {
         requires most { k ≤ arity self.now.values }
         ensures { result.now ≡ cut_face k self.now.values 0 (cut_of self.now) }
     {
-        let starts = self.faces.starts.as_slice();
-        part(
-            self.faces.places.as_slice(),
-            starts[k as usize - 1],
-            starts[k as usize],
+        self.faces.face(k - 1, self.most)
+    }
+
+    /// The sign of the cut by the exponents.
+    pub fn sign(&self) -> i8
+        requires { IsSome self.now.here }
+        ensures { result ≡ signed (sign_exponent self.now.values 0 (cut_of self.now)) (pos 1) }
+    {
+        cut_sign(self.values.as_slice(), self.inner.as_slice(), self.top)
+    }
+
+    /// The sign of the cut by the word of its gaps. Both signs are the same.
+    pub fn word_sign(&self) -> i8
+        requires { IsSome self.now.here }
+        ensures word { result ≡ signed (inversion_count less (gap_word (numbers_from 1 (arity self.now.values)) self.now.values (cut_of self.now))) (pos 1) }
+        ensures same { result ≡ signed (sign_exponent self.now.values 0 (cut_of self.now)) (pos 1) }
+    {
+        cut_word_sign(
+            self.values.as_slice(),
+            self.inner.as_slice(),
+            self.top,
+            self.most,
         )
     }
 
@@ -128,10 +153,67 @@ impl Cuts {
         }
         true
     }
+
+    /// The sign of the cut times the product of the values on its faces at the vertices of a simplex,
+    /// where face k takes `gamma` if bit k - 1 of the mask is set and `alpha` if not.
+    pub(crate) fn term<const P: u32, V: Values<P>>(
+        &mut self,
+        alpha: &V,
+        gamma: &V,
+        mask: u32,
+        simplex: &[u32],
+    ) -> Fp<P>
+        requires prime { IsTrue (served P) }
+        requires at { IsSome self.old.here }
+        requires simplex { length simplex.now ≡ self.old.top + 1 }
+        ensures value { CongruentInt P (pos result)
+            (cut_term (arity self.old.values) mask (λ f. pos (V.value_of alpha.now f)) (λ f. pos (V.value_of gamma.now f)) self.old.values simplex.now (cut_of self.old)) }
+        ensures same { self.new ≡ self.old }
+    {
+        let product = product(
+            &self.faces,
+            self.vertices.as_mut_slice(),
+            self.most,
+            alpha,
+            gamma,
+            mask,
+            simplex,
+        );
+        if product.is_zero() {
+            return product;
+        }
+        let sign = cut_sign(self.values.as_slice(), self.inner.as_slice(), self.top);
+        with_sign(product, sign)
+    }
+}
+
+/// The value on a simplex of the operation of the surjection, where face k takes `gamma` if bit k - 1 of
+/// the mask is set and `alpha` if not: the sum over all cuts of the sign times the product of the values on
+/// the faces. It restarts the walk, gives all cuts, and takes no memory.
+pub fn evaluate<const P: u32, V: Values<P>>(
+    cuts: &mut Cuts,
+    alpha: &V,
+    gamma: &V,
+    mask: u32,
+    simplex: &[u32],
+) -> Fp<P>
+    requires prime { IsTrue (served P) }
+    requires simplex { length simplex.now ≡ cuts.old.top + 1 }
+    ensures value { CongruentInt P (pos result)
+        (operation_value (arity cuts.old.values) cuts.old.values
+        (by_mask (arity cuts.old.values) mask (λ f. pos (V.value_of alpha.now f)) (λ f. pos (V.value_of gamma.now f))) simplex.now) }
+    ensures walk { cuts.new ≡ finish_of cuts.old.values cuts.old.top }
+{
+    cuts.restart();
+    let mut sum = Fp::new(0);
+    while cuts.advance() {
+        sum = sum.add(cuts.term(alpha, gamma, mask, simplex));
+    }
+    sum
 }
 
 /// The greatest value.
-fn greatest(values: &[u8]) -> u8
+pub(crate) fn greatest(values: &[u8]) -> u8
     ensures { result ≡ arity values.now }
 {
     let mut most = 0;
@@ -141,25 +223,4 @@ fn greatest(values: &[u8]) -> u8
         }
     }
     most
-}
-
-#[cfg(test)]
-mod tests {
-    use super::*;
-    use std::test::Fail;
-
-    #[test]
-    fn walks_over_the_cuts(rt: HostRuntime) -> Result<(), Fail> {
-        let alloc = rt.alloc();
-        let arc = Surj::new(alloc, &[1, 2, 1]).ok().ok_or("a surjection")?;
-        let mut cuts = Cuts::new(alloc, &arc, 1)?;
-        for live in [false, true, false] {
-            assert!(rt; cuts.advance());
-            assert_eq!(rt; cuts.live(1), live);
-        }
-        assert!(rt; !cuts.advance());
-        cuts.restart();
-        assert!(rt; cuts.advance());
-        Ok(())
-    }
 }

@@ -1,9 +1,10 @@
 //! The faces of a cut, written one after the other into memory that is there.
-ghost use Rattle.std.specs.Prelude.{◌≡◌, ◌==◌, ◌&&◌, not, ℕ, ◌+◌, ◌-◌, ◌<◌, ◌≤◌, ◌^◌, suc, [], ◌∷◌, ◌++◌, drop, length, slice_index, take, vec_len};
+ghost use Rattle.std.specs.Prelude.{◌≡◌, ◌==◌, ◌&&◌, not, ℕ, ◌+◌, ◌-◌, ◌<◌, ◌≤◌, ◌^◌, suc, List, [], ◌∷◌, ◌++◌, drop, length, slice_index, take, vec_len};
+ghost use Rattle.linear_law.specs.Lists.{Each};
 ghost use Rattle.signed_sum.specs.Lists.{is_degenerate, numbers_from};
 ghost use Rattle.surjection_law.specs.Surjections.{arity};
 ghost use Rattle.interval_cut_law.specs.Cuts.{IsCutFrom, cut_face};
-ghost use Rattle.interval_cut.specs.Faces.{IsFaceTable};
+ghost use Rattle.interval_cut.specs.Faces.{HasFaces, IsFaceTable};
 
 /// The places of the faces 1, 2, .. and where each face begins.
 #[derive(Drop)]
@@ -13,7 +14,7 @@ pub(crate) struct Faces {
 }
 
 /// Writes `count` numbers, from `first` on, at `at`.
-fn write_numbers(places: &mut [u32], at: usize, first: u32, count: usize)
+pub(crate) fn write_numbers(places: &mut [u32], at: usize, first: u32, count: usize)
     requires room { at + count ≤ length places.old }
     requires small { first + count ≤ 2 ^ 32 }
     ensures { take (at + count) places.new ≡ take at places.old ++ numbers_from first count }
@@ -29,6 +30,14 @@ pub(crate) fn end_of(inner: &[u32], top: u32, i: usize) -> u32
     ensures { result ≡ slice_index (inner.now ++ top ∷ []) i }
 {
     if i < inner.len() { inner[i] } else { top }
+}
+
+/// Where the i-th interval ends, from 1; 0 for i = 0.
+pub(crate) fn point_of(inner: &[u32], top: u32, i: usize) -> u32
+    requires { i ≤ length inner.now + 1 }
+    ensures { result ≡ slice_index (0 ∷ (inner.now ++ top ∷ [])) i }
+{
+    if i == 0 { 0 } else { end_of(inner, top, i - 1) }
 }
 
 /// Writes the places of face `k` at `at`, and answers where they end.
@@ -107,6 +116,22 @@ pub(crate) fn part(places: &[u32], start: usize, end: usize) -> &[u32]
 }
 
 impl Faces {
+    /// The places of the k-th face, from 0.
+    pub(crate) fn face(&self, k: u8, most: u8) -> &[u32]
+        requires inside { k < most }
+        requires table { (n : ℕ) × HasFaces most n self.now.places.items self.now.starts.items }
+        ensures value { (u p : List ℕ) → IsFaceTable u p most self.now.places.items self.now.starts.items → result.now ≡ cut_face (k + 1) u 0 p }
+        ensures below { (n : ℕ) → HasFaces most n self.now.places.items self.now.starts.items → Each (λ m. m < n) result.now }
+        ensures short { length result.now ≤ vec_len self.now.places }
+    {
+        let starts = self.starts.as_slice();
+        part(
+            self.places.as_slice(),
+            starts[k as usize],
+            starts[k as usize + 1],
+        )
+    }
+
     /// Writes the faces of a cut.
     pub(crate) fn fill(&mut self, values: &[u8], inner: &[u32], top: u32, most: u8)
         requires cut { IsCutFrom values.now 0 (inner.now ++ top ∷ []) }

@@ -4,6 +4,16 @@
 mod cuts;
 mod faces;
 mod lists;
+mod live;
+mod live_lists;
+mod live_search;
+mod signs;
 mod stage;
+#[cfg(test)]
+mod tests;
+mod values;
+mod words;
 
-pub use cuts::Cuts;
+pub use cuts::{Cuts, evaluate};
+pub use live::{LiveCuts, evaluate_live, live_count};
+pub use values::Values;

@@ -1,4 +1,4 @@
-use Rattle.std.proofs.Common.{◌≡◌, ◌+◌, ◌-◌, ◌<◌, ℕ, List, [], ◌∷◌, ◌++◌, take, length, arith, ap, sym, ◌∙◌, refl, length-append}
+use Rattle.std.proofs.Common.{◌+◌, ◌-◌, ◌<◌, ℕ, List, [], ◌∷◌, ◌++◌, take, length, arith, ap, ◌∙◌, length-append}
 use Rattle.interval_cut.proofs.FaceLemmas.{face_room, face_skip, face_write, part_moved}
 use Rattle.interval_cut.proofs.faces.write_face.Goals as goal
 use Rattle.interval_cut.proofs.faces.write_face.Goals.{then-value-k, else-value-k}

@@ -1,4 +1,4 @@
-use Rattle.std.proofs.Common.{◌≡◌, [], ◌∷◌, ◌++◌, take}
+use Rattle.std.proofs.Common.{[], ◌∷◌, ◌++◌, take}
 use Rattle.interval_cut.specs.Faces.{IsPartOfFace}
 use Rattle.interval_cut.proofs.faces.write_face.Given as goal
 

@@ -1,4 +1,4 @@
-use Rattle.std.proofs.Common.{◌+◌, ◌≤◌, length, [], ◌∷◌, ◌++◌, arith, length-set}
+use Rattle.std.proofs.Common.{length, [], ◌∷◌, ◌++◌, arith, length-set}
 use Rattle.interval_cut.proofs.FaceLemmas.{next_room, table_step}
 use Rattle.interval_cut.proofs.faces.write_faces.Goals as goal
 

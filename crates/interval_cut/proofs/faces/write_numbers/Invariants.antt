@@ -1,4 +1,4 @@
-use Rattle.std.proofs.Common.{◌≡◌, ◌+◌, ◌++◌, take, length}
+use Rattle.std.proofs.Common.{◌≡◌, ◌+◌, ◌++◌, take}
 use Rattle.signed_sum.specs.Lists.{numbers_from}
 use Rattle.interval_cut.proofs.faces.write_numbers.Given as goal
 

@@ -1,4 +1,4 @@
-use Rattle.std.proofs.Common.{◌≡◌, refl, arith, length-take-le, length-drop, length, drop, ◌-◌}
+use Rattle.std.proofs.Common.{refl, arith, length-take-le, length-drop, length, drop, ◌-◌}
 use Rattle.interval_cut.proofs.ListLemmas.{next_rising-full, next_rising-written}
 use Rattle.interval_cut.proofs.lists.next_list.Goals as goal
 

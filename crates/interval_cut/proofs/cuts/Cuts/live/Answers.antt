@@ -1,4 +1,4 @@
-use Rattle.std.proofs.Common.{◌≡◌, ◌+◌, ◌≤◌, ◌∙◌, ap, sym, arith, true}
+use Rattle.std.proofs.Common.{◌+◌, ◌≤◌, ◌∙◌, ap, sym, arith}
 use Rattle.surjection_law.specs.Surjections.{arity}
 use Rattle.interval_cut.specs.Walking.{cut_of}
 use Rattle.interval_cut.proofs.NeighbourLemmas.{live_step}

@@ -1,4 +1,4 @@
-use Rattle.std.proofs.Common.{◌≡◌, ◌+◌, ◌-◌, ℕ, List, [], ◌∷◌, ◌++◌, length, replicate, arith, sym, ap, ◌∙◌, subst}
+use Rattle.std.proofs.Common.{◌≡◌, ◌-◌, ℕ, List, [], ◌∷◌, ◌++◌, length, replicate, arith, sym, ap, ◌∙◌, subst}
 use Rattle.std.proofs.lemmas.List.{length-replicate}
 use Rattle.surjection_law.specs.Surjections.{IsSurjection, arity}
 use Rattle.interval_cut_law.specs.Cuts.{IsCutFrom}
@@ -19,6 +19,7 @@ invariant_of-result c =
           subst (λ (u : List ℕ). IsCutFrom u 0 (c.in_ok-vec.field-0.items ++ (c.args.top ∷ []))) (sym same)
           (subst (λ (p : List ℕ). IsCutFrom c.args.values.now 0 (p ++ (c.args.top ∷ []))) (sym zeros) (cut-start c.args.values.now (length c.args.values.now - 1) c.args.top (omega (arith, some))));
       places = omega (arith, ap length same, c.in_ok-vec-2.ensures.len);
+      vertices = omega (arith, c.in_ok-vec-2.ensures.len, c.in_ok-vec-4.ensures.len);
       starts = omega (arith, c.in_ok-vec-3.ensures.len);
       table = tt;
     }

@@ -1,0 +1,101 @@
+-- The steps of the walk over live cuts, and the count of them.
+use Rattle.std.proofs.Common.{◌≡◌, ℕ, ◌+◌, Bool, true, false, cond, List, [], ◌∷◌, ◌++◌, map, length, refl, sym, ◌∙◌, ap, ap₂, subst, arith, Option, Some}
+use Rattle.std.specs.Prelude.{suc, IsSome, is_some}
+use Rattle.std.specs.List.{filter}
+use Rattle.std.proofs.lemmas.Bool.{false≢true}
+use Rattle.surjection_law.specs.Surjections.{arity}
+use Rattle.interval_cut_law.specs.Cuts.{rising_lists}
+use Rattle.interval_cut_law.specs.LiveCuts.{live_count_among}
+use Rattle.interval_cut.specs.Walking.{CutWalk, lists_after, next_walk}
+use Rattle.interval_cut.specs.Stages.{here_of, left_of, shown}
+use Rattle.interval_cut.specs.LiveWalking.{LiveWalk, is_live_cut, live_walk, next_live}
+use Rattle.interval_cut.specs.LiveSearch.{FindsLive, is_live_list, lists_left}
+use Rattle.interval_cut.specs.declared.stage.Stage.{Stage}
+use Rattle.interval_cut.specs.declared.stage.Stage.TheVariants.{Before, At, Done}
+use Rattle.interval_cut.proofs.LiveListLemmas.{filter-map}
+
+-- the cuts that are to come are those of the lists that are to come
+left-lists : (s : Stage) (u : List ℕ) (top : ℕ) (inner : List ℕ) → length inner + 1 ≡ length u → left_of s u top inner ≡ map (λ p. p ++ (top ∷ [])) (lists_left s top inner)
+left-lists Before [] top inner l = absurd (omega arith)
+left-lists Before (v ∷ u) top inner l = let e : length u ≡ length inner = omega arith in ap (λ k. map (λ p. p ++ (top ∷ [])) (rising_lists 0 top k)) e
+left-lists At u top inner l = refl
+left-lists Done u top inner l = refl
+
+abbrev walk_with : ℕ → List ℕ → ℕ → Option (List ℕ) → List (List ℕ) → LiveWalk
+walk_with q u top here left = record { degree = q; walk = record { values = u; top = top; here = here; left = left } }
+
+live-left : (q : ℕ) (u : List ℕ) (top : ℕ) (xs : List (List ℕ)) → filter (is_live_cut q u) (map (λ p. p ++ (top ∷ [])) xs) ≡ map (λ p. p ++ (top ∷ [])) (filter (is_live_list q u top) xs)
+live-left q u top xs = filter-map (is_live_cut q u) (λ p. p ++ (top ∷ [])) xs
+
+live-shown : (q : ℕ) (u : List ℕ) (top : ℕ) (s : Stage) (inner : List ℕ) (w : CutWalk) → shown u top s inner ≡ w → length inner + 1 ≡ length u
+    → live_walk q w ≡ walk_with q u top (here_of s top inner) (map (λ p. p ++ (top ∷ [])) (filter (is_live_list q u top) (lists_left s top inner)))
+live-shown q u top s inner w is l =
+    sym (ap (live_walk q) is) ∙ ap (walk_with q u top (here_of s top inner)) (ap (filter (is_live_cut q u)) (left-lists s u top inner l) ∙ live-left q u top (lists_left s top inner))
+
+module _ (q : ℕ) (u v : List ℕ) (top : ℕ) (s t : Stage) (inner old items new : List ℕ) (w : CutWalk) (is : shown u top s inner ≡ w) (long : length inner + 1 ≡ length u)
+    (same : v ≡ u) (old_is : old ≡ inner) where
+  pub live-moved : items ≡ new → t ≡ At → FindsLive (is_live_list q v top) (lists_left s top old) true top new → live_walk q (shown u top t items) ≡ next_live (live_walk q w)
+  live-moved e r f =
+      let g : FindsLive (is_live_list q u top) (lists_left s top inner) true top new =
+      subst (λ (x : List ℕ). FindsLive (is_live_list q x top) (lists_left s top inner) true top new) same
+      (subst (λ (x : List ℕ). FindsLive (is_live_list q v top) (lists_left s top x) true top new) old_is f) in
+      let ends : List (List ℕ) → List (List ℕ) = λ xs. map (λ p. p ++ (top ∷ [])) xs in
+      ap₂ (λ x y. live_walk q (shown u top x y)) r e
+      ∙ ap (walk_with q u top (Some (new ++ (top ∷ [])))) (live-left q u top (lists_after top new))
+      ∙ sym (ap next_live (live-shown q u top s inner w is long ∙ ap (λ xs. walk_with q u top (here_of s top inner) (ends xs)) g.first))
+
+  pub live-done : t ≡ Done → FindsLive (is_live_list q v top) (lists_left s top old) false top new → live_walk q (shown u top t items) ≡ next_live (live_walk q w)
+  live-done r f =
+      let g : FindsLive (is_live_list q u top) (lists_left s top inner) false top new =
+      subst (λ (x : List ℕ). FindsLive (is_live_list q x top) (lists_left s top inner) false top new) same
+      (subst (λ (x : List ℕ). FindsLive (is_live_list q v top) (lists_left s top x) false top new) old_is f) in
+      ap (λ x. live_walk q (shown u top x items)) r
+      ∙ sym (ap next_live (live-shown q u top s inner w is long ∙ ap (λ (xs : List (List ℕ)). walk_with q u top (here_of s top inner) (map (λ p. p ++ (top ∷ [])) xs)) g.first))
+
+-- ---- the count
+
+among-length : (q : ℕ) (u : List ℕ) (ps : List (List ℕ)) → live_count_among q (arity u) u ps ≡ length (filter (is_live_cut q u) ps)
+among-length q u [] = refl
+among-length q u (p ∷ ps) = go (is_live_cut q u p) (live_count_among q (arity u) u ps) (filter (is_live_cut q u) ps) (among-length q u ps)
+  where
+    go : (t : Bool) (n : ℕ) (xs : List (List ℕ)) → n ≡ length xs → cond t 1 0 + n ≡ length (cond t (p ∷ xs) xs)
+    go true n xs e = omega arith
+    go false n xs e = omega arith
+
+next-same : (u : List ℕ) (top : ℕ) (here : Option (List ℕ)) (left : List (List ℕ)) → (next_walk (record { values = u; top = top; here = here; left = left })).values ≡ u
+next-same u top here [] = refl
+next-same u top here (p ∷ ps) = refl
+
+next-top : (u : List ℕ) (top : ℕ) (here : Option (List ℕ)) (left : List (List ℕ)) → (next_walk (record { values = u; top = top; here = here; left = left })).top ≡ top
+next-top u top here [] = refl
+next-top u top here (p ∷ ps) = refl
+
+next-some : (u : List ℕ) (top : ℕ) (here : Option (List ℕ)) (left : List (List ℕ)) (x : CutWalk) → x ≡ next_walk (record { values = u; top = top; here = here; left = left }) → IsSome x.here
+    → length left ≡ suc (length x.left)
+next-some u top here [] x e h = absurd (false≢true (sym (ap (λ (y : CutWalk). is_some y.here) e) ∙ h))
+next-some u top here (p ∷ ps) x e h = sym (ap (λ (y : CutWalk). suc (length y.left)) e)
+
+next-none : (u : List ℕ) (top : ℕ) (here : Option (List ℕ)) (left : List (List ℕ)) (x : CutWalk) → x ≡ next_walk (record { values = u; top = top; here = here; left = left })
+    → (IsSome x.here → ⊥) → length left ≡ 0
+next-none u top here [] x e n = refl
+next-none u top here (p ∷ ps) x e n = absurd (n (ap (λ (y : CutWalk). is_some y.here) e))
+
+module _ (q : ℕ) (w x : CutWalk) (step : live_walk q x ≡ next_live (live_walk q w)) where
+  walk_step : (live_walk q x).walk ≡ next_walk (live_walk q w).walk
+  walk_step = ap (λ (y : LiveWalk). y.walk) step
+
+  -- the values and the places stay
+  pub step-same : (x.values ≡ w.values) × (x.top ≡ w.top)
+  step-same = (
+    ap (λ (y : CutWalk). y.values) walk_step ∙ next-same w.values w.top w.here (live_walk q w).walk.left,
+    ap (λ (y : CutWalk). y.top) walk_step ∙ next-top w.values w.top w.here (live_walk q w).walk.left,
+  )
+
+  -- a step to a live cut leaves one less
+  pub step-counted : IsSome x.here → live_count_among q (arity w.values) w.values w.left ≡ suc (live_count_among q (arity x.values) x.values x.left)
+  step-counted h =
+      among-length q w.values w.left ∙ next-some w.values w.top w.here (live_walk q w).walk.left (live_walk q x).walk walk_step h ∙ ap suc (sym (among-length q x.values x.left))
+
+  -- where there is no step, none is left
+  pub step-none : (IsSome x.here → ⊥) → live_count_among q (arity w.values) w.values w.left ≡ 0
+  step-none n = among-length q w.values w.left ∙ next-none w.values w.top w.here (live_walk q w).walk.left (live_walk q x).walk walk_step n

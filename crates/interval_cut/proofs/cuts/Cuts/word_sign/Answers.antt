@@ -1,0 +1,22 @@
+use Rattle.std.proofs.Common.{◌≡◌, ◌∙◌, ap, ap₂, List, ℕ, [], ◌∷◌, ◌++◌}
+use Rattle.std.specs.Prelude.{pos}
+use Rattle.signed_sum.specs.Inversions.{inversion_count}
+use Rattle.signed_sum.specs.Lists.{less, numbers_from}
+use Rattle.signed_sum.specs.Signs.{signed}
+use Rattle.interval_cut_law.specs.Cuts.{gap_word, sign_exponent}
+use Rattle.interval_cut.specs.Walking.{cut_of}
+use Rattle.interval_cut.proofs.GapLemmas.{signs_agree}
+use Rattle.interval_cut.proofs.ProductLemmas.{small_sign}
+use Rattle.interval_cut.proofs.WalkLemmas.{is_at, on_walk}
+use Rattle.interval_cut.proofs.cuts.Cuts.word_sign.Goals as goal
+
+pub returns-clause-same : goal.returns-clause-same
+returns-clause-same c =
+    let a = c.self.inside in
+    let s = is_at a.values.items a.top a.stage a.inner.items c.args.self.now c.self.view_is c.requires in
+    small_sign (sign_exponent c.args.self.now.values 0 (cut_of c.args.self.now)) c.cut_word_sign.result
+    (on_walk a.values.items a.top a.stage a.inner.items c.args.self.now (λ (u p : List ℕ). c.cut_word_sign.result ≡ signed (sign_exponent u 0 p) (pos 1)) c.self.view_is s
+    (c.cut_word_sign.ensures
+    ∙ ap₂ (λ (u p : List ℕ). signed (inversion_count less (gap_word (numbers_from 1 a.most) u (p ++ (a.top ∷ [])))) (pos 1)) c.as_slice.ensures.value c.as_slice-2.ensures.value
+    ∙ ap (λ r. signed (inversion_count less (gap_word (numbers_from 1 r) a.values.items (a.inner.items ++ (a.top ∷ [])))) (pos 1)) c.self.invariant.most
+    ∙ signs_agree _ a.values.items (a.inner.items ++ (a.top ∷ [])) c.self.invariant.surjection.onto c.self.invariant.cut))

@@ -1,0 +1,10 @@
+use Rattle.std.proofs.Common.{sym, arith}
+use Rattle.signed_sum.proofs.SignLemmas.{signed-parity}
+use Rattle.std.specs.Prelude.{pos}
+use Rattle.interval_cut.proofs.signs.sign_of.Goals as goal
+
+pub returns-then-exponent-eq0 : goal.returns-then-exponent-eq0
+returns-then-exponent-eq0 c = sym (signed-parity c.args.exponent 0 (pos 1) (omega arith))
+
+pub returns-else-exponent-eq0 : goal.returns-else-exponent-eq0
+returns-else-exponent-eq0 c = sym (signed-parity c.args.exponent 1 (pos 1) (omega arith))

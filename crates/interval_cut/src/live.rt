@@ -1,0 +1,326 @@
+ghost use Rattle.std.specs.Prelude.{◌≡◌, ◌↔◌, ℕ, ◌+◌, ◌*◌, ◌-◌, ◌^◌, ◌≤◌, ◌∷◌, IfOk, IsSome, IsTrue, length, min, pos, slice_index};
+ghost use Rattle.signed_sum.specs.Signs.{signed};
+ghost use Rattle.surjection_law.specs.Boundary.{caesura_count};
+ghost use Rattle.surjection_law.specs.Surjections.{arity};
+ghost use Rattle.interval_cut_law.specs.Cuts.{cut_face, sign_exponent};
+ghost use Rattle.interval_cut_law.specs.LiveCuts.{live_count_among};
+ghost use Rattle.interval_cut_law.specs.Operations.{operation_value};
+ghost use Rattle.simplicial_law.specs.Integral.{CongruentInt};
+ghost use Rattle.fp_field.specs.Served.{served};
+ghost use Rattle.interval_cut.specs.Masks.{by_mask, cut_term};
+ghost use Rattle.interval_cut.specs.Walking.{cut_of};
+ghost use Rattle.interval_cut.specs.LiveSearch.{IsReadyFor};
+ghost use Rattle.interval_cut.specs.LiveWalking.{capped_count, counted_live, live_finish, live_start, live_top, live_walk, next_live};
+
+use crate::cuts::{Cuts, greatest};
+use crate::live_lists::reached;
+use crate::live_search::Search;
+use crate::values::Values;
+use crate::words::count_caesuras;
+use fp_field::Fp;
+use std::alloc::{AllocError, Global};
+use std::marker::Model;
+use surjection::surj::Surj;
+
+/// Where a count of live cuts is cut off.
+const MOST: u64 = 1_000_000_000_000_000;
+
+/// A walk over the cuts that are live for a degree `q`: those of which each face has `q + 1` places,
+/// none of them twice. They come in the order of the lists of their right ends, each once. Cuts that
+/// are not live are passed over together as soon as a face repeats a place, is too long, or ends too
+/// short.
+#[derive(Drop)]
+pub struct LiveCuts {
+    cuts: Cuts,
+    search: Search,
+    count: u64,
+}
+
+impl Model for LiveCuts {
+    ghost use Rattle.interval_cut.specs.LiveWalking.{LiveWalk};
+
+    ghost Value = { LiveWalk };
+
+    ghost use Rattle.interval_cut.specs.LiveViews.{live_view, IsLiveSound};
+
+    ghost view = { live_view };
+
+    ghost invariant = { IsLiveSound };
+}
+
+impl Cuts {
+    /// Goes to the next live cut; false where there is none.
+    pub(crate) fn advance_live(&mut self, search: &mut Search) -> bool
+        requires ready { IsReadyFor self.old.values search.old }
+        ensures walk { live_walk search.old.degree self.new ≡ next_live (live_walk search.old.degree self.old) }
+        ensures moved { IsTrue result ↔ IsSome self.new.here }
+        ensures ready { IsReadyFor self.new.values search.new }
+        ensures degree { search.new.degree ≡ search.old.degree }
+    {
+        let moved = search.next(
+            self.stage,
+            self.values.as_slice(),
+            self.inner.as_mut_slice(),
+            self.top,
+        );
+        self.stage = reached(moved);
+        if moved {
+            self.faces.fill(
+                self.values.as_slice(),
+                self.inner.as_slice(),
+                self.top,
+                self.most,
+            );
+        }
+        moved
+    }
+}
+
+/// The number of live cuts that are to come, cut off.
+fn count_left(cuts: &mut Cuts, search: &mut Search) -> u64
+    requires ready { IsReadyFor cuts.old.values search.old }
+    ensures count { result ≡ min (live_count_among search.old.degree (arity cuts.old.values) cuts.old.values cuts.old.left) (10 ^ 15) }
+    ensures same { (cuts.new.values ≡ cuts.old.values) × (cuts.new.top ≡ cuts.old.top) }
+    ensures ready { IsReadyFor cuts.new.values search.new }
+    ensures degree { search.new.degree ≡ search.old.degree }
+{
+    for count in 0..MOST {
+        if !cuts.advance_live(search) {
+            return count;
+        }
+    }
+    MOST
+}
+
+impl LiveCuts {
+    /// The walk before the first live cut. The cuts are those of the places 0 to `rq - d`, where r is
+    /// the arity of the surjection and d the number of its caesuras.
+    pub fn new(alloc: Global, surjection: &Surj, q: u32) -> Result<LiveCuts, AllocError>
+        requires small { q ≤ 15 }
+        requires some { caesura_count surjection.now ≤ arity surjection.now * q }
+        requires low { arity surjection.now * q - caesura_count surjection.now ≤ 255 }
+        ensures { IfOk result (λ w. w ≡ live_start q surjection.now) }
+    {
+        let values = surjection.as_slice();
+        let most = greatest(values);
+        let top = u32::from(most) * q - count_caesuras(values);
+        let mut cuts = Cuts::new(alloc, surjection, top)?;
+        let mut search = Search::new(alloc, values, most, q)?;
+        let count = count_left(&mut cuts, &mut search);
+        cuts.restart();
+        Ok(LiveCuts {
+            cuts,
+            search,
+            count,
+        })
+    }
+
+    /// The number of live cuts, cut off at 10^15.
+    pub fn count(&self) -> u64
+        ensures { result ≡ capped_count self.now.degree self.now.walk.values }
+    {
+        self.count
+    }
+
+    /// Goes back before the first live cut.
+    pub fn restart(&mut self)
+        ensures { self.new ≡ live_start self.old.degree self.old.walk.values }
+    {
+        self.cuts.restart();
+    }
+
+    /// Goes to the next live cut; false where all were given.
+    pub fn advance(&mut self) -> bool
+        ensures walk { self.new ≡ next_live self.old }
+        ensures moved { IsTrue result ↔ IsSome self.new.walk.here }
+        ensures values { self.new.walk.values ≡ self.old.walk.values }
+    {
+        self.cuts.advance_live(&mut self.search)
+    }
+
+    /// Where the i-th interval ends; 0 for i = 0.
+    pub fn point(&self, i: usize) -> u32
+        requires at { IsSome self.now.walk.here }
+        requires inside { i ≤ length self.now.walk.values }
+        ensures { result ≡ slice_index (0 ∷ cut_of self.now.walk) i }
+    {
+        self.cuts.point(i)
+    }
+
+    /// The sign of the cut by the exponents.
+    pub fn sign(&self) -> i8
+        requires { IsSome self.now.walk.here }
+        ensures { result ≡ signed (sign_exponent self.now.walk.values 0 (cut_of self.now.walk)) (pos 1) }
+    {
+        self.cuts.sign()
+    }
+
+    /// The places of face `k`: the intervals with the value `k`, one after the other.
+    pub fn face(&self, k: u8) -> &[u32]
+        requires at { IsSome self.now.walk.here }
+        requires least { 1 ≤ k }
+        requires most { k ≤ arity self.now.walk.values }
+        ensures { result.now ≡ cut_face k self.now.walk.values 0 (cut_of self.now.walk) }
+    {
+        self.cuts.face(k)
+    }
+}
+
+impl LiveCuts {
+    /// The sign of the cut times the product of the values on its faces at the vertices of a simplex,
+    /// where face k takes `gamma` if bit k - 1 of the mask is set and `alpha` if not.
+    fn term<const P: u32, V: Values<P>>(
+        &mut self,
+        alpha: &V,
+        gamma: &V,
+        mask: u32,
+        simplex: &[u32],
+    ) -> Fp<P>
+        requires prime { IsTrue (served P) }
+        requires at { IsSome self.old.walk.here }
+        requires simplex { length simplex.now ≡ self.old.walk.top + 1 }
+        ensures value { CongruentInt P (pos result)
+            (cut_term (arity self.old.walk.values) mask (λ f. pos (V.value_of alpha.now f)) (λ f. pos (V.value_of gamma.now f)) self.old.walk.values simplex.now (cut_of self.old.walk)) }
+        ensures same { self.new ≡ self.old }
+    {
+        self.cuts.term(alpha, gamma, mask, simplex)
+    }
+}
+
+/// The value on a simplex of the operation of the surjection, as `evaluate` gives it, for cochains of
+/// the degree of the walk: a cut that is not live has a face on which they are 0. It restarts the walk,
+/// gives all live cuts, and takes no memory.
+pub fn evaluate_live<const P: u32, V: Values<P>>(
+    cuts: &mut LiveCuts,
+    alpha: &V,
+    gamma: &V,
+    mask: u32,
+    simplex: &[u32],
+) -> Fp<P>
+    requires prime { IsTrue (served P) }
+    requires alpha { V.degree_of alpha.now ≡ cuts.old.degree }
+    requires gamma { V.degree_of gamma.now ≡ cuts.old.degree }
+    requires simplex { length simplex.now ≡ live_top cuts.old.degree cuts.old.walk.values + 1 }
+    ensures value { CongruentInt P (pos result)
+        (operation_value (arity cuts.old.walk.values) cuts.old.walk.values
+        (by_mask (arity cuts.old.walk.values) mask (λ f. pos (V.value_of alpha.now f)) (λ f. pos (V.value_of gamma.now f))) simplex.now) }
+    ensures walk { cuts.new ≡ live_finish cuts.old.degree cuts.old.walk.values }
+{
+    cuts.restart();
+    let mut sum = Fp::new(0);
+    while cuts.advance() {
+        sum = sum.add(cuts.term(alpha, gamma, mask, simplex));
+    }
+    sum
+}
+
+/// The number of cuts of the places 0 to `rq - d` that are live for `q`, cut off at 10^15, where r is
+/// the arity and d the number of caesuras; 0 where d is more than rq, or rq - d more than 255.
+pub fn live_count(alloc: Global, surjection: &Surj, q: u32) -> Result<u64, AllocError>
+    requires { q ≤ 15 }
+    ensures { IfOk result (λ n. n ≡ counted_live q surjection.now) }
+{
+    let values = surjection.as_slice();
+    let edges = u32::from(greatest(values)) * q;
+    let degree = count_caesuras(values);
+    if edges < degree || edges - degree > 255 {
+        return Ok(0);
+    }
+    Ok(LiveCuts::new(alloc, surjection, q)?.count())
+}
+
+#[cfg(test)]
+mod tests {
+    use super::*;
+    use std::test::Fail;
+
+    /// Values and a degree, the number of live cuts, points that each of them has, and the sum of their
+    /// signs.
+    #[derive(Drop)]
+    struct Row {
+        values: &'static [u8],
+        q: u32,
+        count: u64,
+        points: &'static [(usize, u32)],
+        signs: i32,
+    }
+
+    fn rows() -> [Row; 4] {
+        [
+            Row {
+                values: &[1, 2, 1],
+                q: 1,
+                count: 1,
+                points: &[(0, 0), (1, 0), (2, 1), (3, 1)],
+                signs: 1,
+            },
+            Row {
+                values: &[1, 3, 1, 2, 3],
+                q: 1,
+                count: 0,
+                points: &[],
+                signs: 0,
+            },
+            Row {
+                values: &[1, 2, 3, 1, 2, 3, 1],
+                q: 2,
+                count: 1,
+                points: &[
+                    (0, 0),
+                    (1, 0),
+                    (2, 0),
+                    (3, 1),
+                    (4, 1),
+                    (5, 2),
+                    (6, 2),
+                    (7, 2),
+                ],
+                signs: -1,
+            },
+            Row {
+                values: &[1, 2, 1, 2, 1, 2, 1, 2, 1, 2, 1, 2, 1, 2, 1, 2, 3],
+                q: 15,
+                count: 64,
+                points: &[(16, 16)],
+                signs: -8,
+            },
+        ]
+    }
+
+    fn has_points(cuts: &LiveCuts, last: usize, points: &[(usize, u32)]) -> bool
+        requires at { IsSome cuts.now.walk.here }
+        requires inside { last ≤ length cuts.now.walk.values }
+    {
+        for (i, point) in points {
+            if *i > last || cuts.point(*i) != *point {
+                return false;
+            }
+        }
+        true
+    }
+
+    #[test]
+    fn walks_over_the_live_cuts(rt: HostRuntime) -> Result<(), Fail> {
+        let alloc = rt.alloc();
+        for row in rows() {
+            let surjection = Surj::new(alloc, row.values).ok().ok_or("a surjection")?;
+            assert!(rt; row.q <= 15);
+            assert_eq!(rt; live_count(alloc, &surjection, row.q)?, row.count);
+            let edges = u32::from(greatest(surjection.as_slice())) * row.q;
+            let degree = count_caesuras(surjection.as_slice());
+            assert!(rt; degree <= edges && edges - degree <= 255);
+            let mut cuts = LiveCuts::new(alloc, &surjection, row.q)?;
+            assert_eq!(rt; cuts.count(), row.count);
+            let last = surjection.len();
+            let mut signs: i32 = 0;
+            for _ in 0..row.count {
+                assert!(rt; cuts.advance());
+                assert!(rt; has_points(&cuts, last, row.points));
+                signs = signs.wrapping_add(i32::from(cuts.sign()));
+            }
+            assert!(rt; !cuts.advance());
+            assert_eq!(rt; signs, row.signs);
+        }
+        Ok(())
+    }
+}
