@@ -41,7 +41,7 @@ use Rattle.cohomology.proofs.DegreeLemmas.{rows_count}
 -- ---- the cochain of a row
 
 module _ (facets : List (List ℕ)) (n p : ℕ) (here : List (List ℕ)) (all_here : ListsAll (IsSimplex facets n) here) where
-  unit_by_place : (x y : ℕ) → y < length here → unit_cochain (get_or here x []) (get_or here y []) ≡ unit_vector x y
+  pub unit_by_place : (x y : ℕ) → y < length here → unit_cochain (get_or here x []) (get_or here y []) ≡ unit_vector x y
   unit_by_place x y c =
       elim (cases_eq x y) [
         | inl e ↦ subst (λ z. unit_cochain (get_or here x []) (get_or here z []) ≡ unit_vector x z) e (unit_here (get_or here x []) ∙ sym (unit_one x x))

@@ -1,12 +1,16 @@
 -- Lists of classes, and the loop over the degrees.
-use Rattle.std.proofs.Common.{◌≡◌, ℕ, zero, suc, ◌+◌, ◌<◌, ◌^◌, List, [], ◌∷◌, ◌++◌, map, length, get_or, arith, refl, sym, ap, subst, ◌∙◌}
+use Rattle.std.proofs.Common.{◌≡◌, ℕ, zero, suc, ◌+◌, ◌<◌, ◌≤◌, ◌^◌, List, [], ◌∷◌, ◌++◌, map, length, get_or, arith, refl, sym, ap, subst, ◌∙◌}
 use Rattle.std.specs.Prelude.{Vec}
 use Rattle.std.specs.declared.alloc.Global.{Global}
 use Rattle.std.specs.List.{AllZip}
+use Rattle.std.proofs.Math.ListN.{length-map}
 use Rattle.std.proofs.lemmas.List.{map-append}
 use Rattle.std.proofs.lemmas.Simd.{map-map}
-use Rattle.linear_law.specs.Congruence.{IsField}
-use Rattle.linear_law.specs.Lists.{Each}
+use Rattle.linear_law.specs.Congruence.{Congruent, IsField}
+use Rattle.linear_law.specs.Lists.{Each, IsAscending}
+use Rattle.linear_law.specs.Elimination.{KernelVector}
+use Rattle.linear_law.specs.Triangular.{kernel_place}
+use Rattle.linear_law.proofs.AlikeLemmas.{length_alike}
 use Rattle.linear_law.proofs.ListLemmas.{each_append, each_zip, each_unmap}
 use Rattle.simplicial_law.specs.CanonicalClasses.{AreCanonicalBases, IsCanonicalBasis}
 use Rattle.simplicial_law.specs.EliminatedDegrees.{IsCoboundaryRow, terms_of}
@@ -25,6 +29,18 @@ cochain_more {p} n xs ys rows c e d r h = (
   ap (λ (zs : List (Cochain p)). map (λ (d : Cochain p). d.row) zs) e ∙ map-append (λ (d : Cochain p). d.row) xs (c ∷ []) ∙ ap (λ (zs : List (List (ℕ × ℕ))). zs ++ (c.row ∷ [])) r,
   subst (Each (λ (d : Cochain p). d.degree ≡ n)) (sym e) (each_append (λ (d : Cochain p). d.degree ≡ n) xs (c ∷ []) h (d, tt)),
 )
+
+-- ascending numbers from low to below count are no more than there are
+pub ascending_few : {X : Type 0} (f : X → ℕ) (count low : ℕ) (xs : List X) → Each (λ x. (low ≤ f x) × (f x < count)) xs → IsAscending (map f xs) → low ≤ count → low + length xs ≤ count
+ascending_few f count low [] h a b = omega arith
+ascending_few {X} f count low (x ∷ xs) h a b =
+    let later : Each (λ y. (f x + 1 ≤ f y) × (f y < count)) xs =
+    each_zip {P = λ (y : X). (low ≤ f y) × (f y < count)} {Q = λ (y : X). f x < f y} {S = λ (y : X). (f x + 1 ≤ f y) × (f y < count)}
+    (λ y c d. (omega arith, c.1)) xs h.1 (each_unmap (λ w. f x < w) f xs a.0) in
+    let first : low ≤ f x = h.0.0 in
+    let inside : f x < count = h.0.1 in
+    let rest = ascending_few f count (f x + 1) xs later a.1 (omega arith) in
+    omega (arith, rest)
 
 module _ (p : ℕ) (field : IsField p) (ls : List (List (List ℕ))) (complex : IsComplexIndex ls) (n : ℕ) (skip : List ℕ) (table : IsBoundTable p ls n skip)
     (rows : List (List (ℕ × ℕ))) (are : AllZip (IsCoboundaryRow p (level ls (n + 1))) (map value_in rows) (level ls n)) where
@@ -46,6 +62,12 @@ module _ (p : ℕ) (field : IsField p) (ls : List (List (List ℕ))) (complex : 
           placed = each_zip (λ c d b. (d, b)) classes degrees
               (each_unmap (IsBelow (length (level ls n))) (λ (c : Cochain p). c.row) classes
               (subst (Each (IsBelow (length (level ls n)))) (sym same) (subst (λ m. Each (IsBelow m) solutions) count solved.inside)));
+          few =
+              let kernel = ascending_few kernel_place (length rows) 0 solved.kernel solved.walked.kernel_places solved.walked.kernel_ascends (omega arith) in
+              let one = length_alike (λ (k : KernelVector) (r : List (ℕ × ℕ)). (x : ℕ) → Congruent p (value_in r x) (k.vector x)) solved.kernel solutions solved.vectors in
+              let two = sym (length-map classes (λ (c : Cochain p). c.row)) ∙ ap (λ (rs : List (List (ℕ × ℕ))). length rs) same in
+              let small = few_rows in
+              omega (arith, kernel, one, two, small);
           basis = λ facets is. subst (IsCanonicalBasis facets n p)
               (ap (λ (rs : List (List (ℕ × ℕ))). map (terms_of (level ls n)) rs) (sym same) ∙ map-map (terms_of (level ls n)) (λ (c : Cochain p). c.row) classes)
               (degree_basis facets ls is p field n rows are skip (table.places facets is) solutions owner solved_here);
@@ -114,7 +136,7 @@ bases_at facets ls n [] h k m e b = absurd (omega arith)
 bases_at {p} facets ls n (v ∷ vs) h zero m e b = subst (λ i. IsCanonicalBasis facets i p (chains_at (level ls n) v.items)) (let q : n ≡ m = omega arith in q) h.0
 bases_at facets ls n (v ∷ vs) h (suc k) m e b = bases_at facets ls (suc n) vs h.1 k m (omega arith) (omega arith)
 
-level_inside : (ls : List (List (List ℕ))) (n k : ℕ) → k < length (level ls n) → n < length ls
+pub level_inside : (ls : List (List (List ℕ))) (n k : ℕ) → k < length (level ls n) → n < length ls
 level_inside [] n k b = absurd (omega arith)
 level_inside (l ∷ ls) zero k b = omega arith
 level_inside (l ∷ ls) (suc n) k b = let c = level_inside ls n k b in omega arith

@@ -1,24 +1,23 @@
 -- The coordinates of a cocycle, by clearing it at the pivots of the coboundaries.
-use Rattle.std.proofs.Common.{◌≡◌, ℕ, zero, suc, ◌+◌, ◌*◌, ◌-◌, ◌%◌, ◌<◌, ◌≤◌, ◌≢◌, ◌⊎◌, List, [], ◌∷◌, ◌++◌, take, map, length, get_or, arith, refl, sym, ap, ap₂, subst, ◌∙◌, inl, inr, mod-eq_of_lt, add_comm, zero-add}
-use Rattle.std.specs.Prelude.{MatchOption, None, Option}
-use Rattle.std.specs.List.{AllZip}
-use Rattle.std.proofs.lemmas.Bool.{cases_lt}
+use Rattle.std.proofs.Common.{◌≡◌, ℕ, zero, suc, ◌+◌, ◌*◌, ◌-◌, ◌%◌, ◌<◌, ◌≤◌, ◌≢◌, List, [], ◌∷◌, ◌++◌, take, map, length, get_or, arith, refl, sym, ap, ap₂, subst, ◌∙◌, inl, inr, mod-eq_of_lt, add_comm, zero-add}
+use Rattle.std.specs.Prelude.{MatchOption, None, Option, ◌==◌, true}
+use Rattle.std.specs.List.{AllZip, list_all}
+use Rattle.std.proofs.Math.ListN.{length-map}
+use Rattle.std.proofs.lemmas.Bool.{and_from, and_parts, cases_lt, eq-eqb, eqb-true}
 use Rattle.std.proofs.lemmas.List.{take_more}
 use Rattle.linear_law.specs.Congruence.{Congruent, IsField, negated, sum_over}
-use Rattle.linear_law.specs.Lists.{Among, Each, IsAscending}
-use Rattle.linear_law.specs.ReducedBases.{AgreesOn, IsReduced, combination, expansion}
-use Rattle.linear_law.specs.Pivots.{IsLead}
-use Rattle.linear_law.specs.Triangular.{LeadsAt}
+use Rattle.linear_law.specs.Lists.{Each, IsAscending}
+use Rattle.linear_law.specs.ReducedBases.{IsReduced, combination, expansion}
 use native.Mathlib.Nat.{zero-mod}
-use Rattle.linear_law.proofs.AlikeLemmas.{length_alike, zip_right}
+use Rattle.linear_law.proofs.AlikeLemmas.{zip_right}
 use Rattle.linear_law.proofs.CongruenceLemmas.{Congruent_add, Congruent_from, Congruent_mod, Congruent_mul, Congruent_of, Congruent_refl, Congruent_scale, Congruent_sym, Congruent_trans, add-negated}
 use Rattle.linear_law.proofs.LeadLemmas.{zero_if}
-use Rattle.linear_law.proofs.ListLemmas.{each_among, each_get_or, each_itself, each_map, each_of_map, each_zip}
+use Rattle.linear_law.proofs.ListLemmas.{each_among, each_map, each_of_map, each_zip}
 use Rattle.linear_law.proofs.PivotLemmas.{one-nonzero, same_or_not}
 use Rattle.linear_law.proofs.ReducedLemmas.{expanded_in, sum_picks, sum_vanishes}
 use Rattle.simplicial_law.specs.Simplices.{IsInOrder, IsSimplex, Precedes}
 use Rattle.simplicial_law.specs.Cochains.{AgreesOnSimplices, Cochain, HasCoordinates, IsCoboundary, IsCocycle, coboundary}
-use Rattle.simplicial_law.specs.Canonical.{IsCanonicalClass, IsCanonicalCoboundary, IsCanonicalPrimitive, IsCoboundaryPivot, IsCocyclePivot}
+use Rattle.simplicial_law.specs.Canonical.{IsCanonicalClass, IsCanonicalPrimitive, IsCoboundaryPivot, IsCocyclePivot}
 use Rattle.simplicial_law.specs.CanonicalClasses.{IsCanonicalBasis, cochain_of}
 use Rattle.simplicial_law.specs.EliminatedDegrees.{cochain_at, terms_of}
 use Rattle.simplicial_law.proofs.Bases.{bounds_close, coboundaries, coboundary_plus, coboundary_same, coboundary_zero, cocycles}
@@ -32,10 +31,11 @@ use Rattle.complex_index.specs.Levels.{IsIndexOf, level}
 use Rattle.complex_index.specs.declared.indexed.Cochain.{Cochain as PlacedCochain}
 use Rattle.cohomology.specs.declared.data.Bound.{Bound}
 use Rattle.cohomology.specs.declared.data.DegreeData.{DegreeData}
-use Rattle.cohomology.specs.Classes.{ArePlaced, chains_at}
-use Rattle.cohomology.specs.Coordinates.{AreCoordinates, IsCleared, IsOpenAt, IsValueAtLead, bounds_sum, cochain_in, coboundary_at, primitives_sum, rest_in}
-use Rattle.cohomology.specs.Data.{AreBounds, AreDegreesFrom, IsBoundOf, IsCohomologyOf, IsDegreeData, IsPlacedBound, classes_in, pivot_in}
-use Rattle.cohomology.proofs.BoundLemmas.{row_agrees, row_by_place, zip_more}
+use Rattle.cohomology.specs.Classes.{ArePlaced, chains_at, cochain_in}
+use Rattle.cohomology.specs.Clearing.{IsCleared, IsValueAtLead, bounds_sum, primitives_sum}
+use Rattle.cohomology.specs.Coordinates.{AreCoordinates, IsNoCoboundary, IsOpenAt, IsPrimitiveOf, coboundary_at}
+use Rattle.cohomology.specs.Data.{AreBounds, IsBoundOf, IsCohomologyOf, IsPlacedBound, bounds_in, classes_in, pivot_in}
+use Rattle.cohomology.proofs.BoundLemmas.{below_of_zero, row_agrees, row_by_place, zip_more}
 
 -- ---- canonical classes at each other's pivots
 
@@ -96,23 +96,35 @@ same_small p f (x ∷ xs) (c ∷ cs) (d ∷ ds) u h k =
     ap₂ (λ a bs. a ∷ bs) (sym (mod-eq_of_lt u.0) ∙ sym h.0.same ∙ k.0.0.same ∙ mod-eq_of_lt k.0.1) (same_small p f xs cs ds u.1 h.1 k.1)
 
 -- a place with a value is among those of the row
-inside_row : (bound : ℕ) (row : List (ℕ × ℕ)) (k : ℕ) → IsBelow bound row → value_in row k ≢ 0 → k < bound
+pub inside_row : (bound : ℕ) (row : List (ℕ × ℕ)) (k : ℕ) → IsBelow bound row → value_in row k ≢ 0 → k < bound
 inside_row bound row k below m =
     elim (cases_lt k bound) [
       | inl b ↦ b
       | inr b ↦ absurd (m (value_in-none row k (each_map (λ e c f. absurd (omega arith)) row below)))
     ]
 
+-- z less the combination of the classes with these coefficients, by the row of z
+abbrev rest_of : {p : ℕ} → List (List (List ℕ)) → ℕ → List (PlacedCochain p) → List ℕ → List (ℕ × ℕ) → Cochain
+rest_of {p} ls n classes values z s = cochain_in ls n z s + negated p (combination values (map cochain_of (chains_at (level ls n) classes)) s)
+
+-- a row that is zero everywhere is empty
+empty_of_zero : (p : ℕ) (row : List (ℕ × ℕ)) → IsRow p row → ((x : ℕ) → Congruent p (value_in row x) 0) → row ≡ []
+empty_of_zero p row r h = go row (below_of_zero p 0 row r (λ x b. h x))
+  where
+    go : (es : List (ℕ × ℕ)) → IsBelow 0 es → es ≡ []
+    go [] b = refl
+    go (e ∷ es) b = absurd (let c = b.0 in omega arith)
+
 -- ---- one degree
 
 module _ (facets : List (List ℕ)) (ls : List (List (List ℕ))) (is : IsIndexOf facets ls) (p : ℕ) (field : IsField p) (n : ℕ)
     (classes : List (PlacedCochain p)) (placed : ArePlaced ls n classes) (basis : IsCanonicalBasis facets n p (chains_at (level ls n) classes))
     (bounds : List (Bound p)) (are : AreBounds p ls n bounds) where
-  value_here : (row : List (ℕ × ℕ)) (x : ℕ) → x < length (level ls n) → cochain_in ls n row (get_or (level ls n) x []) ≡ value_in row x
+  pub value_here : (row : List (ℕ × ℕ)) (x : ℕ) → x < length (level ls n) → cochain_in ls n row (get_or (level ls n) x []) ≡ value_in row x
   value_here row x b = row_by_place facets n p (level ls n) (is.lists n) row x b
 
   -- the least simplex of a class is its pivot
-  pivot_of_class : (row : List (ℕ × ℕ)) (k : ℕ) (s : List ℕ) → IsBelow (length (level ls n)) row → IsRow p row → IsFirst row k → k < length (level ls n)
+  pub pivot_of_class : (row : List (ℕ × ℕ)) (k : ℕ) (s : List ℕ) → IsBelow (length (level ls n)) row → IsRow p row → IsFirst row k → k < length (level ls n)
       → IsCanonicalClass facets n p s (cochain_of (terms_of (level ls n) row)) → get_or (level ls n) k [] ≡ s
   pivot_of_class row k s below r first b class =
       let agrees = row_agrees facets n p (level ls n) (is.lists n) row in
@@ -126,6 +138,37 @@ module _ (facets : List (List ℕ)) (ls : List (List (List ℕ))) (is : IsIndexO
         | inl e ↦ e
         | inr m ↦ absurd (nonzero ((Congruent_trans (Congruent_of (sym (value_here row k b))) (class.canonical.others (get_or (level ls n) k []) pivot m)).same ∙ zero-mod p))
       ]
+
+  -- a coboundary that is zero at the pivots of the coboundaries is zero
+  pub zero_at_pivots : (f : Cochain) → IsCoboundary facets n p f → Each (λ (b : Bound p). Congruent p (f (pivot_in (level ls n) b)) 0) bounds → AgreesOnSimplices facets n p f (λ s. 0)
+  zero_at_pivots f f_in f_zero =
+      let v : ℕ → ℕ = λ x. f (get_or (level ls n) x []) in
+      let same = agree_by_place facets n p (level ls n) (is.lists n) (cochain_at (level ls n) v) f (λ x b. Congruent_of (cochain_at-value facets n p (level ls n) (is.lists n) v x b)) in
+      let none = zero_if p (length (level ls n)) v
+      (λ t l.
+      let pivot : IsCoboundaryPivot facets n p (get_or (level ls n) t []) = record {
+        vector = cochain_at (level ls n) v;
+        member = (coboundaries facets n p field.large).alike (cochain_at (level ls n) v) f same f_in;
+        lead = lead_up facets n p (level ls n) (is.lists n) (is.in_order n) v t l;
+      } in
+      each_among (λ s. Congruent p (f s) 0) (get_or (level ls n) t []) (map (pivot_in (level ls n)) bounds)
+      (each_of_map (λ s. Congruent p (f s) 0) (pivot_in (level ls n)) bounds f_zero) (are.all facets (get_or (level ls n) t []) is pivot)) in
+      agree_by_place facets n p (level ls n) (is.lists n) f (λ s. 0) (λ x b. none.at x b)
+
+  -- classes are zero there
+  pub classes_zero : (b : Bound p) → IsBoundOf facets p ls n b → Each (λ zc. Congruent p (zc (pivot_in (level ls n) b)) 0) (map cochain_of (chains_at (level ls n) classes))
+  classes_zero b k =
+      let q = k.coboundary.pivot in
+      let closed_pivot : IsCocyclePivot facets n p (pivot_in (level ls n) b) = record { vector = q.vector; member = bounds_close facets n p field.large q.vector q.member; lead = q.lead } in
+      each_of_map (λ (zc : Cochain). Congruent p (zc (pivot_in (level ls n) b)) 0) cochain_of (chains_at (level ls n) classes)
+      (go basis.canonical.pivots (chains_at (level ls n) classes) basis.canonical.canonical closed_pivot q)
+    where
+      go : (ss : List (List ℕ)) (ts : List (List (ℕ × List ℕ))) → AllZip (λ s terms. IsCanonicalClass facets n p s (cochain_of terms)) ss ts → IsCocyclePivot facets n p (pivot_in (level ls n) b)
+          → IsCoboundaryPivot facets n p (pivot_in (level ls n) b) → Each (λ terms. Congruent p (cochain_of terms (pivot_in (level ls n) b)) 0) ts
+      go [] [] h c q = tt
+      go [] (t ∷ ts) h c q = elim h [ ]
+      go (s ∷ ss) [] h c q = elim h [ ]
+      go (s ∷ ss) (t ∷ ts) h c q = (h.0.canonical.others (pivot_in (level ls n) b) c (λ e. h.0.no_bound (subst (IsCoboundaryPivot facets n p) e q)), go ss ts h.1 c q)
 
   -- ---- the coboundaries by places are reduced
 
@@ -150,7 +193,7 @@ module _ (facets : List (List ℕ)) (ls : List (List (List ℕ))) (is : IsIndexO
         rest cs i.1 l.1 w.1,
       )
 
-  reduced_here : IsReduced p (λ (b : Bound p). b.pivot) (λ b. value_in b.bound.row) bounds
+  pub reduced_here : IsReduced p (λ (b : Bound p). b.pivot) (λ b. value_in b.bound.row) bounds
   reduced_here = reduced_from bounds are.placed (are.each facets is) are.ascends
 
   -- ---- the part of a cochain in the coboundaries
@@ -214,20 +257,6 @@ module _ (facets : List (List ℕ)) (ls : List (List (List ℕ))) (is : IsIndexO
             (record { at = λ s on. Congruent_from (rest_agrees.at s on) (omega arith) })
             (in_b.plus (p - 1) d part found_are.rest part_in)
 
-        classes_zero : (b : Bound p) → IsBoundOf facets p ls n b → Each (λ zc. Congruent p (zc (pivot_in (level ls n) b)) 0) (map cochain_of (chains_at (level ls n) classes))
-        classes_zero b k =
-            let q = k.coboundary.pivot in
-            let closed_pivot : IsCocyclePivot facets n p (pivot_in (level ls n) b) = record { vector = q.vector; member = bounds_close facets n p field.large q.vector q.member; lead = q.lead } in
-            each_of_map (λ (zc : Cochain). Congruent p (zc (pivot_in (level ls n) b)) 0) cochain_of (chains_at (level ls n) classes)
-            (go basis.canonical.pivots (chains_at (level ls n) classes) basis.canonical.canonical closed_pivot q)
-          where
-            go : (ss : List (List ℕ)) (ts : List (List (ℕ × List ℕ))) → AllZip (λ s terms. IsCanonicalClass facets n p s (cochain_of terms)) ss ts → IsCocyclePivot facets n p (pivot_in (level ls n) b)
-                → IsCoboundaryPivot facets n p (pivot_in (level ls n) b) → Each (λ terms. Congruent p (cochain_of terms (pivot_in (level ls n) b)) 0) ts
-            go [] [] h c q = tt
-            go [] (t ∷ ts) h c q = elim h [ ]
-            go (s ∷ ss) [] h c q = elim h [ ]
-            go (s ∷ ss) (t ∷ ts) h c q = (h.0.canonical.others (pivot_in (level ls n) b) c (λ e. h.0.no_bound (subst (IsCoboundaryPivot facets n p) e q)), go ss ts h.1 c q)
-
         left_zero : Each (λ (b : Bound p). Congruent p (left (pivot_in (level ls n) b)) 0) bounds
         unfolding left
         left_zero =
@@ -236,19 +265,7 @@ module _ (facets : List (List ℕ)) (ls : List (List (List ℕ))) (is : IsIndexO
             bounds rest_zero (are.each facets is)
 
         left_none : AgreesOnSimplices facets n p left (λ s. 0)
-        left_none =
-            let v : ℕ → ℕ = λ x. left (get_or (level ls n) x []) in
-            let same = agree_by_place facets n p (level ls n) (is.lists n) (cochain_at (level ls n) v) left (λ x b. Congruent_of (cochain_at-value facets n p (level ls n) (is.lists n) v x b)) in
-            let none = zero_if p (length (level ls n)) v
-            (λ t l.
-            let pivot : IsCoboundaryPivot facets n p (get_or (level ls n) t []) = record {
-              vector = cochain_at (level ls n) v;
-              member = (coboundaries facets n p field.large).alike (cochain_at (level ls n) v) left same left_in;
-              lead = lead_up facets n p (level ls n) (is.lists n) (is.in_order n) v t l;
-            } in
-            each_among (λ s. Congruent p (left s) 0) (get_or (level ls n) t []) (map (pivot_in (level ls n)) bounds)
-            (each_of_map (λ s. Congruent p (left s) 0) (pivot_in (level ls n)) bounds left_zero) (are.all facets (get_or (level ls n) t []) is pivot)) in
-            agree_by_place facets n p (level ls n) (is.lists n) left (λ s. 0) (λ x b. none.at x b)
+        left_none = zero_at_pivots left left_in left_zero
 
         left_same : AgreesOnSimplices facets n p (cochain_in ls n w) (combination found_list (map cochain_of (chains_at (level ls n) classes)))
         unfolding left
@@ -289,7 +306,7 @@ module _ (facets : List (List ℕ)) (ls : List (List (List ℕ))) (is : IsIndexO
               basis.canonical.in_order size)
               (values_at basis.canonical.pivots classes values basis.canonical.canonical placed at_leads)
 
-          rest_is : AgreesOnSimplices facets n p (rest_in ls n classes values z) part
+          rest_is : AgreesOnSimplices facets n p (rest_of ls n classes values z) part
           rest_is = record {
             at = λ s on.
                 let c = combination found_list (map cochain_of (chains_at (level ls n) classes)) s in
@@ -340,7 +357,7 @@ module _ (facets : List (List ℕ)) (ls : List (List (List ℕ))) (is : IsIndexO
                   agree_by_place facets m p (level ls m) (is.lists m) (cochain_in ls m y) (low bounds)
                   (λ x b. Congruent_trans (Congruent_of (row_by_place facets m p (level ls m) (is.lists m) y x b)) (Congruent_trans (y_is x) (Congruent_of (sym (low_value x b)))))
 
-              primitive_here : IsCanonicalPrimitive facets m p (rest_in ls n classes values z) (cochain_in ls m y)
+              pub primitive_here : IsCanonicalPrimitive facets m p (rest_of ls n classes values z) (cochain_in ls m y)
               unfolding part low
               primitive_here = record {
                 same = record {
@@ -353,20 +370,37 @@ module _ (facets : List (List ℕ)) (ls : List (List (List ℕ))) (is : IsIndexO
                     (sum_vanishes p (pivot_in (level ls n)) (λ (b : Bound p). cochain_in ls m b.below.row) (λ (b : Bound p). cochain_in ls n z (pivot_in (level ls n) b)) s bounds (each_map (λ b k. k.vanishes s q) bounds primitive_at));
               }
 
-            nothing_in_zero : n ≡ 0 → (x : ℕ) → Congruent p (value_in y x) 0
-            nothing_in_zero e x = Congruent_trans (y_is x) (Congruent_of (go bounds (are.each facets is)))
+            bounds_none : n ≡ 0 → bounds ≡ []
+            bounds_none e = go bounds (are.each facets is)
               where
-                go : (bs : List (Bound p)) → Each (IsBoundOf facets p ls n) bs → sum_over (λ (b : Bound p). value_in z b.pivot * value_in b.below.row x) bs ≡ 0
+                go : (bs : List (Bound p)) → Each (IsBoundOf facets p ls n) bs → bs ≡ []
                 go [] h = refl
                 go (b ∷ bs) h = absurd (no_bounds facets p (pivot_in (level ls n) b) (subst (λ i. IsCoboundaryPivot facets i p (pivot_in (level ls n) b)) e h.0.coboundary.pivot))
 
-            pub are_coordinates : AreCoordinates facets p ls n classes z values y
-            are_coordinates = record {
-              closed = closed;
-              coordinates = subst (HasCoordinates facets n p (map cochain_of (chains_at (level ls n) classes)) (cochain_in ls n z)) coordinates_are found_are;
-              primitive_of = primitive_here;
-              none = nothing_in_zero;
+            pub primitive_none : n ≡ 0 → (x : ℕ) → Congruent p (value_in y x) 0
+            primitive_none e x = Congruent_trans (y_is x) (Congruent_of (ap (λ (bs : List (Bound p)). primitives_sum bs z x) (bounds_none e)))
+
+            pub rest_none : n ≡ 0 → AgreesOnSimplices facets 0 p (rest_of ls n classes values z) (λ s. 0)
+            unfolding part
+            rest_none e = record {
+              at = λ s on.
+                  Congruent_trans (rest_is.at s (subst (λ i. IsSimplex facets i s) (sym e) on))
+                  (Congruent_of (ap (λ (bs : List (Bound p)). expansion (pivot_in (level ls n)) (λ (b : Bound p). cochain_in ls n b.bound.row) bs (cochain_in ls n z) s) (bounds_none e)));
             }
+
+            pub coordinates_here : HasCoordinates facets n p (map cochain_of (chains_at (level ls n) classes)) (cochain_in ls n z) values
+            coordinates_here = subst (HasCoordinates facets n p (map cochain_of (chains_at (level ls n) classes)) (cochain_in ls n z)) coordinates_are found_are
+
+-- the primitives have their places one degree below
+primitive_below : (p : ℕ) (ls : List (List (List ℕ))) (n : ℕ) (bounds : List (Bound p)) (z y : List (ℕ × ℕ)) → Each (IsPlacedBound p ls n) bounds → IsRow p y
+    → ((x : ℕ) → Congruent p (value_in y x) (primitives_sum bounds z x)) → IsBelow (length (level ls (n - 1))) y
+primitive_below p ls n bounds z y placed row h = below_of_zero p (length (level ls (n - 1))) y row (λ x b. Congruent_trans (h x) (Congruent_of (go x b bounds placed)))
+  where
+    go : (x : ℕ) → length (level ls (n - 1)) ≤ x → (bs : List (Bound p)) → Each (IsPlacedBound p ls n) bs → primitives_sum bs z x ≡ 0
+    go x b [] k = refl
+    go x b (c ∷ cs) k =
+        let none : value_in c.below.row x ≡ 0 = value_in-none c.below.row x (each_map (λ e i f. absurd (omega arith)) c.below.row k.0.places_below) in
+        ap₂ (λ v w. value_in z c.pivot * v + w) none (go x b cs k.1) ∙ omega arith
 
 -- ---- the steps of the code
 
@@ -410,37 +444,105 @@ open_found p ls n low row place value h first e small =
       least = λ j less. Congruent_trans (Congruent_sym (h.values j (omega arith))) (Congruent_of (first.least j less));
     }
 
--- the data of one degree
-pub data_at : (p : ℕ) (ls : List (List (List ℕ))) (n : ℕ) (ds : List (DegreeData p)) → AreDegreesFrom p ls n ds → (k m : ℕ) (d : DegreeData p) → n + k ≡ m → k < length ds → d ≡ get_or ds k d → IsDegreeData p ls m d
-data_at p ls n [] h k m d e b f = absurd (omega arith)
-data_at p ls n (c ∷ ds) h zero m d e b f = subst (IsDegreeData p ls m) (sym f) (subst (λ i. IsDegreeData p ls i c) (let q : n ≡ m = omega arith in q) h.0)
-data_at p ls n (c ∷ ds) h (suc k) m d e b f = data_at p ls (suc n) ds h.1 k m d (omega arith) (omega arith) f
+pub coordinates_made : (p : ℕ) (field : IsField p) (ls : List (List (List ℕ))) (ds : List (DegreeData p)) (z : PlacedCochain p) (values : List ℕ) (y : PlacedCochain p) (classes : List (PlacedCochain p)) (bounds : List (Bound p)) → IsCohomologyOf p ls ds
+    → classes ≡ classes_in ds z.degree → bounds ≡ bounds_in ds z.degree → ((j : ℕ) → j < length (level ls (z.degree + 1)) → Congruent p (coboundary_at p ls z.degree z.row j) 0) → IsCleared p classes bounds z.row values y.row
+    → y.degree ≡ z.degree - 1 → AreCoordinates p ls (classes_in ds z.degree) z values y
+coordinates_made p field ls ds z values y classes bounds whole e f closed given degree =
+    let n = z.degree in
+    let cs = classes_in ds n in
+    let bs = bounds_in ds n in
+    let made : IsCleared p cs bs z.row values y.row =
+    subst (λ (qs : List (PlacedCochain p)). IsCleared p qs bs z.row values y.row) e (subst (λ (qs : List (Bound p)). IsCleared p classes qs z.row values y.row) f given) in
+    let found = whole.each n in
+    let cocycle : (facets : List (List ℕ)) (is : IsIndexOf facets ls) → IsCocycle facets n p (cochain_in ls n z.row) =
+    λ facets is. agree_by_place facets (n + 1) p (level ls (n + 1)) (is.lists (n + 1)) (coboundary p (cochain_in ls n z.row)) (λ s. 0) closed in
+    record {
+      closed = cocycle;
+      coordinates = λ facets is.
+          coordinates_here facets ls is p field n cs found.placed (found.basis facets is) bs found.coboundaries z.row made.rest made.rest_is (cocycle facets is) values made.values_are y.row made.primitive_is;
+      primitive_of = record {
+        degree = degree;
+        places = primitive_below p ls n bs z.row y.row found.coboundaries.placed made.row_is made.primitive_is;
+        canonical = λ facets is b.
+            primitive_here facets ls is p field n cs found.placed (found.basis facets is) bs found.coboundaries z.row made.rest made.rest_is (cocycle facets is) values made.values_are y.row made.primitive_is
+            (n - 1) (omega (arith, b));
+        zero = λ facets is e.
+            let none = rest_none facets ls is p field n cs found.placed (found.basis facets is) bs found.coboundaries z.row made.rest made.rest_is (cocycle facets is) values made.values_are y.row made.primitive_is e in
+            let empty = primitive_none facets ls is p field n cs found.placed (found.basis facets is) bs found.coboundaries z.row made.rest made.rest_is (cocycle facets is) values made.values_are y.row made.primitive_is e in
+            (none, empty_of_zero p y.row made.row_is empty);
+      };
+    }
 
-pub classes_at_degree : (p : ℕ) (ds : List (DegreeData p)) (k : ℕ) (d : DegreeData p) → k < length ds → d ≡ get_or ds k d → d.classes.items ≡ classes_in ds k
-classes_at_degree p [] k d b f = absurd (omega arith)
-classes_at_degree p (c ∷ ds) zero d b f = ap (λ (e : DegreeData p). e.classes.items) f
-classes_at_degree p (c ∷ ds) (suc k) d b f = classes_at_degree p ds k d (omega arith) f
-
-pub coordinates_made : (p : ℕ) (field : IsField p) (ls : List (List (List ℕ))) (n : ℕ) (d : DegreeData p) (ds : List (DegreeData p)) (z : List (ℕ × ℕ)) (values : List ℕ) (y : List (ℕ × ℕ)) → IsCohomologyOf p ls ds → n < length ds → d ≡ get_or ds n d
-    → ((j : ℕ) → j < length (level ls (n + 1)) → Congruent p (coboundary_at p ls n z j) 0) → IsCleared p d z values y
-    → (facets : List (List ℕ)) → IsIndexOf facets ls → AreCoordinates facets p ls n (classes_in ds n) z values y
-coordinates_made p field ls n d ds z values y whole b e closed made facets is =
-    let found = data_at p ls 0 ds whole.each n n d (omega arith) b e in
-    subst (λ (cs : List (PlacedCochain p)). AreCoordinates facets p ls n cs z values y) (classes_at_degree p ds n d b e)
-    (are_coordinates facets ls is p field n d.classes.items found.placed (found.basis facets is) d.bounds.items found.bounds z made.rest made.rest_is
-    (agree_by_place facets (n + 1) p (level ls (n + 1)) (is.lists (n + 1)) (coboundary p (cochain_in ls n z)) (λ s. 0) closed)
-    values made.values_are y made.primitive_is)
-
-pub cleared_made : (p : ℕ) (d : DegreeData p) (z copied rest empty primitive : List (ℕ × ℕ)) (bs : List (Bound p)) (cs : List (PlacedCochain p)) (values : List ℕ) → copied ≡ z → empty ≡ [] → bs ≡ d.bounds.items → cs ≡ d.classes.items
+pub cleared_made : (p : ℕ) (z copied rest empty primitive : List (ℕ × ℕ)) (bs : List (Bound p)) (cs : List (PlacedCochain p)) (values : List ℕ) → copied ≡ z → empty ≡ [] → IsRow p primitive
     → ((x : ℕ) → Congruent p (value_in rest x) (value_in copied x + negated p (bounds_sum bs z x)))
     → ((x : ℕ) → Congruent p (value_in primitive x) (value_in empty x + primitives_sum bs z x))
-    → AllZip (λ (c : PlacedCochain p) v. IsValueAtLead p rest c.row v) cs values → IsCleared p d z values primitive
-cleared_made p d z copied rest empty primitive bs cs values e f h k r q v = record {
+    → AllZip (λ (c : PlacedCochain p) v. IsValueAtLead p rest c.row v) cs values → IsCleared p cs bs z values primitive
+cleared_made p z copied rest empty primitive bs cs values e f row r q v = record {
   rest = rest;
-  rest_is = λ x. Congruent_trans (r x) (Congruent_of (ap₂ (λ (row : List (ℕ × ℕ)) (ds : List (Bound p)). value_in row x + negated p (bounds_sum ds z x)) e h));
-  primitive_is = λ x. Congruent_trans (q x) (Congruent_of (ap₂ (λ (row : List (ℕ × ℕ)) (ds : List (Bound p)). value_in row x + primitives_sum ds z x) f h ∙ zero-add (primitives_sum d.bounds.items z x)));
-  values_are = subst (λ (ds : List (PlacedCochain p)). AllZip (λ (c : PlacedCochain p) u. IsValueAtLead p rest c.row u) ds values) k v;
+  rest_is = λ x. Congruent_trans (r x) (Congruent_of (ap (λ (o : List (ℕ × ℕ)). value_in o x + negated p (bounds_sum bs z x)) e));
+  primitive_is = λ x. Congruent_trans (q x) (Congruent_of (ap (λ (o : List (ℕ × ℕ)). value_in o x + primitives_sum bs z x) f ∙ zero-add (primitives_sum bs z x)));
+  row_is = row;
+  values_are = v;
 }
 
 pub none_case : {X : Type 0} (o : Option X) (A : Type 0) (B : X → Type 0) → o ≡ None → MatchOption o A B → A
 none_case {X} o A B e h = subst (λ (q : Option X). MatchOption q A B) e h
+
+-- ---- which cochains are coboundaries
+
+combination_zero : (cs : List ℕ) (zs : List Cochain) (s : List ℕ) → Each (λ c. c ≡ 0) cs → combination cs zs s ≡ 0
+combination_zero [] zs s h = refl
+combination_zero (c ∷ cs) [] s h = refl
+combination_zero (c ∷ cs) (z ∷ zs) s h = ap₂ (λ a b. a * z s + b) h.0 (combination_zero cs zs s h.1) ∙ omega arith
+
+less_none : (p : ℕ) (z : Cochain) (cs : List ℕ) (ws : List Cochain) → Each (λ c. c ≡ 0) cs → (λ s. z s + negated p (combination cs ws s)) ≡ z
+less_none p z cs ws h = λ i s. here s i
+  where
+    here : (s : List ℕ) → z s + (p - 1) * combination cs ws s ≡ z s
+    here s = let e : z s + (p - 1) * 0 ≡ z s = omega arith in ap (λ v. z s + (p - 1) * v) (combination_zero cs ws s h) ∙ e
+
+pub all_zero : (vs : List ℕ) → list_all (λ v. v == 0) vs ≡ true → Each (λ (v : ℕ). v ≡ 0) vs
+all_zero [] e = tt
+all_zero (v ∷ vs) e = let parts = and_parts (v == 0) (list_all (λ v. v == 0) vs) e in (eqb-true v 0 parts.0, all_zero vs parts.1)
+
+pub zero_all : (vs : List ℕ) → Each (λ (v : ℕ). v ≡ 0) vs → list_all (λ v. v == 0) vs ≡ true
+zero_all [] h = refl
+zero_all (v ∷ vs) h = and_from (v == 0) (list_all (λ v. v == 0) vs) (eq-eqb v 0 h.0) (zero_all vs h.1)
+
+-- where all coordinates are 0, the rest is all
+pub primitive_whole : (p : ℕ) (ls : List (List (List ℕ))) (classes : List (PlacedCochain p)) (z : PlacedCochain p) (values : List ℕ) (y : PlacedCochain p) → Each (λ v. v ≡ 0) values → AreCoordinates p ls classes z values y
+    → IsPrimitiveOf p ls z.degree (cochain_in ls z.degree z.row) y
+primitive_whole p ls classes z values y h are =
+    subst (λ (f : Cochain). IsPrimitiveOf p ls z.degree f y) (less_none p (cochain_in ls z.degree z.row) values (map cochain_of (chains_at (level ls z.degree) classes)) h) are.primitive_of
+
+zeros : List Cochain → List ℕ
+zeros zs = map (λ z. 0) zs
+
+-- a coboundary has no other coordinates than 0
+pub coordinate_shows : (p : ℕ) → IsField p → (ls : List (List (List ℕ))) (ds : List (DegreeData p)) (z : PlacedCochain p) (values : List ℕ) (y : PlacedCochain p) → IsCohomologyOf p ls ds → (Each (λ v. v ≡ 0) values → ⊥)
+    → AreCoordinates p ls (classes_in ds z.degree) z values y → IsNoCoboundary p ls z.degree (cochain_in ls z.degree z.row)
+unfolding zeros
+coordinate_shows p field ls ds z values y whole some are = λ facets is b.
+    let f : Cochain = cochain_in ls z.degree z.row in
+    let zs : List Cochain = map cochain_of (chains_at (level ls z.degree) (classes_in ds z.degree)) in
+    let none : HasCoordinates facets z.degree p zs f (zeros zs) = record {
+      count = length-map zs (λ (w : Cochain). zero);
+      small = each_of_map (λ (c : ℕ). c < p) (λ (w : Cochain). 0) zs (all zs);
+      rest = subst (IsCoboundary facets z.degree p) (sym (less_none p f (zeros zs) zs (each_of_map (λ (c : ℕ). c ≡ 0) (λ (w : Cochain). 0) zs (each zs)))) b;
+    } in
+    some (subst (Each (λ (v : ℕ). v ≡ 0)) (sym (((whole.each z.degree).basis facets is).basis.only f values (zeros zs) (are.closed facets is) (are.coordinates facets is) none)) (each_of_map (λ (c : ℕ). c ≡ 0) (λ (w : Cochain). 0) zs (each zs)))
+  where
+    each : (ws : List Cochain) → Each (λ (w : Cochain). zero ≡ zero) ws
+    each [] = tt
+    each (w ∷ ws) = (refl, each ws)
+
+    all : (ws : List Cochain) → Each (λ (w : Cochain). 0 < p) ws
+    all [] = tt
+    all (w ∷ ws) = (let l = field.large in omega arith, all ws)
+
+-- a coboundary is closed
+pub open_shows : (p : ℕ) → IsField p → (ls : List (List (List ℕ))) (n : ℕ) (row : List (ℕ × ℕ)) (place value : ℕ) → IsOpenAt p ls n row place value → IsNoCoboundary p ls n (cochain_in ls n row)
+open_shows p field ls n row place value open_at = λ facets is b.
+    let closed = bounds_close facets n p field.large (cochain_in ls n row) b in
+    let zero = Congruent_trans open_at.value_is (closed.at (get_or (level ls (n + 1)) place []) (simplex_at facets (n + 1) p (level ls (n + 1)) (is.lists (n + 1)) place open_at.inside)) in
+    open_at.nonzero (sym (mod-eq_of_lt open_at.small) ∙ zero.same ∙ zero-mod p)

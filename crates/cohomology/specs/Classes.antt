@@ -1,14 +1,18 @@
--- Classes by degree, as rows by place.
+-- Cochains by degree, as rows by place, and the classes of a complex.
 use Rattle.std.specs.Prelude.{◌≡◌, ℕ, ◌+◌, ◌^◌, ◌<◌, suc, List, [], ◌∷◌, map, length, Vec}
 use Rattle.std.specs.declared.alloc.Global.{Global}
 use Rattle.linear_law.specs.Lists.{Each}
-use Rattle.simplicial_law.specs.Cochains.{Chain}
-use Rattle.simplicial_law.specs.CanonicalClasses.{IsCanonicalBasis}
+use Rattle.simplicial_law.specs.Cochains.{Chain, Cochain as SimplexCochain}
+use Rattle.simplicial_law.specs.CanonicalClasses.{IsCanonicalBasis, cochain_of}
 use Rattle.simplicial_law.specs.EliminatedDegrees.{AreBoundPlaces, terms_of}
 use Rattle.sparse_rows.specs.Rows.{IsBelow}
 use Rattle.complex_index.specs.declared.indexed.Cochain.{Cochain}
 use Rattle.complex_index.specs.Levels.{IsIndexOf, level}
 use Rattle.row_reduce.specs.Walk.{owned_in}
+
+-- the cochain of degree n with this row
+abbrev pub cochain_in : List (List (List ℕ)) → ℕ → List (ℕ × ℕ) → SimplexCochain
+cochain_in levels n row = cochain_of (terms_of (level levels n) row)
 
 -- the terms of each class of one degree: the simplices `here` at its places, with its values
 abbrev pub chains_at : {p : ℕ} → List (List ℕ) → List (Cochain p) → List Chain
@@ -42,5 +46,6 @@ pub record IsBoundTable (p : ℕ) (levels : List (List (List ℕ))) (n : ℕ) (b
 -- the classes are its canonical classes, and a place is bound where a coboundary has its pivot there.
 pub record AreClassesOf (p : ℕ) (levels : List (List (List ℕ))) (n : ℕ) (classes : List (Cochain p)) (bound : List ℕ) : Type 0 where
   pub placed : ArePlaced levels n classes
+  pub few : length classes < 2 ^ 32
   pub basis : (facets : List (List ℕ)) → IsIndexOf facets levels → IsCanonicalBasis facets n p (chains_at (level levels n) classes)
   pub next : IsBoundTable p levels (n + 1) bound

@@ -1,4 +1,6 @@
 pub mod Classes
 pub mod Data
 pub mod Coordinates
+pub mod Clearing
+pub mod Cycles
 pub mod Refused

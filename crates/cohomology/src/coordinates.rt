@@ -1,12 +1,14 @@
-ghost use Rattle.std.specs.Prelude.{◌≡◌, ℕ, ◌+◌, ◌*◌, ◌-◌, ◌≤◌, ◌<◌, ◌^◌, List, [], length, IfOk, IsTrue, MatchOption, MatchResult, OnOk};
-ghost use Rattle.std.specs.List.{AllZip};
+ghost use Rattle.std.specs.Prelude.{◌≡◌, ◌==◌, ℕ, ◌+◌, ◌*◌, ◌-◌, ◌≤◌, ◌<◌, [], length, IfOk, IsTrue, MatchOption, MatchResult, OnOk};
+ghost use Rattle.std.specs.List.{AllZip, list_all};
 ghost use Rattle.linear_law.specs.Congruence.{Congruent, negated};
 ghost use Rattle.fp_field.specs.Served.{served};
 ghost use Rattle.sparse_rows.specs.Rows.{IsBelow, value_in};
-ghost use Rattle.complex_index.specs.Levels.{IsIndexOf, level};
-ghost use Rattle.cohomology.specs.Coordinates.{AreCoordinates, IsCleared, IsOpenAt, IsValueAtLead, bounds_sum, coboundary_at, primitives_sum};
+ghost use Rattle.complex_index.specs.Levels.{level};
+ghost use Rattle.cohomology.specs.Classes.{cochain_in};
+ghost use Rattle.cohomology.specs.Clearing.{IsCleared, IsValueAtLead, bounds_sum, primitives_sum};
+ghost use Rattle.cohomology.specs.Coordinates.{AreCoordinates, IsNoCoboundary, IsOpenAt, IsPrimitiveOf, coboundary_at};
 
-use crate::data::{Bound, Cohomology, DegreeData};
+use crate::data::{Bound, Cohomology};
 use complex_index::{Cochain, Indexed};
 use fp_field::Fp;
 use sparse_rows::Row;
@@ -126,22 +128,20 @@ impl From<AllocError> for CoordinatesRefused {
 /// The coordinates of a cocycle, from the data of its degree.
 fn cleared<const P: u32>(
     alloc: Global,
-    data: &DegreeData<P>,
+    classes: &[Cochain<P>],
+    bounds: &[Bound<P>],
     cochain: &Cochain<P>,
 ) -> Result<Coordinates<P>, AllocError>
     requires { IsTrue (served P) }
-    ensures made { IfOk result (λ c. IsCleared P data.now cochain.now.row c.values.items c.primitive.row) }
+    ensures made { IfOk result (λ c. IsCleared P classes.now bounds.now cochain.now.row c.values.items c.primitive.row) }
     ensures degree { IfOk result (λ c. c.primitive.degree ≡ cochain.now.degree - 1) }
 {
     let mut rest = cochain.row.copy()?;
     let mut primitive = Row::new(alloc);
-    take_bounds(
-        &cochain.row,
-        data.bounds.as_slice(),
-        &mut rest,
-        &mut primitive,
-    )?;
-    let values = values_at_leads(alloc, &rest, data.classes.as_slice())?;
+    take_bounds(&cochain.row, bounds, &mut rest, &mut primitive)?;
+    let values = values_at_leads(alloc, &rest, classes)?;
+    // The slice shows that the primitive is a row: a pair stands only where its value is not 0.
+    let _ = primitive.as_slice();
     Ok(Coordinates {
         values,
         primitive: Cochain {
@@ -151,10 +151,23 @@ fn cleared<const P: u32>(
     })
 }
 
+/// Whether all values are 0.
+fn are_zero<const P: u32>(values: &[Fp<P>]) -> bool
+    ensures { result ≡ list_all (λ v. v == 0) values.now }
+{
+    values.iter().all(
+        |value: &Fp<P>| -> bool
+            ensures { result ≡ (value.now == 0) }
+        { value.is_zero() },
+    )
+}
+
 impl<const P: u32> Cohomology<P> {
     /// The coordinates of a cocycle for the canonical classes of its degree, with the canonical primitive
-    /// of the rest. `NotClosed` comes exactly where the coboundary is not zero, with the least simplex
-    /// where it is not and its value there. The index is the one that the data were made from.
+    /// of the rest: what is left without the classes. `NotClosed` comes exactly where the coboundary is not
+    /// zero, with the least simplex where it is not and its value there. The index is the one that the data
+    /// were made from. The primitive has its places in range of its degree. Past the dimension there are no
+    /// classes, and the primitive is zero.
     pub fn coordinates(
         &self,
         alloc: Global,
@@ -162,19 +175,46 @@ impl<const P: u32> Cohomology<P> {
         cochain: &Cochain<P>,
     ) -> Result<Coordinates<P>, CoordinatesRefused>
         requires prime { IsTrue (served P) }
-        requires data { IsCohomologyOf P index.now self.now.degrees.items }
+        requires data { IsCohomologyOf P index.now self.now }
         requires low { cochain.now.degree ≤ 255 }
-        requires degree { cochain.now.degree < length index.now }
         requires inside { IsBelow (length (level index.now cochain.now.degree)) cochain.now.row }
-        ensures coordinates { MatchResult result (λ c. (facets : List (List ℕ)) → IsIndexOf facets index.now → AreCoordinates facets P index.now cochain.now.degree (classes_in self.now.degrees.items cochain.now.degree) cochain.now.row c.values.items c.primitive.row) (RefusesCoordinates P index.now cochain.now.degree cochain.now.row) }
-        ensures degree { IfOk result (λ c. c.primitive.degree ≡ cochain.now.degree - 1) }
+        ensures { MatchResult result (λ c. AreCoordinates P index.now (classes_in self.now cochain.now.degree) cochain.now c.values.items c.primitive) (RefusesCoordinates index.now cochain.now) }
     {
         match open_at(alloc, index, cochain)? {
             Some((place, value)) => Err(CoordinatesRefused::NotClosed { place, value }),
             None => {
-                let found = cleared(alloc, &self.degrees[cochain.degree as usize], cochain)?;
-                Ok(found)
+                let classes = self.classes_in(cochain.degree);
+                let bounds = self.bounds_in(cochain.degree);
+                Ok(cleared(alloc, classes, bounds, cochain)?)
             }
+        }
+    }
+
+    /// The canonical primitive of a coboundary: the one cochain below with this coboundary that vanishes at
+    /// the pivots of the cocycles. `None` comes exactly where the cochain is no coboundary. In degree 0 the
+    /// one coboundary is zero, and its primitive is zero, of degree 0. The index is the one that the data
+    /// were made from. The primitive has its places in range of its degree.
+    pub fn primitive(
+        &self,
+        alloc: Global,
+        index: &Indexed,
+        cochain: &Cochain<P>,
+    ) -> Result<Option<Cochain<P>>, AllocError>
+        requires prime { IsTrue (served P) }
+        requires data { IsCohomologyOf P index.now self.now }
+        requires low { cochain.now.degree ≤ 255 }
+        requires inside { IsBelow (length (level index.now cochain.now.degree)) cochain.now.row }
+        ensures { IfOk result (λ o. MatchOption o (IsNoCoboundary P index.now cochain.now.degree (cochain_in index.now cochain.now.degree cochain.now.row)) (λ y. IsPrimitiveOf P index.now cochain.now.degree (cochain_in index.now cochain.now.degree cochain.now.row) y)) }
+    {
+        let found = match self.coordinates(alloc, index, cochain) {
+            Ok(found) => found,
+            Err(CoordinatesRefused::NotClosed { .. }) => return Ok(None),
+            Err(CoordinatesRefused::OutOfMemory) => return Err(AllocError),
+        };
+        if are_zero(&found.values) {
+            Ok(Some(found.primitive))
+        } else {
+            Ok(None)
         }
     }
 }

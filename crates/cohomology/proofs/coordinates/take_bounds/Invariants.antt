@@ -1,7 +1,7 @@
 use Rattle.std.proofs.Common.{ℕ, ◌+◌, take}
 use Rattle.linear_law.specs.Congruence.{Congruent, negated}
 use Rattle.sparse_rows.specs.Rows.{value_in}
-use Rattle.cohomology.specs.Coordinates.{bounds_sum, primitives_sum}
+use Rattle.cohomology.specs.Clearing.{bounds_sum, primitives_sum}
 use Rattle.cohomology.proofs.coordinates.take_bounds.Given as goal
 
 abbrev pub invariant-loop-bound : goal.invariant-loop-bound

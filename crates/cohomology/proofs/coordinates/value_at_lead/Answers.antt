@@ -1,5 +1,4 @@
 use Rattle.std.proofs.Common.{◌≡◌, ◌<◌, ◌∙◌, arith, mod-eq_of_lt}
-use Rattle.sparse_rows.specs.Rows.{value_in}
 use Rattle.cohomology.proofs.CoordinateLemmas.{value_found}
 use Rattle.cohomology.proofs.coordinates.value_at_lead.Goals as goal
 

@@ -1,7 +1,7 @@
 use Rattle.std.proofs.Common.{ℕ, take}
 use Rattle.std.specs.List.{AllZip}
 use Rattle.complex_index.specs.declared.indexed.Cochain.{Cochain}
-use Rattle.cohomology.specs.Coordinates.{IsValueAtLead}
+use Rattle.cohomology.specs.Clearing.{IsValueAtLead}
 use Rattle.cohomology.proofs.coordinates.values_at_leads.Given as goal
 
 abbrev pub invariant-loop-class : goal.invariant-loop-class
