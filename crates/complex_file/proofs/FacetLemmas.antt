@@ -22,6 +22,7 @@ use Rattle.complex_file.specs.Reading.{Fails}
 use Rattle.complex_file.specs.Text.{is_digit, is_not_empty, number, number_after}
 use Rattle.complex_file.specs.Lines.{numbers, with_number}
 use Rattle.complex_file.specs.Complexes.{ascending, complex_fault, facet_fault, first_facet_fault, has_repeat, is_ascending, is_complex, is_facet, or_later, with_facet}
+use Rattle.complex_file.proofs.RepeatLemmas.{nothing_sorted, repeat_by_length}
 use Rattle.complex_file.proofs.Steps.{later_fault, later_none, fault_free, fault_found, none_from}
 
 -- numbers in front of others
@@ -101,10 +102,6 @@ sorted_ascends [] h = refl
 sorted_ascends (v ∷ []) h = refl
 sorted_ascends (v ∷ w ∷ ws) h = and_from (nat_lt v w) (is_ascending (w ∷ ws)) (less_test v w h.0.0) (sorted_ascends (w ∷ ws) h.1)
 
-nothing_sorted : IsStrictlySortedBy nat_cmp []
-unfolding IsStrictlySortedBy
-nothing_sorted = tt
-
 pub ascending_ascends : (vs : List ℕ) → is_ascending (ascending vs) ≡ true
 ascending_ascends vs = sorted_ascends (ascending vs) (sorted_vertices vs [] nothing_sorted)
 
@@ -113,13 +110,13 @@ pub record IsVertexList (vs : List ℕ) : Type 0 where
   pub some : 0 < length vs
   pub small : list_all (λ v. nat_le v 999999) vs ≡ true
 
-not_empty : (xs : List ℕ) → 0 < length xs → is_not_empty xs ≡ true
+pub not_empty : (xs : List ℕ) → 0 < length xs → is_not_empty xs ≡ true
 not_empty [] h = absurd (omega arith)
 not_empty (x ∷ xs) h = ap not (ne_eqb (suc (length xs)) 0 (λ e. absurd (omega arith)))
 
 pub facet_from : (vs : List ℕ) → IsVertexList vs → has_repeat vs ≡ false → is_facet (ascending vs) ≡ true
 facet_from vs h once =
-    let size : length vs ≤ length (ascending vs) = ltb-false (length (ascending vs)) (length vs) once in
+    let size : length vs ≤ length (ascending vs) = ltb-false (length (ascending vs)) (length vs) (repeat_by_length vs ∙ once) in
     and_from (is_not_empty (ascending vs)) (is_ascending (ascending vs) && list_all (λ v. nat_le v 999999) (ascending vs))
     (not_empty (ascending vs) (omega (arith, h.some)))
     (and_from (is_ascending (ascending vs)) (list_all (λ v. nat_le v 999999) (ascending vs)) (ascending_ascends vs) (all_sorted (λ v. nat_le v 999999) vs [] refl h.small))

@@ -16,7 +16,7 @@ use Rattle.complex_file.specs.declared.block.Sent.{Sent}
 use Rattle.complex_file.specs.declared.kind.InputKind.{InputKind}
 use Rattle.complex_file.specs.Text.{is_allowed, is_name, is_word, lines, number, words}
 use Rattle.complex_file.specs.Lines.{Line, heading, prime_line, complex_line, facet_line, map_line, send_line, end_line, no_line, is_skipped, line_of, line_of_complex, line_of_facet, line_of_few, line_of_four, line_of_three, line_of_two, send_of, numbers}
-use Rattle.complex_file.specs.Complexes.{ascending, has_repeat, is_complex, with_facet}
+use Rattle.complex_file.specs.Complexes.{ascending, facet_of, has_repeat, is_complex, with_facet}
 use Rattle.complex_file.specs.Maps.{end_fault, map_fault, send_fault, with_send}
 use Rattle.complex_file.specs.Jobs.{are_distinct, block_names, facets_at, has_name, is_job, is_map, place_of_name}
 use Rattle.complex_file.specs.Input.{Spelled, Place, Fault, at_start, at_prime, between, in_complex, after, after_line, after_words, after_prime, after_complex, after_facet, at_end, at_line, input_of, lines_spell, place_after, with_complex, with_facets, ◌>>=◌, in_map, after_map, after_send, begun_map, with_map, with_sends}
@@ -112,13 +112,13 @@ line_is (w ∷ vs) = cond_both (is_word (codes "facet") w) (line_of_facet vs) (l
 eqb_swap : (x y : ℕ) → nat_eq x y ≡ nat_eq y x
 eqb_swap x y = grind (arith, nat_tests)
 
-bytes_swap : (xs ys : List ℕ) → bytes_eq xs ys ≡ bytes_eq ys xs
+pub bytes_swap : (xs ys : List ℕ) → bytes_eq xs ys ≡ bytes_eq ys xs
 bytes_swap [] [] = refl
 bytes_swap [] (y ∷ ys) = refl
 bytes_swap (x ∷ xs) [] = refl
 bytes_swap (x ∷ xs) (y ∷ ys) = λ i. eqb_swap x y i && bytes_swap xs ys i
 
-or_false : (a b : Bool) → (a || b) ≡ false → Both (a ≡ false) (b ≡ false)
+pub or_false : (a b : Bool) → (a || b) ≡ false → Both (a ≡ false) (b ≡ false)
 or_false true b h = absurd cc
 or_false false b h = record { first = refl; second = h }
 
@@ -234,12 +234,22 @@ facets_found : (s : Spelled) (c : ComplexBlock) (r : Result (List (List ℕ)) In
 facets_found s c (Ok facets) q h = (facets, refl, ok_same h)
 facets_found s c (Err k) q h = absurd cc
 
+bind_ok : {A B E : Type 0} (r : Result A E) (f : A → Result B E) (y : B) → (r >>= f) ≡ Ok y → (x : A) × (r ≡ Ok x) × (f x ≡ Ok y)
+bind_ok (Ok x) f y h = (x, refl, h)
+bind_ok (Err e) f y h = absurd cc
+
+facet_given : (facets more : List (List ℕ)) (o : Option (List ℕ)) → is_complex facets ≡ true → IsLine (facet_line o) → (facet_of o >>= with_facet facets) ≡ Ok more → is_complex more ≡ true
+facet_given facets more None whole line h = absurd cc
+facet_given facets more (Some vs) whole line h =
+    let given = bind_ok (facet_of (Some vs)) (with_facet facets) more h in
+    let once = passed (has_repeat vs) _ (Ok (ascending vs)) given.0 given.1 in
+    let same : ascending vs ≡ given.0 = ok_same once.second in
+    complex_more facets more vs whole line once.first (ap (with_facet facets) same ∙ given.2)
+
 facet_kept : (s : Spelled) (c : ComplexBlock) (o : Option (List ℕ)) (q : Place) → IsBegun s c → IsLine (facet_line o) → after_facet s c o ≡ Ok q → IsPlace q
-facet_kept s c None q begun line h = absurd cc
-facet_kept s c (Some vs) q begun line h =
-    let once = passed (has_repeat vs) _ (with_facets s c (with_facet c.facets (ascending vs))) q h in
-    let found = facets_found s c (with_facet c.facets (ascending vs)) q once.second in
-    subst IsPlace found.2 (record { kept = begun.kept; room = begun.room; named = begun.named; fresh = begun.fresh; whole = complex_more c.facets found.0 vs begun.whole line once.first found.1 })
+facet_kept s c o q begun line h =
+    let found = facets_found s c (facet_of o >>= with_facet c.facets) q h in
+    subst IsPlace found.2 (record { kept = begun.kept; room = begun.room; named = begun.named; fresh = begun.fresh; whole = facet_given c.facets found.0 o begun.whole line found.1 })
 
 -- a complex with that name is there
 place_there : (cs : List ComplexBlock) (name : List ℕ) (k : ℕ) → place_of_name cs name ≡ Some k → nat_lt k (length cs) ≡ true
@@ -328,10 +338,6 @@ end_kept n at_start s hp h = absurd cc
 end_kept n at_prime s hp h = absurd cc
 end_kept n (in_complex t c) s hp h = absurd cc
 end_kept n (in_map t m) s hp h = absurd cc
-
-bind_ok : {A B E : Type 0} (r : Result A E) (f : A → Result B E) (y : B) → (r >>= f) ≡ Ok y → (x : A) × (r ≡ Ok x) × (f x ≡ Ok y)
-bind_ok (Ok x) f y h = (x, refl, h)
-bind_ok (Err e) f y h = absurd cc
 
 pub spelled_kept : (text : List ℕ) (s : Spelled) → input_of text ≡ Ok s → IsKept s
 unfolding input_of

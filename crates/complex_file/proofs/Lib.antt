@@ -1,6 +1,10 @@
 pub mod Steps
 pub mod LineLemmas
+pub mod RepeatLemmas
 pub mod FacetLemmas
 pub mod NameLemmas
 pub mod MapLemmas
 pub mod JobLemmas
+pub mod FaultLines
+pub mod WrittenLines
+pub mod WrittenBlocks

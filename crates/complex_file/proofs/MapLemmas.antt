@@ -15,7 +15,8 @@ use Rattle.complex_file.specs.declared.fault.LineFault.TheVariants as fault
 use Rattle.complex_file.specs.declared.kind.InputKind.{InputKind}
 use Rattle.complex_file.specs.Reading.{Fails}
 use Rattle.complex_file.proofs.Steps.{fault_free, fault_found, later_fault, later_none}
-use Rattle.complex_file.specs.Maps.{end_fault, first_send_fault, has_vertex, image, is_sent, is_vertex, keeps_edge, map_fault, send_fault, with_send}
+use Rattle.complex_file.specs.Complexes.{has_vertex}
+use Rattle.complex_file.specs.Maps.{end_fault, first_send_fault, image, is_sent, is_vertex, keeps_edge, map_fault, send_fault, with_send}
 
 -- ---- sets of vertices
 

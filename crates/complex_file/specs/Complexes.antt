@@ -1,13 +1,13 @@
 -- The facets of a complex, and their faults.
-use Rattle.std.specs.Prelude.{ℕ, ◌+◌, Bool, true, ◌&&◌, List, [], ◌∷◌, ◌++◌, length, fold, Some, None, Ok, Err, Result, if◌then◌else◌, is_none, nat_le, nat_lt}
+use Rattle.std.specs.Prelude.{ℕ, ◌+◌, Bool, false, true, ◌&&◌, ◌||◌, ◌==◌, List, [], ◌∷◌, ◌++◌, length, fold, Some, None, Ok, Err, Result, if◌then◌else◌, is_none, nat_le, nat_lt}
 use Rattle.std.specs.declared.option.Option.{Option}
-use Rattle.std.specs.List.{list_all}
+use Rattle.std.specs.List.{list_all, list_any}
 use Rattle.std.specs.Ordering.{nat_cmp}
 use Rattle.std.specs.BTreeSet.{insert_key}
 use Rattle.simplicial_law.specs.ListedSimplices.{simplices}
 use Rattle.complex_file.specs.declared.fault.BlockFault.{BlockFault}
 use Rattle.complex_file.specs.declared.kind.InputKind.{InputKind}
-use Rattle.complex_file.specs.declared.kind.InputKind.TheVariants.{FacetTooWide, TooManySimplices}
+use Rattle.complex_file.specs.declared.kind.InputKind.TheVariants.{BadNumber, FacetTooWide, RepeatedVertex, TooManySimplices}
 use Rattle.complex_file.specs.Text.{is_not_empty}
 
 -- the value, where there is no fault
@@ -19,9 +19,19 @@ unless (Some kind) x = Err kind
 abbrev pub ascending : List ℕ → List ℕ
 ascending vs = fold (insert_key nat_cmp) [] vs
 
+-- v is among the vertices
+abbrev pub has_vertex : List ℕ → ℕ → Bool
+has_vertex f v = list_any (λ w. v == w) f
+
 -- some vertex stands twice
 abbrev pub has_repeat : List ℕ → Bool
-has_repeat vs = nat_lt (length (ascending vs)) (length vs)
+has_repeat [] = false
+has_repeat (v ∷ vs) = has_vertex vs v || has_repeat vs
+
+-- the facet that the numbers of a line give: its vertices in ascending order
+abbrev pub facet_of : Option (List ℕ) → Result (List ℕ) InputKind
+facet_of None = Err BadNumber
+facet_of (Some vs) = if has_repeat vs then Err RepeatedVertex else Ok (ascending vs)
 
 -- the fault of a facet behind those before it: it has more than 16 vertices, or with it the complex has more than
 -- 100,000 simplices

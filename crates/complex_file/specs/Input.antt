@@ -7,10 +7,10 @@ use Rattle.complex_file.specs.declared.block.ComplexBlock.{ComplexBlock}
 use Rattle.complex_file.specs.declared.block.MapBlock.{MapBlock}
 use Rattle.complex_file.specs.declared.block.Sent.{Sent}
 use Rattle.complex_file.specs.declared.kind.InputKind.{InputKind}
-use Rattle.complex_file.specs.declared.kind.InputKind.TheVariants.{TooLong, NotText, BadLine, BadNumber, RepeatedVertex, RepeatedName, UnknownName, Unfinished, TooManyBlocks, OtherPrime}
+use Rattle.complex_file.specs.declared.kind.InputKind.TheVariants.{TooLong, NotText, BadLine, BadNumber, RepeatedName, UnknownName, Unfinished, TooManyBlocks, OtherPrime}
 use Rattle.complex_file.specs.Text.{is_allowed, is_line_end, lines, words}
 use Rattle.complex_file.specs.Lines.{Line, heading, prime_line, complex_line, facet_line, map_line, send_line, end_line, is_skipped, line_of}
-use Rattle.complex_file.specs.Complexes.{ascending, has_repeat, unless, with_facet}
+use Rattle.complex_file.specs.Complexes.{facet_of, unless, with_facet}
 use Rattle.complex_file.specs.Maps.{end_fault, with_send}
 use Rattle.complex_file.specs.Jobs.{block_names, facets_at, has_name, place_of_name}
 
@@ -32,6 +32,12 @@ pub data Place : Type 0 where
 abbrev pub Step : Type 0
 Step = Result Place InputKind
 
+-- what the second makes of what the first gives
+infixl 10 ◌>>=◌
+abbrev pub ◌>>=◌ : {A B E : Type 0} → Result A E → (A → Result B E) → Result B E
+(Ok x) >>= f = f x
+(Err e) >>= f = Err e
+
 -- `prime P` begins a job without blocks
 abbrev pub after_prime : Option ℕ → Step
 after_prime None = Err BadNumber
@@ -50,8 +56,7 @@ with_facets s c (Err kind) = Err kind
 
 -- `facet V ..` adds a facet, in ascending order
 abbrev pub after_facet : Spelled → ComplexBlock → Option (List ℕ) → Step
-after_facet s c None = Err BadNumber
-after_facet s c (Some vs) = if has_repeat vs then Err RepeatedVertex else with_facets s c (with_facet c.facets (ascending vs))
+after_facet s c vertices = with_facets s c (facet_of vertices >>= with_facet c.facets)
 
 -- `end` of a complex adds it to the job
 abbrev pub with_complex : Spelled → ComplexBlock → Spelled
@@ -113,11 +118,6 @@ pub record Fault : Type 0 where
 abbrev pub at_line : {A : Type 0} → ℕ → Result A InputKind → Result A Fault
 at_line n (Ok x) = Ok x
 at_line n (Err kind) = Err (record { kind = kind; line = n })
-
-infixl 10 ◌>>=◌
-abbrev pub ◌>>=◌ : {A B E : Type 0} → Result A E → (A → Result B E) → Result B E
-(Ok x) >>= f = f x
-(Err e) >>= f = Err e
 
 -- the place behind lines that are numbered from n on; the first line at fault decides
 abbrev pub place_after : ℕ → Place → List (List ℕ) → Result Place Fault

@@ -9,3 +9,5 @@ pub mod OpenMaps
 pub mod Named
 pub mod Reading
 pub mod Views
+pub mod Written
+pub mod Laws

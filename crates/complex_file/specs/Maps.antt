@@ -9,11 +9,7 @@ use Rattle.complex_file.specs.declared.block.Sent.{Sent}
 use Rattle.complex_file.specs.declared.fault.BlockFault.{BlockFault}
 use Rattle.complex_file.specs.declared.kind.InputKind.{InputKind}
 use Rattle.complex_file.specs.declared.kind.InputKind.TheVariants.{VertexNotSent, VertexSentTwice, VertexUnknown, NotOrderPreserving, ImageNotASimplex}
-use Rattle.complex_file.specs.Complexes.{ascending, or_later, unless}
-
--- v is among the vertices
-abbrev pub has_vertex : List ℕ → ℕ → Bool
-has_vertex f v = list_any (λ w. v == w) f
+use Rattle.complex_file.specs.Complexes.{ascending, has_vertex, or_later, unless}
 
 -- v is a vertex of some facet
 abbrev pub is_vertex : List (List ℕ) → ℕ → Bool

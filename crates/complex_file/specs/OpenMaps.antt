@@ -2,7 +2,8 @@
 use Rattle.std.specs.Prelude.{◌≡◌, ℕ, List, map}
 use Rattle.complex_file.specs.declared.block.Sent.{Sent}
 use Rattle.complex_file.specs.declared.open_map.OpenMap.{OpenMap}
-use Rattle.complex_file.specs.Maps.{has_vertex, is_vertex}
+use Rattle.complex_file.specs.Complexes.{has_vertex}
+use Rattle.complex_file.specs.Maps.{is_vertex}
 
 -- the sends so far
 abbrev pub sends_seen : OpenMap → List Sent

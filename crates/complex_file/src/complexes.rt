@@ -1,5 +1,5 @@
-ghost use Rattle.std.specs.Prelude.{◌≡◌, IfOk, Some, None, if◌then◌else◌};
-ghost use Rattle.complex_file.specs.Complexes.{ascending, complex_fault, has_repeat, with_facet};
+ghost use Rattle.std.specs.Prelude.{◌≡◌, IfOk, option_map};
+ghost use Rattle.complex_file.specs.Complexes.{ascending, complex_fault, facet_of, with_facet};
 ghost use Rattle.complex_file.specs.Reading.{Gives};
 
 use crate::fault::LineFault;
@@ -27,15 +27,18 @@ pub fn ascending_of(alloc: Global, vertices: &[u32]) -> Result<Simplex, AllocErr
     Simplex::new(alloc, &ascending)
 }
 
-/// The simplex with these vertices in ascending order, where none stands twice.
-pub fn facet_of(alloc: Global, vertices: &[u32]) -> Result<Option<Simplex>, AllocError>
-    ensures { IfOk result (λ o. o ≡ (if has_repeat vertices.now then None else Some (ascending vertices.now))) }
+/// The facet with these vertices, in ascending order, or the fault of its line.
+pub fn facet_of(alloc: Global, vertices: Option<Vec<u32>>) -> Result<Simplex, LineFault>
+    ensures { Gives (λ f. f) result (facet_of (option_map (λ v. v.items) vertices)) }
 {
-    let simplex = ascending_of(alloc, vertices)?;
+    let Some(vertices) = vertices else {
+        return Err(LineFault::Kind(InputKind::BadNumber));
+    };
+    let simplex = ascending_of(alloc, &vertices)?;
     if simplex.vertices().len() < vertices.len() {
-        return Ok(None);
+        return Err(LineFault::Kind(InputKind::RepeatedVertex));
     }
-    Ok(Some(simplex))
+    Ok(simplex)
 }
 
 /// The facets with one more, or its fault.

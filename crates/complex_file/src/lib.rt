@@ -8,6 +8,7 @@ mod found;
 mod input;
 mod job;
 mod kind;
+mod laws;
 mod line;
 mod maps;
 mod open_map;
@@ -20,6 +21,7 @@ pub use fault::{BlockFault, JobRefused};
 pub use input::read_job;
 pub use job::Job;
 pub use kind::InputKind;
+pub use laws::{spelled_job, written_job};
 pub use maps::map_fault;
 pub use simplex_set::Simplex;
 

@@ -3,7 +3,8 @@ ghost use Rattle.std.specs.List.{list_all, list_any};
 ghost use Rattle.std.specs.Str.{bytes_eq};
 ghost use Rattle.simplicial_law.specs.ListedSimplices.{simplices};
 ghost use Rattle.simplicial_law.specs.Simplices.{subsets};
-ghost use Rattle.complex_file.specs.Maps.{end_fault, has_vertex, image, image_of_facet, is_sent, is_vertex, keeps_edge, keeps_order, keeps_simplices, sends_each, with_send};
+ghost use Rattle.complex_file.specs.Complexes.{has_vertex};
+ghost use Rattle.complex_file.specs.Maps.{end_fault, image, image_of_facet, is_sent, is_vertex, keeps_edge, keeps_order, keeps_simplices, sends_each, with_send};
 ghost use Rattle.complex_file.specs.OpenMaps.{IsBetween, sends_seen};
 ghost use Rattle.complex_file.specs.Reading.{Gives};
 

@@ -11,7 +11,7 @@ use crate::fault::LineFault;
 use crate::found::{BegunComplex, BegunMap, Found, Place};
 use crate::line::Line;
 use crate::open_map::OpenMap;
-use crate::{ComplexBlock, InputKind, MapBlock, Name, Sent};
+use crate::{ComplexBlock, InputKind, MapBlock, Name, Sent, Simplex};
 use comch_io::Listed;
 use indexmap::IndexSet;
 use simplex_set::OpenComplex;
@@ -67,12 +67,7 @@ fn after_facet<'a>(
 ) -> Result<Place<'a>, LineFault>
     ensures { Gives place_seen result (after_facet (spelled_by begun.entry.found) (complex_seen begun.entry) (option_map (λ v. v.items) vertices)) }
 {
-    let Some(vertices) = vertices else {
-        return Err(LineFault::Kind(InputKind::BadNumber));
-    };
-    let Some(facet) = facet_of(alloc, &vertices)? else {
-        return Err(LineFault::Kind(InputKind::RepeatedVertex));
-    };
+    let facet = facet_of(alloc, vertices)?;
     let BegunComplex {
         found,
         name,
@@ -132,6 +127,14 @@ fn closed<'a>(alloc: Global, begun: BegunComplex<'a>) -> Result<Place<'a>, LineF
     Ok(Place::Between(with_complex(found, name, block)?))
 }
 
+// The facets of the complex at a place.
+fn facets_at<'b>(found: &'b Found<'_>, place: usize) -> &'b [Simplex]
+    requires there { place < length found.now.complexes }
+    ensures { result.now ≡ facets_at found.now.complexes place }
+{
+    found.complexes.as_slice()[place].facets.as_slice()
+}
+
 // The map between the complexes at two places begins.
 fn begun_map<'a>(
     alloc: Global,
@@ -145,12 +148,7 @@ fn begun_map<'a>(
     requires to { to < length found.complexes }
     ensures { Gives place_seen result (begun_map (spelled_by found.entry) name.now (Some from) (Some to)) }
 {
-    let complexes = found.complexes.as_slice();
-    let map = OpenMap::new(
-        alloc,
-        complexes[from].facets.as_slice(),
-        complexes[to].facets.as_slice(),
-    )?;
+    let map = OpenMap::new(alloc, facets_at(&found, from), facets_at(&found, to))?;
     Ok(Place::InMap(BegunMap {
         found,
         name,
@@ -189,12 +187,9 @@ fn after_map<'a>(
     }
 }
 
-fn after_send<'a>(begun: BegunMap<'a>, sent: Option<Sent>) -> Result<Place<'a>, LineFault>
-    ensures { Gives place_seen result (after_send (spelled_by begun.entry.found) (map_seen begun.entry) sent) }
+fn after_send<'a>(begun: BegunMap<'a>, sent: Sent) -> Result<Place<'a>, LineFault>
+    ensures { Gives place_seen result (after_send (spelled_by begun.entry.found) (map_seen begun.entry) (Some sent)) }
 {
-    let Some(sent) = sent else {
-        return Err(LineFault::Kind(InputKind::BadNumber));
-    };
     let BegunMap {
         found,
         name,
@@ -215,9 +210,8 @@ fn after_send<'a>(begun: BegunMap<'a>, sent: Option<Sent>) -> Result<Place<'a>, 
 fn map_end_fault(alloc: Global, begun: &BegunMap<'_>) -> Result<Option<InputKind>, AllocError>
     ensures { IfOk result (λ r. r ≡ end_fault (facets_at begun.now.found.complexes begun.now.from) (facets_at begun.now.found.complexes begun.now.to) (sends_seen begun.now.map)) }
 {
-    let complexes = begun.found.complexes.as_slice();
-    let from = complexes[begun.from as usize].facets.as_slice();
-    let to = complexes[begun.to as usize].facets.as_slice();
+    let from = facets_at(&begun.found, begun.from as usize);
+    let to = facets_at(&begun.found, begun.to as usize);
     begun.map.end_fault(alloc, from, to)
 }
 
@@ -315,7 +309,8 @@ fn from_send<'a>(alloc: Global, begun: BegunMap<'a>, line: Line<'a>) -> Result<P
     ensures { Gives place_seen result (after (in_map (spelled_by begun.entry.found) (map_seen begun.entry)) (line_seen line.entry)) }
 {
     match line {
-        Line::Send(sent) => after_send(begun, sent),
+        Line::Send(Some(sent)) => after_send(begun, sent),
+        Line::Send(None) => Err(LineFault::Kind(InputKind::BadNumber)),
         Line::End => after_map_end(alloc, begun),
         _ => Err(LineFault::Kind(InputKind::BadLine)),
     }

@@ -1,210 +1,326 @@
 use crate::{
-    BlockFault, ComplexBlock, InputKind, Job, JobRefused, MapBlock, Name, Sent, Simplex,
-    complex_fault, map_fault, read_job,
+    BlockFault, ComplexBlock, InputKind, Job, JobRefused, Name, Sent, Simplex, complex_fault,
+    map_fault, read_job,
 };
 use comch_io::Listed;
 use std::alloc::{AllocError, Global};
+use std::process::Abort;
 use std::test::Fail;
 
-// The number of the kind and the line of the first fault; zeros for a job, and 99 for want of memory.
-fn answer(alloc: Global, bytes: &[u8]) -> (u8, u64) {
+// The number of the kind and the line of the first fault; zeros for a job.
+fn answer(alloc: Global, bytes: &[u8]) -> Result<String, AllocError> {
     match read_job(alloc, bytes) {
-        Ok(_) => (0, 0),
-        Err(JobRefused::OutOfMemory) => (99, 0),
-        Err(JobRefused::InputRefused { kind, line }) => (kind.number(), line),
-    }
-}
-
-#[test]
-fn each_kind_comes_on_its_line(rt: HostRuntime) -> Result<(), Fail> {
-    let cases = [
-        ("", (15, 1)),
-        ("comch 1\n", (15, 2)),
-        ("comch 01\n", (3, 1)),
-        ("comch 1\nprime\n", (3, 2)),
-        ("comch 1\nprime 2 3\n", (3, 2)),
-        ("comch 1\nprime x\n", (4, 2)),
-        ("comch 1\nprime 0000002\n", (4, 2)),
-        ("comch 1\nprime 7\n", (17, 2)),
-        ("comch 1\nprime 2", (0, 0)),
-        ("comch 1\nprime 2\n\n# none\n", (0, 0)),
-        (
-            "# a point\r\ncomch 1\r\nprime 2\r\n complex\tpt\r\nfacet 000\r\nend\r\n",
-            (0, 0),
-        ),
-    ];
-    for (text, wanted) in cases {
-        assert_eq!(rt; answer(rt.alloc(), text.as_bytes()), wanted, "{text}");
-    }
-    let long = vec![in rt.alloc(); 7u8; 1_048_577]?;
-    assert_eq!(rt; answer(rt.alloc(), &long), (1, 0));
-    assert_eq!(rt; answer(rt.alloc(), &long[1..]), (2, 1));
-    Ok(())
-}
-
-// The texts behind the lines `comch 1` and `prime 2`, with the number of the kind and the line.
-#[test]
-fn the_first_fault_of_a_line_decides(rt: HostRuntime) -> Result<(), Fail> {
-    let eight =
-        "complex a\nend\ncomplex b\nend\ncomplex c\nend\ncomplex d\nend\ncomplex e\nend\ncomplex f\nend\ncomplex g\nend\ncomplex h\nend\n";
-    let maps =
-        "complex a\nend\nmap i a a\nend\nmap j a a\nend\nmap k a a\nend\nmap l a a\nend\nmap m a a\nend\nmap n a a\nend\nmap o a a\nend\nmap p a a\nend\n";
-    let wide = "complex a\nfacet 15 14 13 12 11 10 9 8 7 6 5 4 3 2 1 0\n";
-    let edge = "complex e\nfacet 1 0\nend\ncomplex t\nfacet 3\nfacet 2\nend\n";
-    let cases = [
-        // 2 also in a skipped line, and before 3
-        ("", "# \x07\n", (2, 3)),
-        ("", "bogus \x7f\n", (2, 3)),
-        // 3 before 4, 8, 9 and 16
-        ("", "facet x\n", (3, 3)),
-        ("", "end x\n", (3, 3)),
-        ("complex a\n", "facet\n", (3, 4)),
-        ("complex a\n", "complex b\n", (3, 4)),
-        ("complex a\n", "send 0 0\n", (3, 4)),
-        (eight, "complex 1\n", (3, 19)),
-        (maps, "map a a 1\n", (3, 21)),
-        // 4 before 5, 6 and 12
-        ("complex a\n", "facet 0 x 0\n", (4, 4)),
-        (
-            "complex a\n",
-            "facet 0 1 2 3 4 5 6 7 8 9 10 11 12 13 14 15 -16\n",
-            (4, 4),
-        ),
-        (edge, "map f e e\nsend 9 1000000\n", (4, 11)),
-        // 5 before 6 and 7
-        ("complex a\n", "facet 0 00\n", (5, 4)),
-        (
-            "complex a\n",
-            "facet 0 1 2 3 4 5 6 7 8 9 10 11 12 13 14 15 15\n",
-            (5, 4),
-        ),
-        (
-            wide,
-            "facet 16 17 18 19 20 21 22 23 24 25 26 27 28 29 30 30\n",
-            (5, 5),
-        ),
-        // 6 before 7
-        (
-            "complex a\n",
-            "facet 0 1 2 3 4 5 6 7 8 9 10 11 12 13 14 15 16\n",
-            (6, 4),
-        ),
-        (
-            wide,
-            "facet 16 17 18 19 20 21 22 23 24 25 26 27 28 29 30 31 32\n",
-            (6, 5),
-        ),
-        (
-            wide,
-            "facet 16 17 18 19 20 21 22 23 24 25 26 27 28 29 30 31\n",
-            (7, 5),
-        ),
-        // 16 before 8 and 9, 8 before 9
-        (eight, "complex i\n", (16, 19)),
-        (eight, "complex a\n", (16, 19)),
-        (maps, "map i x x\n", (16, 21)),
-        (edge, "complex t\n", (8, 10)),
-        (edge, "map e x x\n", (8, 10)),
-        (
-            edge,
-            "map f e e\nsend 0 0\nsend 1 0\nend\ncomplex f\n",
-            (8, 14),
-        ),
-        (edge, "map f e x\n", (9, 10)),
-        (edge, "map f e f\n", (9, 10)),
-        // 12 before 11
-        (edge, "map f e e\nsend 2 0\n", (12, 11)),
-        (edge, "map f e e\nsend 0 0\nsend 0 2\n", (12, 12)),
-        (edge, "map f e e\nsend 0 0\nsend 0 1\n", (11, 12)),
-        // 10 before 13 and 14, 13 before 14
-        (edge, "map f e t\nsend 0 3\nend\n", (10, 12)),
-        (edge, "map f e e\nsend 0 1\nsend 1 0\nend\n", (13, 13)),
-        (edge, "map f e t\nsend 0 3\nsend 1 2\nend\n", (13, 13)),
-        (edge, "map f e t\nsend 0 2\nsend 1 3\nend\n", (14, 13)),
-        (edge, "map f e t\nsend 1 3\nsend 0 3\nend\n", (0, 0)),
-        // 15 behind all lines
-        ("complex a\n", "facet 0 1", (15, 4)),
-        (edge, "map f e t\nsend 0 2\n", (15, 12)),
-    ];
-    for (before, behind, wanted) in cases {
-        let mut text = String::from_str(rt.alloc(), "comch 1\nprime 2\n")?;
-        text.push_str(before)?;
-        text.push_str(behind)?;
-        assert_eq!(rt;
-            answer(rt.alloc(), text.as_bytes()),
-            wanted,
-            "{before}{behind}"
-        );
-    }
-    Ok(())
-}
-
-fn block(alloc: Global, facets: &[&[u32]]) -> Result<ComplexBlock, AllocError> {
-    let mut listed = Listed::new(alloc);
-    for facet in facets {
-        if listed.push(Simplex::new(alloc, facet)?).is_err() {
-            return Err(AllocError);
+        Ok(_) => String::from_str(alloc, "0 0"),
+        Err(JobRefused::OutOfMemory) => Err(AllocError),
+        Err(JobRefused::InputRefused { kind, line }) => {
+            format!(in alloc; "{} {line}", kind.number())
         }
     }
-    Ok(ComplexBlock {
-        name: Name::new(alloc, b"a")?,
-        facets: listed,
-    })
 }
 
-#[test]
-fn blocks_are_tested_alone(rt: HostRuntime) -> Result<(), Fail> {
-    let alloc = rt.alloc();
-    let circle = block(alloc, &[&[0, 1], &[0, 2], &[1, 2]])?;
-    let big = block(
-        alloc,
-        &[&[0, 1, 2, 3, 4, 5, 6, 7, 8, 9, 10, 11, 12, 13, 14, 15, 16]],
-    )?;
-    let too_wide = BlockFault {
-        kind: InputKind::FacetTooWide,
-        at: 0,
-    };
-    assert_eq!(rt; complex_fault(alloc, &circle)?, None);
-    assert_eq!(rt; complex_fault(alloc, &big)?, Some(too_wide));
-    let edge = block(alloc, &[&[0, 1]])?;
-    let swap = MapBlock {
-        name: Name::new(alloc, b"f")?,
-        from: 0,
-        to: 0,
-        sends: Listed::from(vec![in alloc; Sent { from: 0, to: 1 }, Sent { from: 1, to: 0 }]?),
-    };
-    let turned = BlockFault {
-        kind: InputKind::NotOrderPreserving,
-        at: 2,
-    };
-    assert_eq!(rt; map_fault(alloc, &swap, &edge, &edge)?, Some(turned));
-    assert_eq!(rt; swap.name.bytes(), b"f".as_slice());
+// Tries rows: an answer, and from the next line on the text behind `before` that has it. Each row but the first stands
+// behind an equals sign.
+fn try_rows(rt: &impl Abort, alloc: Global, before: &str, rows: &str) -> Result<(), Fail> {
+    for row in rows.split("= ") {
+        let (wanted, behind) = row.split_once('\n').ok_or("no row")?;
+        let text = format!(in alloc; "{before}{behind}")?;
+        assert_eq!(rt; answer(alloc, text.as_bytes())?.as_str(), wanted, "{row}");
+    }
     Ok(())
 }
 
+const HEADS: &str = "\
+15 1
+= 15 2
+comch 1
+= 3 1
+comch 01
+= 3 2
+comch 1
+prime
+= 3 2
+comch 1
+prime 7 x
+= 4 2
+comch 1
+prime 0000002
+= 17 2
+comch 1
+prime 7
+= 2 3
+comch 1
+prime 2
+# \x07
+= 2 3
+comch 1
+prime 2
+bogus \x7f
+= 3 3
+comch 1
+prime 2
+facet x
+= 0 0
+# a point\r
+comch 1\r
+prime 2\r
+
+ complex\tpt\r
+facet 000\r
+end\r
+";
+
+const OPEN: &str = "\
+comch 1
+prime 2
+complex a
+";
+
+// 3 before 4, 4 before 5 and 6, 5 before 6.
+const FACETS: &str = "\
+3 4
+facet
+= 3 4
+complex a
+= 3 4
+send x 0
+= 4 4
+facet 0 x 0
+= 4 4
+facet 0 1 2 3 4 5 6 7 8 9 10 11 12 13 14 15 -16
+= 5 4
+facet 0 1 2 3 4 5 6 7 8 9 10 11 12 13 14 15 15
+= 6 4
+facet 0 1 2 3 4 5 6 7 8 9 10 11 12 13 14 15 16
+= 15 5
+facet 16
+";
+
+const WIDE: &str = "\
+comch 1
+prime 2
+complex a
+facet 15 14 13 12 11 10 9 8 7 6 5 4 3 2 1 0
+";
+
+// 5 and 6 before 7.
+const LARGE: &str = "\
+5 5
+facet 16 17 18 19 20 21 22 23 24 25 26 27 28 29 30 30
+= 6 5
+facet 16 17 18 19 20 21 22 23 24 25 26 27 28 29 30 31 32
+= 7 5
+facet 16 17 18 19 20 21 22 23 24 25 26 27 28 29 30 31
+";
+
+const EIGHT_COMPLEXES: &str = "\
+comch 1
+prime 2
+complex a
+end
+complex b
+end
+complex c
+end
+complex d
+end
+complex e
+end
+complex f
+end
+complex g
+end
+complex h
+end
+";
+
+// 3 before 16, 16 before 8.
+const NINTH_COMPLEX: &str = "\
+3 19
+complex 1
+= 16 19
+complex i
+= 16 19
+complex a
+";
+
+const EIGHT_MAPS: &str = "\
+comch 1
+prime 2
+complex a
+end
+map i a a
+end
+map j a a
+end
+map k a a
+end
+map l a a
+end
+map m a a
+end
+map n a a
+end
+map o a a
+end
+map p a a
+end
+";
+
+// 3 before 16, 16 before 8 and 9.
+const NINTH_MAP: &str = "\
+3 21
+map a a 1
+= 16 21
+map i x x
+";
+
+const BLOCKS: &str = "\
+comch 1
+prime 2
+complex e
+facet 1 2 0
+end
+complex t
+facet 3
+facet 2
+end
+";
+
+// 8 before 9; 4 before 11 and 12; 12 before 11; 10 before 13 and 14; 13 before 14.
+const MAPS: &str = "\
+8 10
+complex t
+= 8 10
+map e x x
+= 9 10
+map f e x
+= 9 10
+map f f e
+= 4 11
+map f e e
+send 9 1000000
+= 4 12
+map f e e
+send 0 0
+send 0 x
+= 12 11
+map f e e
+send 3 0
+= 12 12
+map f e e
+send 0 0
+send 0 3
+= 11 12
+map f e e
+send 0 0
+send 0 1
+= 10 13
+map f e t
+send 0 3
+send 1 2
+end
+= 13 14
+map f e t
+send 0 3
+send 1 2
+send 2 2
+end
+= 13 14
+map f e e
+send 0 1
+send 1 0
+send 2 2
+end
+= 14 14
+map f e t
+send 0 2
+send 1 2
+send 2 3
+end
+= 0 0
+map f e t
+send 2 3
+send 0 3
+send 1 3
+end
+= 15 12
+map f e t
+send 2 3
+= 8 15
+map f e e
+send 0 0
+send 1 0
+send 2 0
+end
+complex f
+";
+
 #[test]
-fn a_job_keeps_the_order_of_the_file(rt: HostRuntime) -> Result<(), Fail> {
-    let text = "comch 1\nprime 3\ncomplex e\nfacet 7 2\nend\nmap f e e\nsend 7 7\nsend 2 2\nend\n";
+fn the_first_fault_decides(rt: HostRuntime) -> Result<(), Fail> {
+    let alloc = rt.alloc();
+    try_rows(&rt, alloc, "", HEADS)?;
+    try_rows(&rt, alloc, OPEN, FACETS)?;
+    try_rows(&rt, alloc, EIGHT_COMPLEXES, NINTH_COMPLEX)?;
+    try_rows(&rt, alloc, EIGHT_MAPS, NINTH_MAP)?;
+    try_rows(&rt, alloc, BLOCKS, MAPS)
+}
+
+#[test]
+fn the_limit_of_simplices_comes_last(rt: HostRuntime) -> Result<(), Fail> {
+    try_rows(&rt, rt.alloc(), WIDE, LARGE)
+}
+
+#[test]
+fn a_long_text_is_refused_unread(rt: HostRuntime) -> Result<(), Fail> {
+    let long = vec![in rt.alloc(); 7u8; 1_048_577]?;
+    assert_eq!(rt; answer(rt.alloc(), &long)?.as_str(), "1 0");
+    assert_eq!(rt; answer(rt.alloc(), &long[1..])?.as_str(), "2 1");
+    Ok(())
+}
+
+// A job keeps the order of the file, and its blocks have no fault of their own.
+#[test]
+fn a_job_keeps_its_blocks(rt: HostRuntime) -> Result<(), Fail> {
+    let alloc = rt.alloc();
+    let text = "comch 1\nprime 3\ncomplex e\nfacet 7 2\nend\nmap f e e\nsend 7 7\nsend 2 2\nend";
     let Ok(
         Job {
             prime,
             complexes,
             maps,
         },
-    ) = read_job(rt.alloc(), text.as_bytes())
+    ) = read_job(alloc, text.as_bytes())
     else {
         assert!(rt; false);
         return Ok(());
     };
     assert_eq!(rt; (prime, complexes.len(), maps.len()), (3, 1, 1));
-    let facets = complexes
-        .get(0)
-        .map(|c| c.facets.as_slice())
-        .ok_or("no complex")?;
-    assert_eq!(rt; facets.len(), 1);
-    assert_eq!(rt; facets[0].vertices(), [2, 7].as_slice());
-    let sends = maps.get(0).map(|m| m.sends.as_slice()).ok_or("no map")?;
+    let edge = complexes.get(0).ok_or("no complex")?;
+    let map = maps.get(0).ok_or("no map")?;
+    for facet in edge.facets.as_slice() {
+        assert_eq!(rt; facet.vertices(), [2, 7].as_slice());
+    }
     let wanted = [Sent { from: 7, to: 7 }, Sent { from: 2, to: 2 }];
-    assert_eq!(rt; sends, wanted.as_slice());
+    assert_eq!(rt; map.sends.as_slice(), wanted.as_slice());
+    assert_eq!(rt; complex_fault(alloc, edge)?, None);
+    assert_eq!(rt; map_fault(alloc, map, edge, edge)?, None);
+    Ok(())
+}
+
+#[test]
+fn a_block_of_its_own_has_its_fault(rt: HostRuntime) -> Result<(), Fail> {
+    let alloc = rt.alloc();
+    let vertices = [0, 1, 2, 3, 4, 5, 6, 7, 8, 9, 10, 11, 12, 13, 14, 15, 16];
+    let facet = Simplex::new(alloc, vertices.as_slice())?;
+    let block = ComplexBlock {
+        name: Name::new(alloc, b"a")?,
+        facets: Listed::from(vec![in alloc; facet]?),
+    };
+    let wanted = BlockFault {
+        kind: InputKind::FacetTooWide,
+        at: 0,
+    };
+    assert_eq!(rt; block.name.bytes(), b"a".as_slice());
+    assert_eq!(rt; complex_fault(alloc, &block)?, Some(wanted));
     Ok(())
 }

@@ -1,6 +1,6 @@
 -- The set has its vertices, and those of the facet so far.
 use Rattle.std.proofs.Common.{◌≡◌, ◌||◌, ℕ, take}
-use Rattle.complex_file.specs.Maps.{has_vertex}
+use Rattle.complex_file.specs.Complexes.{has_vertex}
 use Rattle.complex_file.proofs.open_map.add_vertices.Given as goal
 
 abbrev pub invariant-loop-v : goal.invariant-loop-v
