@@ -8,7 +8,7 @@ use Rattle.comch_io.specs.declared.read_end.ReadEnd.{ReadEnd}
 use Rattle.comch_io.specs.declared.read_end.ReadEnd.TheVariants as end
 use Rattle.complex_file.specs.Input.{input_of}
 use Rattle.complex_file.specs.declared.kind.InputKind.TheVariants.{TooLong}
-use Rattle.comch_app.specs.Answers.{BasisAnswers, Ends, RefusesWords}
+use Rattle.comch_app.specs.Answers.{BasisAnswers, Ends, MayAnswers, RefusesWords}
 use Rattle.comch_app.specs.Refusals.{refusal}
 use Rattle.comch_app.specs.Steps.{SaysIt}
 use Rattle.comch_app.specs.declared.status.Status.{Status}
@@ -32,6 +32,12 @@ memory_ends_basis bytes old new r says = basis_ends bytes OutOfMemory (refusal O
 
 pub read_ends_basis : (bytes : List ℕ) (old new : Option (List ℕ)) (r : Status) → SaysIt ReadFault (refusal ReadFault) old new r → Ends (BasisAnswers bytes) old new r
 read_ends_basis bytes old new r says = basis_ends bytes ReadFault (refusal ReadFault) old new r refl says
+
+pub may_ends : (p d : ℕ) (s : Status) (text : List ℕ) (old new : Option (List ℕ)) (r : Status) → MayAnswers p d s text → SaysIt s text old new r → Ends (MayAnswers p d) old new r
+may_ends p d s text old new r a says = said_ends (MayAnswers p d) s text old new r (λ h. h) a says
+
+pub memory_ends_may : (p d : ℕ) (old new : Option (List ℕ)) (r : Status) → SaysIt OutOfMemory (refusal OutOfMemory) old new r → Ends (MayAnswers p d) old new r
+memory_ends_may p d old new r says = may_ends p d OutOfMemory (refusal OutOfMemory) old new r refl says
 
 pub memory_ends_words : (old new : Option (List ℕ)) (r : Status) → SaysIt OutOfMemory (refusal OutOfMemory) old new r → Ends RefusesWords old new r
 memory_ends_words old new r says = said_ends RefusesWords OutOfMemory (refusal OutOfMemory) old new r (λ h. h) refl says

@@ -3,3 +3,5 @@ pub mod Endings
 pub mod JobLemmas
 pub mod ListedClasses
 pub mod Parts
+pub mod Printed
+pub mod ElementAnswers

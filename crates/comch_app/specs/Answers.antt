@@ -1,5 +1,5 @@
 -- What the program answers to words and bytes.
-use Rattle.std.specs.Prelude.{◌≡◌, ℕ, List, map, Ok, Err}
+use Rattle.std.specs.Prelude.{◌≡◌, ◌≤◌, ◌<◌, ◌^◌, ℕ, ℤ, List, map, Ok, Err}
 use Rattle.std.specs.declared.option.Option.{Option}
 use Rattle.std.specs.Io.KnownBytes.{Appends}
 use Rattle.std.specs.List.{AllZip}
@@ -9,8 +9,15 @@ use Rattle.complex_file.specs.Input.{Spelled, input_of}
 use Rattle.complex_file.specs.declared.block.ComplexBlock.{ComplexBlock}
 use Rattle.report_text.specs.declared.report.ComplexPart.{ComplexPart}
 use Rattle.report_text.specs.Text.{basis_text}
+use Rattle.std.specs.Cmp.Lexicographic.{slice_cmp}
+use Rattle.std.specs.Ordering.{nat_cmp}
+use Rattle.operad_law.specs.FormalSums.{IsFormalSum, IsSameSum}
+use Rattle.table_reduction_law.specs.Counts.{candidate_count}
+use Rattle.table_reduction_law.specs.MayElements.{may_element}
+use Rattle.may_elements.specs.Counted.{cut_off}
+use Rattle.comch_app.specs.Elements.{element_text}
 use Rattle.comch_app.specs.declared.status.Status.{Status}
-use Rattle.comch_app.specs.declared.status.Status.TheVariants.{Done, BadWords, InputRefused, OutOfMemory, ReadFault, WriteFault}
+use Rattle.comch_app.specs.declared.status.Status.TheVariants.{Done, BadWords, InputRefused, TooManyTerms, OutOfMemory, ReadFault, WriteFault}
 use Rattle.comch_app.specs.Refusals.{refusal}
 
 -- What is printed of a complex: its name, and for each degree up to its dimension the canonical classes at the prime p,
@@ -31,6 +38,18 @@ BasisAnswers bytes (InputRefused kind line) text = (input_of bytes ≡ Err (reco
 BasisAnswers bytes OutOfMemory text = text ≡ refusal OutOfMemory
 BasisAnswers bytes ReadFault text = text ≡ refusal ReadFault
 BasisAnswers bytes _ text = ⊥
+
+-- the text of the May element of degree d for p: its terms are ascending lists of values, none with the coefficient 0
+abbrev pub IsElementText : ℕ → ℕ → List ℕ → Type 0
+IsElementText p d text = (ts : List (List ℕ × ℤ)) × IsFormalSum (slice_cmp nat_cmp) ts × IsSameSum ts (may_element p d) × (text ≡ element_text p d ts)
+
+-- What `may` may answer for a prime p and a degree d: the element, or that its candidates are more than 10^8.
+abbrev pub MayAnswers : ℕ → ℕ → Status → List ℕ → Type 0
+MayAnswers p d Done text = (candidate_count p d ≤ 10 ^ 8) × IsElementText p d text
+MayAnswers p d (TooManyTerms count limit) text =
+    (10 ^ 8 < candidate_count p d) × (count ≡ cut_off (candidate_count p d)) × (limit ≡ 10 ^ 8) × (text ≡ refusal (TooManyTerms count limit))
+MayAnswers p d OutOfMemory text = text ≡ refusal OutOfMemory
+MayAnswers p d _ text = ⊥
 
 -- What may be answered to words that are not taken.
 abbrev pub RefusesWords : Status → List ℕ → Type 0

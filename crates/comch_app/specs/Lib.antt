@@ -4,5 +4,6 @@ pub mod Requests
 pub mod Refusals
 pub mod Blocks
 pub mod Chains
+pub mod Elements
 pub mod Answers
 pub mod Steps

@@ -3,7 +3,7 @@ use Rattle.std.specs.Prelude.{ℕ, List, [], ◌∷◌, ◌++◌, codes}
 use Rattle.std.specs.Fmt.{decimal}
 use Rattle.complex_file.specs.Kinds.{kind_number}
 use Rattle.comch_app.specs.declared.status.Status.{Status}
-use Rattle.comch_app.specs.declared.status.Status.TheVariants.{Done, BadWords, InputRefused, OutOfMemory, ReadFault, WriteFault}
+use Rattle.comch_app.specs.declared.status.Status.TheVariants.{Done, BadWords, InputRefused, TooManyTerms, OutOfMemory, ReadFault, WriteFault}
 
 -- a line with its byte 10
 abbrev pub ended : List ℕ → List ℕ
@@ -13,6 +13,7 @@ ended text = text ++ 10 ∷ []
 abbrev pub refusal : Status → List ℕ
 refusal BadWords = ended (codes "refused words")
 refusal (InputRefused kind line) = ended (codes "refused input " ++ decimal (kind_number kind) ++ codes " line " ++ decimal line)
+refusal (TooManyTerms count limit) = ended (codes "refused terms " ++ decimal count ++ codes " limit " ++ decimal limit)
 refusal OutOfMemory = ended (codes "refused memory")
 refusal ReadFault = ended (codes "refused read")
 refusal WriteFault = []

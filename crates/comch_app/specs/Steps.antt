@@ -5,7 +5,7 @@ use Rattle.std.specs.Io.KnownBytes.{Appends, IsAtEnd}
 use Rattle.comch_io.specs.Causes.{Rose}
 use Rattle.comch_io.specs.Reading.{AppendsPrefix}
 use Rattle.comch_app.specs.declared.status.Status.{Status}
-use Rattle.comch_app.specs.declared.status.Status.TheVariants.{Done, InputRefused, WriteFault}
+use Rattle.comch_app.specs.declared.status.Status.TheVariants.{Done, InputRefused, TooManyTerms, WriteFault}
 use Rattle.comch_app.specs.declared.answer.Stop.{Stop}
 use Rattle.comch_app.specs.declared.answer.Stop.TheVariants as stop
 use Rattle.comch_app.specs.Refusals.{refusal}
@@ -19,6 +19,7 @@ StopCause before now _ = now ≡ before
 abbrev pub IsMade : Status → List ℕ → Type 0
 IsMade Done text = Unit {0}
 IsMade (InputRefused kind line) text = text ≡ refusal (InputRefused kind line)
+IsMade (TooManyTerms count limit) text = text ≡ refusal (TooManyTerms count limit)
 IsMade _ text = ⊥
 
 -- nothing is left where the run is done

@@ -3,6 +3,7 @@
 
 mod answer;
 mod chains;
+mod may;
 mod refusal;
 mod report;
 mod request;

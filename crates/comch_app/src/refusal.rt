@@ -7,8 +7,8 @@ use comch_io::Bytes;
 use complex_file::InputKind;
 use std::alloc::{AllocError, Global};
 
-// Adds the digits of a number.
-fn add_number(alloc: Global, text: &mut Bytes, n: u64) -> Result<(), AllocError>
+/// Adds the digits of a number.
+pub fn add_number(alloc: Global, text: &mut Bytes, n: u64) -> Result<(), AllocError>
     ensures { IfOk result (λ _. text.new ≡ text.old ++ decimal n) }
 {
     let digits = n.to_string(alloc)?;
@@ -24,6 +24,19 @@ pub fn input_refusal(alloc: Global, kind: InputKind, line: u64) -> Result<Bytes,
     add_number(alloc, &mut text, u64::from(kind.number()))?;
     text.extend(b" line ")?;
     add_number(alloc, &mut text, line)?;
+    text.push(b'\n')?;
+    Ok(text)
+}
+
+/// The line of a refusal for the number of terms.
+pub fn terms_refusal(alloc: Global, count: u64, limit: u64) -> Result<Bytes, AllocError>
+    ensures { IfOk result (λ b. b ≡ refusal (Status.TooManyTerms count limit)) }
+{
+    let mut text = Bytes::new(alloc);
+    text.extend(b"refused terms ")?;
+    add_number(alloc, &mut text, count)?;
+    text.extend(b" limit ")?;
+    add_number(alloc, &mut text, limit)?;
     text.push(b'\n')?;
     Ok(text)
 }

@@ -12,6 +12,8 @@ pub enum Status {
     BadWords,
     /// The input spells no job: the kind of its first fault, and its line.
     InputRefused { kind: InputKind, line: u64 },
+    /// The counted terms pass the limit: their count, cut off at 10^15, and the limit.
+    TooManyTerms { count: u64, limit: u64 },
     /// There was no memory for the answer.
     OutOfMemory,
     /// A read failed.
@@ -29,6 +31,7 @@ impl Status {
             Status::Done => 0,
             Status::BadWords => 2,
             Status::InputRefused { .. } => 3,
+            Status::TooManyTerms { .. } => 4,
             Status::OutOfMemory => 5,
             Status::ReadFault => 6,
             Status::WriteFault => 7,

@@ -168,6 +168,12 @@ fn other_words_are_refused_unread(rt: HostRuntime) -> Result<(), Fail> {
         "--help",
         "--version",
         "basis --help",
+        "may 3",
+        "may 7 2",
+        "may 3 61",
+        "may +3 2",
+        "may 3 00000000000002",
+        "may 3 2 --terms 5",
     ];
     for line in lines {
         let words = words_of(alloc, line)?;
@@ -179,6 +185,29 @@ fn other_words_are_refused_unread(rt: HostRuntime) -> Result<(), Fail> {
         let mut piece = [0u8; 9];
         let left = source.read(&mut piece).expect(&rt, "a read");
         assert_eq!(rt; left, 5);
+    }
+    Ok(())
+}
+
+#[test]
+fn elements_are_printed_unread(rt: HostRuntime) -> Result<(), Fail> {
+    let alloc = rt.alloc();
+    let cases: [(&str, u8, &str); 3] = [
+        (
+            "may 3 2",
+            0,
+            "may 3 2\n1 : 1 2 3 1 2\n1 : 1 2 3 2 3\n1 : 1 3 1 2 3\ndone\n",
+        ),
+        ("may 2 03", 0, "may 2 3\n1 : 1 2 1 2 1\ndone\n"),
+        ("may 5 16", 4, "refused terms 1892578125 limit 100000000\n"),
+    ];
+    for (line, code, text) in cases {
+        let words = words_of(alloc, line)?;
+        let mut source = MemSource::new(alloc, b"comch", [0].as_slice())?;
+        let mut sink = MemSink::new(alloc, 99, [].as_slice())?;
+        let status = run(alloc, words.as_slice(), &mut source, &mut sink);
+        assert_eq!(rt; status.code(), code);
+        assert_eq!(rt; sink.text(), text.as_bytes());
     }
     Ok(())
 }

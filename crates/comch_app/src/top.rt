@@ -1,13 +1,14 @@
-ghost use Rattle.std.specs.Prelude.{◌≡◌, ◌<◌, ◌⊎◌, IfSome, None, Some, map, string_bytes};
+ghost use Rattle.std.specs.Prelude.{◌≡◌, ℕ, ◌<◌, ◌⊎◌, IfSome, None, Some, map, string_bytes};
 ghost use Rattle.std.specs.Io.KnownBytes.{IsAtEnd};
 ghost use Rattle.comch_io.specs.Causes.{Rose};
-ghost use Rattle.comch_app.specs.declared.request.Request.TheVariants.{Basis};
-ghost use Rattle.comch_app.specs.Answers.{BasisAnswers, Ends, RefusesWords, WritesRefusal};
+ghost use Rattle.comch_app.specs.declared.request.Request.TheVariants.{Basis, May};
+ghost use Rattle.comch_app.specs.Answers.{BasisAnswers, Ends, MayAnswers, RefusesWords, WritesRefusal};
 ghost use Rattle.comch_app.specs.Requests.{request_of};
 ghost use Rattle.comch_app.specs.Steps.{SaidCause, SaysIt};
 
 use crate::Status;
 use crate::answer::{Stop, basis};
+use crate::may::may;
 use crate::request::Request;
 use crate::words::request_of;
 use comch_io::{Sink, Source, write_all};
@@ -45,9 +46,14 @@ pub fn run<S: Source, K: Sink>(
         IfSome (S.left source.old) (λ bytes.
         Ends (BasisAnswers bytes) (K.written sink.old) (K.written sink.new) result) }
 
-    // Whatever the source tells, a refusal is one line, and a run that is done has read to the end.
+    // What `may` answers; nothing is read.
+    ensures may { (p d : ℕ) → request_of (map string_bytes words.now) ≡ Some (May p d) →
+        Ends (MayAnswers p d) (K.written sink.old) (K.written sink.new) result
+        × (source.new ≡ source.old) }
+
+    // Whatever the source tells, a refusal is one line, and a run of `basis` that is done has read to the end.
     ensures refusal { WritesRefusal (K.written sink.old) (K.written sink.new) result }
-    ensures whole { result ≡ Status.Done → IsAtEnd (S.left source.new) }
+    ensures whole { request_of (map string_bytes words.now) ≡ Some Basis → result ≡ Status.Done → IsAtEnd (S.left source.new) }
 
     // Faults have their causes, and none is passed over.
     ensures read { result ≡ Status.ReadFault → Rose (S.faults source.old) (S.faults source.new) }
@@ -63,6 +69,10 @@ pub fn run<S: Source, K: Sink>(
             Ok((status, text)) => said(sink, status, text.as_slice()),
             Err(Stop::Memory) => said(sink, Status::OutOfMemory, b"refused memory\n"),
             Err(Stop::Read) => said(sink, Status::ReadFault, b"refused read\n"),
+        },
+        Ok(Some(Request::May { prime, degree })) => match may(alloc, prime, degree) {
+            Ok((status, text)) => said(sink, status, text.as_slice()),
+            Err(_) => said(sink, Status::OutOfMemory, b"refused memory\n"),
         },
     }
 }

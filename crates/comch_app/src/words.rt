@@ -1,12 +1,17 @@
-ghost use Rattle.std.specs.Prelude.{◌≡◌, Some, IfOk, map, MatchResult, string_bytes, option_map};
+ghost use Rattle.std.specs.Prelude.{◌≡◌, Some, IfOk, IfSome, map, MatchResult, string_bytes, option_map};
 ghost use Rattle.clap.specs.Words.{app_of, kind_of, found_of};
 ghost use Rattle.comch_app.specs.CommandLine.{given, given_in, line, GivesUp, IsRule, command_rule, numbers_rule, terms_rule};
-ghost use Rattle.comch_app.specs.Requests.{request_of, request_by, request_named};
+ghost use Rattle.complex_file.specs.Text.{is_digit};
+ghost use Rattle.comch_app.specs.Requests.{IsAnswerable, basis_request, may_at, may_request, number_word, request_of, request_by, request_named};
 
 use crate::request::Request;
 use clap::error::ErrorKind;
 use clap::{Arg, ArgMatches, Command, Error};
+use fp_field::served;
 use std::alloc::{AllocError, Global};
+
+// The greatest degree of a May element that may be asked for.
+const MOST_DEGREE: u64 = 60;
 
 // The word that names a command.
 fn command_arg<'a>(alloc: Global) -> Arg<'a>
@@ -50,15 +55,71 @@ fn matches_of<'a>(alloc: Global, words: &'a [String]) -> Result<ArgMatches<'a>, 
     line.try_get_matches_from(words)
 }
 
+fn is_digit(b: u8) -> bool
+    ensures { result ≡ is_digit b }
+{
+    48 <= b && b <= 57
+}
+
+// The number that a word of one to thirteen digits writes.
+#[tactic(auto, unfolding(crate::specs::Requests::number_word))]
+fn number_of(word: &str) -> Option<u64>
+    ensures { result ≡ number_word word.now }
+{
+    let digits = word.as_bytes();
+    if digits.is_empty() || digits.len() > 13 {
+        return None;
+    }
+    let mut value = 0u64;
+    for digit in digits {
+        if !is_digit(*digit) {
+            return None;
+        }
+        value = value * 10 + u64::from(*digit - b'0');
+    }
+    Some(value)
+}
+
+fn basis_request(numbers: &[&str], terms: Option<&str>) -> Option<Request>
+    ensures { result ≡ basis_request (map (λ s. s.now) numbers.now) (option_map (λ s. s.now) terms.entry) }
+{
+    match (numbers, terms) {
+        ([], None) => Some(Request::Basis),
+        _ => None,
+    }
+}
+
+// The request of the element of a degree for a prime, where both are within their limits.
+fn may_at(prime: u64, degree: u64) -> Option<Request>
+    ensures { result ≡ may_at prime degree }
+{
+    if prime <= 5 && served(prime as u32) && degree <= MOST_DEGREE {
+        Some(Request::May {
+            prime: prime as u32,
+            degree: degree as u32,
+        })
+    } else {
+        None
+    }
+}
+
+fn may_request(numbers: &[&str], terms: Option<&str>) -> Option<Request>
+    ensures { result ≡ may_request (map (λ s. s.now) numbers.now) (option_map (λ s. s.now) terms.entry) }
+{
+    match (numbers, terms) {
+        ([prime, degree], None) => may_at(number_of(prime)?, number_of(degree)?),
+        _ => None,
+    }
+}
+
 // The request of these parts of the words, if there is one.
 fn request_named(word: &str, numbers: &[&str], terms: Option<&str>) -> Option<Request>
     ensures { result ≡ request_named word.now (map (λ s. s.now) numbers.now) (option_map (λ s. s.now) terms.entry) }
 {
     if word == "basis" {
-        match (numbers, terms) {
-            ([], None) => Some(Request::Basis),
-            _ => None,
-        }
+        basis_request(numbers, terms)
+    } else if word == "may" {
+        may_request(numbers, terms)
     } else {
         None
     }
@@ -77,7 +138,8 @@ fn request_in(matches: &ArgMatches<'_>) -> Option<Request>
 
 /// What the words ask for, or `None` where they are not taken.
 pub fn request_of(alloc: Global, words: &[String]) -> Result<Option<Request>, AllocError>
-    ensures { IfOk result (λ r. r ≡ request_of (map string_bytes words.now)) }
+    ensures request { IfOk result (λ r. r ≡ request_of (map string_bytes words.now)) }
+    ensures known { IfOk result (λ r. IfSome r IsAnswerable) }
 {
     match matches_of(alloc, words) {
         Ok(matches) => Ok(request_in(&matches)),

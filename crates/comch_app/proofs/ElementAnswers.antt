@@ -1,0 +1,64 @@
+-- What is known of a request, and of the candidates of an element.
+use Rattle.std.proofs.Common.{◌≡◌, ℕ, ◌≤◌, ◌^◌, ◌&&◌, Bool, true, false, List, [], ◌∷◌, Some, None, Ok, Err, Result, IfOk, IfSome, ℤ, if◌then◌else◌, nat_le, option_and_then, refl, arith, codes, bytes_eq}
+use Rattle.std.specs.declared.option.Option.{Option}
+use Rattle.std.proofs.lemmas.Bool.{leb-true}
+use Rattle.std.specs.Cmp.Lexicographic.{slice_cmp}
+use Rattle.std.specs.Ordering.{nat_cmp}
+use Rattle.operad_law.specs.FormalSums.{IsFormalSum, IsSameSum}
+use Rattle.table_reduction_law.specs.MayElements.{may_element}
+use Rattle.clap.specs.Words.{Text}
+use Rattle.fp_field.specs.Served.{served}
+use Rattle.may_elements.specs.Counted.{cut_off}
+use Rattle.comch_app.specs.Answers.{IsElementText}
+use Rattle.comch_app.specs.CommandLine.{Given}
+use Rattle.comch_app.specs.Elements.{element_text}
+use Rattle.comch_app.specs.declared.request.Request.{Request}
+use Rattle.comch_app.specs.declared.request.Request.TheVariants.{May}
+use Rattle.comch_app.specs.Requests.{IsAnswerable, basis_request, may_request, number_word, request_by}
+
+both : (a b : Bool) → (a && b) ≡ true → (a ≡ true) × (b ≡ true)
+both true b e = (refl, e)
+both false b e = cc
+
+served_if : (p d : ℕ) (b : Bool) → (served p && nat_le d 60) ≡ b → IfSome (if b then Some (May p d) else None) IsAnswerable
+served_if p d true e = let h = both (served p) (nat_le d 60) e in (h.0, leb-true d 60 h.1)
+served_if p d false e = tt
+
+either : (b : Bool) (x y : Option Request) → IfSome x IsAnswerable → IfSome y IsAnswerable → IfSome (if b then x else y) IsAnswerable
+either true x y h k = h
+either false x y h k = k
+
+from : {X : Type 0} (o : Option X) (f : X → Option Request) → ((x : X) → IfSome (f x) IsAnswerable) → IfSome (option_and_then f o) IsAnswerable
+from None f h = tt
+from (Some x) f h = h x
+
+basis_known : (ns : List Text) (t : Option Text) → IfSome (basis_request ns t) IsAnswerable
+basis_known [] None = tt
+basis_known [] (Some t) = tt
+basis_known (n ∷ ns) t = tt
+
+may_known : (ns : List Text) (t : Option Text) → IfSome (may_request ns t) IsAnswerable
+may_known [] t = tt
+may_known (p ∷ []) t = tt
+may_known (p ∷ d ∷ []) None = from (number_word p) _ (λ prime. from (number_word d) _ (λ degree. served_if prime degree (served prime && nat_le degree 60) refl))
+may_known (p ∷ d ∷ []) (Some t) = tt
+may_known (p ∷ d ∷ n ∷ ns) t = tt
+
+-- the prime and the degree of a request are within their limits
+pub answerable : (g : Given) → IfSome (request_by g) IsAnswerable
+answerable g = from g.command _ (λ word.
+    either (bytes_eq word (codes "basis")) _ _ (basis_known g.numbers g.terms)
+    (either (bytes_eq word (codes "may")) _ _ (may_known g.numbers g.terms) tt))
+
+-- the count tells whether the candidates pass the limit
+pub few : (n c : ℕ) → c ≡ cut_off n → c ≤ 10 ^ 8 → n ≤ 10 ^ 8
+few n c e h = omega (arith, e, h)
+
+pub buildable : (n c : ℕ) → c ≡ cut_off n → c ≤ 10 ^ 8 → n ≤ 10 ^ 12
+buildable n c e h = omega (arith, few n c e h)
+
+-- the text of a sum that is the element
+pub is_element : {E : Type 0} (p d : ℕ) (ts : List (List ℕ × ℤ)) (r : Result (List ℕ) E) → IsFormalSum (slice_cmp nat_cmp) ts → IsSameSum ts (may_element p d) →
+    IfOk r (λ b. b ≡ element_text p d ts) → IfOk r (λ b. IsElementText p d b)
+is_element p d ts (Ok b) sum same e = (ts, sum, same, e)
+is_element p d ts (Err x) sum same e = tt

@@ -1,0 +1,11 @@
+use Rattle.std.proofs.Common.{IfSome, subst, sym}
+use Rattle.std.specs.declared.option.Option.{Option}
+use Rattle.clap.specs.Words.{found_of}
+use Rattle.comch_app.specs.CommandLine.{given_in}
+use Rattle.comch_app.specs.declared.request.Request.{Request}
+use Rattle.comch_app.specs.Requests.{IsAnswerable}
+use Rattle.comch_app.proofs.ElementAnswers.{answerable}
+use Rattle.comch_app.proofs.words.request_of.Goals as goal
+
+pub returns-in-Ok-clause-known : goal.returns-in-Ok-clause-known
+returns-in-Ok-clause-known c = subst (λ (o : Option Request). IfSome o IsAnswerable) (sym c.request_in.ensures) (answerable (given_in (found_of c.in-Ok.matches)))
