@@ -1,16 +1,18 @@
 #!/usr/bin/env python3
-"""Time and peak memory of `comch basis` on inputs of growing size.
+"""Time and peak memory of `comch basis` on inputs of growing size, and of `comch may`.
 
 usage: bench/bench.py PROGRAM [PRIME] [GROUP ..]
 
 PROGRAM is the built program (crates/comch/out/comch, after `rt run` in crates/comch), PRIME is 2, 3
-or 5 (default 2), and the groups are torus, random, dense, sphere, wide and strip (default: all).
+or 5 (default 2), and the groups are torus, random, dense, sphere, wide, strip and may (default: all).
 
 Each input is made here, written to the program's standard input, and run RUNS times. One line is
 printed for each: simplices, bytes of input and of output, the least of the processor seconds, the
 peak of the resident memory, how time and memory grew from the line before (the exponent b in
 "cost ~ simplices^b"), and the peak as a multiple of input plus output. Absolute times vary with
 the machine and with what else it does; the ratios tell more.
+
+The group may makes May elements. It prints for each the candidates, the terms, and the same costs.
 """
 
 import itertools
@@ -96,7 +98,16 @@ def peak_of(pid):
     return 0
 
 
-def run(program, prime, text):
+def candidates(prime, degree):
+    """How many lists the May element of this degree is made from."""
+    return prime ** (degree // 2) * math.comb(prime + degree - 1, degree)
+
+
+# prime and degree
+ELEMENTS = [(2, 40), (3, 15), (3, 19), (3, 23), (5, 8), (5, 10), (5, 12)]
+
+
+def run(program, words, text):
     """Processor seconds, peak kilobytes, bytes of output and exit status of one run.
 
     The peak is read while the program runs: what the kernel tells of a child that has ended counts
@@ -105,7 +116,7 @@ def run(program, prime, text):
     with tempfile.TemporaryFile() as source, tempfile.TemporaryFile() as sink:
         source.write(text)
         source.seek(0)
-        child = subprocess.Popen([program, "basis"], stdin=source, stdout=sink)
+        child = subprocess.Popen([program, *words], stdin=source, stdout=sink)
         peak = 0
         while True:
             peak = max(peak, peak_of(child.pid))
@@ -123,12 +134,27 @@ def exponent(new, old, n, m):
     return f"{math.log(new / old) / math.log(n / m):5.2f}"
 
 
+def measure_elements(program):
+    print(f"{'element':14} {'candidates':>11} {'terms':>9} {'out kB':>8} {'seconds':>8} {'peak MB':>8}")
+    for prime, degree in ELEMENTS:
+        words = ["may", str(prime), str(degree)]
+        results = [run(program, words, b"") for _ in range(RUNS)]
+        lines = subprocess.run([program, *words], stdout=subprocess.PIPE, check=True).stdout.count(b"\n")
+        print(f"{'may ' + words[1] + ' ' + words[2]:14} {candidates(prime, degree):11} {lines - 2:9} {results[0][2] / 1000:8.1f}"
+              f" {min(r[0] for r in results):8.3f} {max(r[1] for r in results) / 1000:8.1f}", flush=True)
+
+
 def main():
     if len(sys.argv) < 2:
         sys.exit(__doc__)
     program = os.path.abspath(sys.argv[1])
     prime = int(sys.argv[2]) if len(sys.argv) > 2 else 2
-    groups = sys.argv[3:] or list(GROUPS)
+    groups = sys.argv[3:] or [*GROUPS, "may"]
+    if "may" in groups:
+        measure_elements(program)
+        groups = [group for group in groups if group != "may"]
+    if not groups:
+        return
     print(f"basis at {prime}; {os.cpu_count()} processors; least of {RUNS} runs")
     print(f"{'input':14} {'simplices':>9} {'in kB':>8} {'out kB':>8} {'seconds':>8} {'grows':>5} {'peak MB':>8} {'grows':>5} {'peak/io':>8}")
     for group in groups:
@@ -137,7 +163,7 @@ def main():
             facets = [tuple(facet) for facet in make()]
             text = text_of(prime, facets)
             size = count_simplices(facets)
-            results = [run(program, prime, text) for _ in range(RUNS)]
+            results = [run(program, ["basis"], text) for _ in range(RUNS)]
             seconds = min(r[0] for r in results)
             peak = max(r[1] for r in results)
             out = results[0][2]
