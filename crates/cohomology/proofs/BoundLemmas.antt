@@ -9,9 +9,8 @@ use Rattle.linear_law.specs.Listing.{ListsAll, unit_vector}
 use Rattle.linear_law.specs.Pivots.{IsCanonical, IsPivot}
 use Rattle.linear_law.specs.Triangular.{Walked}
 use native.Mathlib.Nat.{zero-mod}
-use Rattle.linear_law.proofs.AlikeLemmas.{each_alike, each_from_index}
 use Rattle.linear_law.proofs.CongruenceLemmas.{Congruent_of, Congruent_sym, Congruent_trans}
-use Rattle.linear_law.proofs.ListLemmas.{among_map, each_among, each_get_or, each_itself, each_map}
+use Rattle.linear_law.proofs.ListLemmas.{among_map, each_among, each_get_or, each_itself, each_map, each_alike, each_from_index}
 use Rattle.linear_law.proofs.PivotLemmas.{one-nonzero, reduced_apart, reduced_one}
 use Rattle.linear_law.proofs.RowCombinations.{unit_one, unit_other}
 use Rattle.linear_law.proofs.TriangularBases.{found}
@@ -20,7 +19,7 @@ use Rattle.simplicial_law.specs.Simplices.{IsSimplex}
 use Rattle.simplicial_law.specs.Cochains.{AgreesOnSimplices, coboundary, unit_cochain}
 use Rattle.simplicial_law.specs.Canonical.{IsCanonicalCoboundary, IsCanonicalPrimitive, IsCoboundaryPivot}
 use Rattle.simplicial_law.specs.CanonicalClasses.{cochain_of}
-use Rattle.simplicial_law.specs.EliminatedDegrees.{IsCoboundaryByPlace, IsCoboundaryRow, cochain_at, terms_of}
+use Rattle.simplicial_law.specs.Places.{IsCoboundaryByPlace, IsCoboundaryRow, cochain_at, terms_of}
 use Rattle.simplicial_law.proofs.Bases.{coboundaries, coboundary_same}
 use Rattle.simplicial_law.proofs.CoboundaryRows.{rows_by_place}
 use Rattle.simplicial_law.proofs.SimplexPlaces.{agree_by_place, canonical_up, cochain_at-value, pivot_down, simplex_at}

@@ -10,10 +10,9 @@ use Rattle.linear_law.specs.Congruence.{Congruent, IsField}
 use Rattle.linear_law.specs.Lists.{Each, IsAscending}
 use Rattle.linear_law.specs.Elimination.{KernelVector}
 use Rattle.linear_law.specs.Triangular.{kernel_place}
-use Rattle.linear_law.proofs.AlikeLemmas.{length_alike}
-use Rattle.linear_law.proofs.ListLemmas.{each_append, each_zip, each_unmap}
+use Rattle.linear_law.proofs.ListLemmas.{each_append, each_zip, each_unmap, length_alike}
 use Rattle.simplicial_law.specs.CanonicalClasses.{AreCanonicalBases, IsCanonicalBasis}
-use Rattle.simplicial_law.specs.EliminatedDegrees.{IsCoboundaryRow, terms_of}
+use Rattle.simplicial_law.specs.Places.{IsCoboundaryRow, terms_of}
 use Rattle.simplicial_law.proofs.SimplexPlaces.{simplex_at}
 use Rattle.sparse_rows.specs.Rows.{IsBelow, value_in}
 use Rattle.complex_index.specs.declared.indexed.Cochain.{Cochain}

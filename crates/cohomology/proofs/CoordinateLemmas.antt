@@ -9,17 +9,16 @@ use Rattle.linear_law.specs.Congruence.{Congruent, IsField, negated, sum_over}
 use Rattle.linear_law.specs.Lists.{Each, IsAscending}
 use Rattle.linear_law.specs.ReducedBases.{IsReduced, combination, expansion}
 use native.Mathlib.Nat.{zero-mod}
-use Rattle.linear_law.proofs.AlikeLemmas.{zip_right}
 use Rattle.linear_law.proofs.CongruenceLemmas.{Congruent_add, Congruent_from, Congruent_mod, Congruent_mul, Congruent_of, Congruent_refl, Congruent_scale, Congruent_sym, Congruent_trans, add-negated}
 use Rattle.linear_law.proofs.LeadLemmas.{zero_if}
-use Rattle.linear_law.proofs.ListLemmas.{each_among, each_map, each_of_map, each_zip}
+use Rattle.linear_law.proofs.ListLemmas.{each_among, each_map, each_of_map, each_zip, zip_right}
 use Rattle.linear_law.proofs.PivotLemmas.{one-nonzero, same_or_not}
 use Rattle.linear_law.proofs.ReducedLemmas.{expanded_in, sum_picks, sum_vanishes}
 use Rattle.simplicial_law.specs.Simplices.{IsInOrder, IsSimplex, Precedes}
 use Rattle.simplicial_law.specs.Cochains.{AgreesOnSimplices, Cochain, HasCoordinates, IsCoboundary, IsCocycle, coboundary}
 use Rattle.simplicial_law.specs.Canonical.{IsCanonicalClass, IsCanonicalPrimitive, IsCoboundaryPivot, IsCocyclePivot}
 use Rattle.simplicial_law.specs.CanonicalClasses.{IsCanonicalBasis, cochain_of}
-use Rattle.simplicial_law.specs.EliminatedDegrees.{cochain_at, terms_of}
+use Rattle.simplicial_law.specs.Places.{cochain_at, terms_of}
 use Rattle.simplicial_law.proofs.Bases.{bounds_close, coboundaries, coboundary_plus, coboundary_same, coboundary_zero, cocycles}
 use Rattle.simplicial_law.proofs.DegreeZero.{no_bounds}
 use Rattle.simplicial_law.proofs.Order.{lists_compare, lists_strict}

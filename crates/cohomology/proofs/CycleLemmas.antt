@@ -20,7 +20,7 @@ use Rattle.simplicial_law.specs.Simplices.{Precedes}
 use Rattle.simplicial_law.specs.Cochains.{AgreesOnSimplices, Cochain, IsCoboundary, pairing, unit_cochain}
 use Rattle.simplicial_law.specs.Canonical.{IsCanonicalClass, IsCanonicalCoboundary, canonical_cycle}
 use Rattle.simplicial_law.specs.CanonicalClasses.{IsCanonicalBasis, cochain_of}
-use Rattle.simplicial_law.specs.EliminatedDegrees.{terms_of}
+use Rattle.simplicial_law.specs.Places.{terms_of}
 use Rattle.simplicial_law.proofs.Bases.{coboundaries}
 use Rattle.simplicial_law.proofs.Order.{lists_compare, lists_strict}
 use Rattle.simplicial_law.proofs.SimplexPlaces.{agree_by_place, simplex_at}

@@ -6,10 +6,9 @@ use Rattle.linear_law.specs.Congruence.{Congruent, IsField}
 use Rattle.linear_law.specs.Lists.{Each}
 use Rattle.linear_law.specs.Elimination.{KernelVector}
 use Rattle.linear_law.specs.Triangular.{Walked}
-use Rattle.linear_law.proofs.AlikeLemmas.{length_alike}
-use Rattle.linear_law.proofs.ListLemmas.{each_map}
+use Rattle.linear_law.proofs.ListLemmas.{each_map, length_alike}
 use Rattle.simplicial_law.specs.CanonicalClasses.{IsCanonicalBasis}
-use Rattle.simplicial_law.specs.EliminatedDegrees.{AreBoundPlaces, IsCoboundaryByPlace, IsCoboundaryRow, IsRowOf, terms_of}
+use Rattle.simplicial_law.specs.Places.{AreBoundPlaces, IsCoboundaryByPlace, IsCoboundaryRow, IsRowOf, terms_of}
 use Rattle.simplicial_law.proofs.Bases.{bounds_close}
 use Rattle.simplicial_law.proofs.CanonicalBases.{bound_places, canonical_basis}
 use Rattle.simplicial_law.proofs.CoboundaryRows.{rows_by_place}

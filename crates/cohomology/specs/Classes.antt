@@ -4,7 +4,7 @@ use Rattle.std.specs.declared.alloc.Global.{Global}
 use Rattle.linear_law.specs.Lists.{Each}
 use Rattle.simplicial_law.specs.Cochains.{Chain, Cochain as SimplexCochain}
 use Rattle.simplicial_law.specs.CanonicalClasses.{IsCanonicalBasis, cochain_of}
-use Rattle.simplicial_law.specs.EliminatedDegrees.{AreBoundPlaces, terms_of}
+use Rattle.simplicial_law.specs.Places.{AreBoundPlaces, terms_of}
 use Rattle.sparse_rows.specs.Rows.{IsBelow}
 use Rattle.complex_index.specs.declared.indexed.Cochain.{Cochain}
 use Rattle.complex_index.specs.Levels.{IsIndexOf, level}

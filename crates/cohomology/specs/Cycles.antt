@@ -6,7 +6,7 @@ use Rattle.linear_law.specs.Listing.{unit_vector}
 use Rattle.simplicial_law.specs.Cochains.{AgreesOnSimplices, Cochain as SimplexCochain, IsCoboundary, pairing}
 use Rattle.simplicial_law.specs.Canonical.{IsCanonicalClass, IsCanonicalCoboundary, canonical_cycle}
 use Rattle.simplicial_law.specs.CanonicalClasses.{cochain_of}
-use Rattle.simplicial_law.specs.EliminatedDegrees.{terms_of}
+use Rattle.simplicial_law.specs.Places.{terms_of}
 use Rattle.sparse_rows.specs.Rows.{IsBelow, IsFirst, IsRow, value_in}
 use Rattle.complex_index.specs.declared.indexed.Cochain.{Cochain}
 use Rattle.complex_index.specs.Levels.{IsIndexOf, level}

@@ -1,7 +1,7 @@
 -- The classes that were found, as they are printed.
 use Rattle.std.specs.Prelude.{ℕ, List, length}
 use Rattle.simplicial_law.specs.Cochains.{Chain}
-use Rattle.simplicial_law.specs.EliminatedDegrees.{terms_of}
+use Rattle.simplicial_law.specs.Places.{terms_of}
 use Rattle.sparse_rows.specs.Rows.{IsBelow}
 use Rattle.complex_index.specs.Levels.{level}
 use Rattle.complex_index.specs.declared.indexed.Cochain.{Cochain}

@@ -13,7 +13,7 @@ use Rattle.linear_law.proofs.ListLemmas.{each_append}
 use Rattle.simplicial_law.specs.Cochains.{faces, Cochain, alternating_chain, boundary, coboundary, pairing, unit_cochain}
 use Rattle.simplicial_law.specs.ListedSimplices.{simplex_cmp}
 use Rattle.simplicial_law.specs.CanonicalClasses.{cochain_of}
-use Rattle.simplicial_law.specs.EliminatedDegrees.{terms_of}
+use Rattle.simplicial_law.specs.Places.{terms_of}
 use Rattle.simplicial_law.proofs.ListedSimplices.{get_or_any, once_in_order}
 use Rattle.simplicial_law.proofs.UnitCochains.{unit_away, unit_here}
 use Rattle.sparse_rows.specs.Rows.{IsBelow, value_in}

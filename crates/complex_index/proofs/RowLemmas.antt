@@ -10,12 +10,11 @@ use Rattle.std.proofs.lemmas.List.{map-append, take_more}
 use Rattle.complex_index.specs.declared.levels.Level.{Level}
 use Rattle.linear_law.specs.Congruence.{Congruent}
 use Rattle.linear_law.specs.Lists.{Among, Each}
-use Rattle.linear_law.proofs.AlikeLemmas.{zip_push}
 use Rattle.linear_law.proofs.CongruenceLemmas.{Congruent_mod, Congruent_of, Congruent_trans}
-use Rattle.linear_law.proofs.ListLemmas.{each_among}
+use Rattle.linear_law.proofs.ListLemmas.{each_among, zip_push}
 use Rattle.simplicial_law.specs.Cochains.{Cochain, coboundary, unit_cochain}
 use Rattle.simplicial_law.specs.CanonicalClasses.{cochain_of}
-use Rattle.simplicial_law.specs.EliminatedDegrees.{IsCoboundaryRow, terms_of}
+use Rattle.simplicial_law.specs.Places.{IsCoboundaryRow, terms_of}
 use Rattle.simplicial_law.proofs.ListedSimplices.{each_of}
 use Rattle.sparse_rows.specs.Rows.{IsBelow, IsRow, value_in}
 use Rattle.complex_index.specs.Chains.{IsBoundaryOf, IsCoboundaryOf, boundary_coefficient, shrunk, spread}

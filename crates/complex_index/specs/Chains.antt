@@ -4,7 +4,7 @@ use Rattle.std.specs.declared.alloc.Global.{Global}
 use Rattle.linear_law.specs.Congruence.{Congruent, negated, sum_over}
 use Rattle.simplicial_law.specs.Cochains.{Chain, boundary, coboundary, pairing, unit_cochain}
 use Rattle.simplicial_law.specs.CanonicalClasses.{cochain_of}
-use Rattle.simplicial_law.specs.EliminatedDegrees.{terms_of}
+use Rattle.simplicial_law.specs.Places.{terms_of}
 use Rattle.sparse_rows.specs.Rows.{IsBelow, value_in}
 use Rattle.complex_index.specs.declared.incidence.Coface.{Coface}
 use Rattle.complex_index.specs.Incidence.{list_at}

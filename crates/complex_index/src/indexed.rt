@@ -2,7 +2,7 @@ ghost use Rattle.std.specs.Prelude.{◌≡◌, ℕ, ◌+◌, ◌-◌, ◌<◌, �
 ghost use Rattle.std.specs.List.{AllZip};
 ghost use Rattle.linear_law.specs.Lists.{Among, Each, IsAscending};
 ghost use Rattle.simplicial_law.specs.ListedSimplices.{simplices};
-ghost use Rattle.simplicial_law.specs.EliminatedDegrees.{IsCoboundaryRow};
+ghost use Rattle.simplicial_law.specs.Places.{IsCoboundaryRow};
 ghost use Rattle.fp_field.specs.Served.{served};
 ghost use Rattle.sparse_rows.specs.Rows.{IsBelow, value_in};
 ghost use Rattle.complex_index.specs.Chains.{IsBoundaryOf, IsCoboundaryOf};

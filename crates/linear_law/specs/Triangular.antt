@@ -1,6 +1,6 @@
 -- Elimination that keeps nothing reduced: a triangular list of images, each with a lead of its own,
 -- and the vectors of the kernel.
-use Rattle.std.specs.Prelude.{◌≡◌, ℕ, ◌<◌, ◌≤◌, ◌⊎◌, List, map}
+use Rattle.std.specs.Prelude.{◌≡◌, ℕ, ◌+◌, ◌<◌, ◌≤◌, ◌⊎◌, List, length, map}
 use Rattle.linear_law.specs.Congruence.{Congruent}
 use Rattle.linear_law.specs.Lists.{Among, Each, IsApart, IsAscending}
 use Rattle.linear_law.specs.ReducedBases.{AgreesOn, IsReduced, IsReducedBasis}
@@ -44,6 +44,13 @@ pub record Walked (p count width : ℕ) (L : (ℕ → ℕ) → ℕ → ℕ) (ski
   pub image_skips : Each (λ i. Skips p skipped i.from) images
   pub apart : Each (λ i. Each (λ k. Congruent p (i.from k.place) 0) kernel) images
   pub image_whole : (v : ℕ → ℕ) → StartsAt p low v → (t : ℕ) → LeadsAt p width (L v) t → Among t (map image_place images)
+
+-- A walk down to `low` that skips no place: each place walked gives a vector of the kernel or an image.
+pub record CountedWalk (p count width : ℕ) (L : (ℕ → ℕ) → ℕ → ℕ) (low : ℕ) : Type 0 where
+  pub kernel : List KernelVector
+  pub images : List (ImageVector ℕ)
+  pub walked : Walked p count width L (λ x. ⊥) low kernel images
+  pub counted : low + length kernel + length images ≡ count
 
 -- a vector with a place
 pub record PlacedVector : Type 0 where

@@ -10,9 +10,8 @@ use Rattle.linear_law.specs.ReducedBases.{AgreesOn, IsReduced, expansion}
 use Rattle.linear_law.specs.Elimination.{IsLinear, KernelVector}
 use Rattle.linear_law.specs.Pivots.{IsLead}
 use Rattle.linear_law.specs.Triangular.{StartsAt, kernel_place}
-use Rattle.linear_law.proofs.AlikeLemmas.{each_alike, each_from_index, length_alike, zip_from_index}
 use Rattle.linear_law.proofs.CongruenceLemmas.{Congruent_add, Congruent_from, Congruent_mul, Congruent_of, Congruent_refl, Congruent_scale, Congruent_sym, Congruent_trans}
-use Rattle.linear_law.proofs.ListLemmas.{each_get_or, each_map, each_unmap, each_zip}
+use Rattle.linear_law.proofs.ListLemmas.{each_get_or, each_map, each_unmap, each_zip, each_alike, each_from_index, length_alike, zip_from_index}
 use Rattle.linear_law.proofs.PivotLemmas.{one-nonzero}
 use Rattle.linear_law.proofs.WalkedSpaces.{classes_span}
 use Rattle.sparse_rows.specs.Rows.{IsBelow, IsFirst, IsRow, value_in}

@@ -6,7 +6,7 @@ use Rattle.linear_law.specs.Congruence.{Congruent}
 use Rattle.linear_law.specs.Lists.{Among, Each}
 use Rattle.linear_law.specs.Elimination.{ImageVector, KernelVector}
 use Rattle.linear_law.specs.Triangular.{image_place}
-use Rattle.linear_law.proofs.AlikeLemmas.{each_right, zip_change, zip_each}
+use Rattle.linear_law.proofs.ListLemmas.{each_right, zip_change, zip_each}
 use Rattle.linear_law.proofs.CongruenceLemmas.{Congruent_sym}
 use Rattle.sparse_rows.specs.Rows.{IsBelow, IsRow, value_in}
 use Rattle.row_reduce.specs.declared.Class.{Class}

@@ -8,8 +8,7 @@ use Rattle.linear_law.specs.ReducedBases.{AgreesOn}
 use Rattle.linear_law.specs.Elimination.{ImageVector, IsLinear, KernelVector}
 use Rattle.linear_law.specs.Listing.{unit_vector}
 use Rattle.linear_law.proofs.RowCombinations.{unit_one, unit_other}
-use Rattle.linear_law.proofs.AlikeLemmas.{length_alike, zip_change, zip_push}
-use Rattle.linear_law.proofs.ListLemmas.{each_map, each_push, each_zip, get_before, get_last, length_push}
+use Rattle.linear_law.proofs.ListLemmas.{each_map, each_push, each_zip, get_before, get_last, length_push, length_alike, zip_change, zip_push}
 use Rattle.linear_law.proofs.CongruenceLemmas.{Congruent_refl, Congruent_of, Congruent_sym, Congruent_trans, Congruent_add, Congruent_from}
 use Rattle.row_reduce.specs.declared.Stored.{Stored}
 use Rattle.row_reduce.specs.declared.Class.{Class}

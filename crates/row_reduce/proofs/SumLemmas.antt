@@ -10,8 +10,7 @@ use Rattle.linear_law.specs.Listing.{unit_vector}
 use Rattle.row_reduce.specs.declared.Stored.{Stored}
 use Rattle.row_reduce.specs.Stored.{EntryFits, IsDense, Owns, StoredFits, added_row}
 use Rattle.sparse_rows.proofs.RowLemmas.{value_in-at, value_in-none}
-use Rattle.linear_law.proofs.AlikeLemmas.{each_from_index}
-use Rattle.linear_law.proofs.ListLemmas.{each_get_or, each_map, each_push, each_zip}
+use Rattle.linear_law.proofs.ListLemmas.{each_get_or, each_map, each_push, each_zip, each_from_index}
 use Rattle.linear_law.proofs.RowCombinations.{unit_one, unit_other}
 use Rattle.linear_law.proofs.CongruenceLemmas.{Congruent_refl, Congruent_of, Congruent_trans, Congruent_add, Congruent_mul, Congruent_scale, Congruent_from, Congruent_mod}
 use Rattle.linear_law.proofs.SumLemmas.{sum_append}

@@ -11,9 +11,8 @@ use Rattle.linear_law.specs.Elimination.{ImageVector, IsImage, IsInKernel, IsLin
 use Rattle.linear_law.specs.Listing.{ListsAll, row_combination, unit_vector}
 use Rattle.linear_law.specs.Pivots.{IsCanonical, IsPivot}
 use Rattle.linear_law.specs.Triangular.{Skips, Walked, image_place, kernel_place}
-use Rattle.linear_law.proofs.AlikeLemmas.{each_alike, each_right, length_alike, zip_each, zip_left, zip_right}
 use Rattle.linear_law.proofs.CongruenceLemmas.{Congruent_add, Congruent_of, Congruent_refl, Congruent_scale, Congruent_sym, Congruent_trans}
-use Rattle.linear_law.proofs.ListLemmas.{among_map, each_among, each_get_or, each_map, each_of_map, each_zip}
+use Rattle.linear_law.proofs.ListLemmas.{among_map, each_among, each_get_or, each_map, each_of_map, each_zip, each_alike, each_right, length_alike, zip_each, zip_left, zip_right}
 use Rattle.linear_law.proofs.QuotientBases.{coordinates, coordinates_count, coordinates_only, coordinates_rest, coordinates_small}
 use Rattle.linear_law.proofs.RowCombinations.{unit_one, unit_other}
 use Rattle.linear_law.proofs.TriangularBases.{found}
@@ -22,7 +21,7 @@ use Rattle.simplicial_law.specs.Simplices.{IsInOrder, IsSimplex, Precedes}
 use Rattle.simplicial_law.specs.Cochains.{AgreesOnSimplices, Chain, Cochain, IsCoboundary, IsCocycle, IsCohomologyBasis, unit_cochain}
 use Rattle.simplicial_law.specs.Canonical.{IsCanonicalClass, IsCoboundaryPivot, IsCocyclePivot}
 use Rattle.simplicial_law.specs.CanonicalClasses.{AreTerms, IsCanonicalBasis, cochain_of}
-use Rattle.simplicial_law.specs.EliminatedDegrees.{AreBoundPlaces, IsCoboundaryByPlace, IsRowOf, cochain_at, terms_of}
+use Rattle.simplicial_law.specs.Places.{AreBoundPlaces, IsCoboundaryByPlace, IsRowOf, cochain_at, terms_of}
 use Rattle.simplicial_law.proofs.Bases.{bounds_close, coboundaries, cocycles}
 use Rattle.simplicial_law.specs.Laws.{CanonicalBasisLaw}
 use Rattle.simplicial_law.proofs.CoboundaryRows.{rows_by_place}

@@ -11,7 +11,7 @@ use Rattle.linear_law.proofs.CanonicalVectors.{unit_sum-lead}
 use Rattle.linear_law.proofs.UnitSums.{unit_sum-value}
 use Rattle.simplicial_law.specs.Simplices.{IsInOrder, IsSimplex, Precedes}
 use Rattle.simplicial_law.specs.Cochains.{AgreesOnSimplices, Cochain, unit_cochain}
-use Rattle.simplicial_law.specs.EliminatedDegrees.{cochain_at}
+use Rattle.simplicial_law.specs.Places.{cochain_at}
 use Rattle.simplicial_law.proofs.Order.{lists_compare, lists_strict}
 use Rattle.simplicial_law.proofs.UnitCochains.{unit_away, unit_here}
 

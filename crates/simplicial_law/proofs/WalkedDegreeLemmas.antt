@@ -8,7 +8,7 @@ use Rattle.linear_law.proofs.ListLemmas.{each_get_or}
 use Rattle.linear_law.proofs.UnitSums.{unit_sum-past}
 use Rattle.simplicial_law.specs.Simplices.{IsSimplex}
 use Rattle.simplicial_law.specs.Cochains.{Cochain, IsCoboundary, IsCocycle, coboundary, unit_cochain}
-use Rattle.simplicial_law.specs.EliminatedDegrees.{IsCoboundaryByPlace, cochain_at}
+use Rattle.simplicial_law.specs.Places.{IsCoboundaryByPlace, cochain_at}
 use Rattle.simplicial_law.proofs.Bases.{coboundary_plus, coboundary_same, coboundary_zero}
 use Rattle.simplicial_law.proofs.SimplexPlaces.{agree_by_place, cochain_at-value, simplex_at}
 use Rattle.simplicial_law.proofs.UnitCochains.{unit_away, unit_here}

@@ -1,5 +1,5 @@
 use Rattle.std.proofs.Common.{◌≡◌, take}
-use Rattle.simplicial_law.specs.EliminatedDegrees.{terms_of}
+use Rattle.simplicial_law.specs.Places.{terms_of}
 use Rattle.complex_index.specs.Levels.{level}
 use Rattle.comch_app.proofs.chains.chain_of.Given as goal
 

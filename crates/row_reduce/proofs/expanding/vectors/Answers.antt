@@ -1,7 +1,7 @@
 use Rattle.std.proofs.Common.{ℕ, ◌≡◌, ◌+◌, List, ◌∷◌, [], ◌++◌, take, sym, ap, ◌∙◌, subst}
 use Rattle.std.proofs.lemmas.List.{take_more}
 use Rattle.std.specs.List.{AllZip}
-use Rattle.linear_law.proofs.AlikeLemmas.{zip_push}
+use Rattle.linear_law.proofs.ListLemmas.{zip_push}
 use Rattle.row_reduce.specs.declared.Class.{Class}
 use Rattle.row_reduce.specs.Expansion.{IsVectorOf, IsVectorOfClass}
 use Rattle.row_reduce.proofs.expanding.vectors.Goals as goal

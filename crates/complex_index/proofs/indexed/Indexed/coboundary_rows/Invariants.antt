@@ -1,7 +1,7 @@
 use Rattle.std.proofs.Common.{◌+◌, length, map, take}
 use Rattle.std.specs.List.{AllZip}
 use Rattle.linear_law.specs.Lists.{Each}
-use Rattle.simplicial_law.specs.EliminatedDegrees.{IsCoboundaryRow}
+use Rattle.simplicial_law.specs.Places.{IsCoboundaryRow}
 use Rattle.sparse_rows.specs.Rows.{IsBelow, value_in}
 use Rattle.complex_index.specs.Levels.{level}
 use Rattle.complex_index.proofs.indexed.Indexed.coboundary_rows.Given as goal
