@@ -59,7 +59,8 @@ impl<const P: u32> Fp<P> {
         requires { IsTrue (served P) }
         ensures { result ≡ (self.entry + other.entry) % P }
     {
-        Fp::new(self.0 as u64 + other.0 as u64)
+        let sum = self.0 + other.0;
+        Fp(if sum < P as u8 { sum } else { sum - P as u8 })
     }
 
     /// The difference.
