@@ -1,0 +1,90 @@
+-- The headline holds of the report of each job.
+use Rattle.std.proofs.Common.{◌≡◌, ℕ, zero, suc, ◌<◌, List, [], ◌∷◌, map, length, get_or, arith, refl, subst}
+use Rattle.std.specs.Prelude.{IsTrue}
+use Rattle.std.specs.List.{AllZip}
+use Rattle.fp_field.specs.Served.{served}
+use Rattle.fp_field.proofs.ServedLemmas.{served_field}
+use Rattle.linear_law.specs.Lists.{Each, IsAscending}
+use Rattle.linear_law.proofs.ListLemmas.{each_get_or, each_map}
+use Rattle.complex_file.specs.declared.block.ComplexBlock.{ComplexBlock}
+use Rattle.complex_file.specs.declared.block.MapBlock.{MapBlock}
+use Rattle.complex_file.specs.Input.{Spelled}
+use Rattle.complex_file.specs.Jobs.{facets_at}
+use Rattle.complex_file.specs.Maps.{image}
+use Rattle.report.specs.declared.complex.ComplexPart.{ComplexPart}
+use Rattle.report.specs.declared.form.Form.{Form}
+use Rattle.report.specs.declared.map.MapPart.{MapPart}
+use Rattle.report.specs.Forms.{has_tables}
+use Rattle.report_law.specs.Headline.{ComplexPromise, MapPromise}
+use Rattle.report_law.specs.Laws.{HeadlineLaw}
+use Rattle.report_law.specs.Live.{induced_degrees}
+use Rattle.report_law.specs.Matrices.{Classes, ranks}
+use Rattle.report_law.specs.Parts.{classes_of, part_at}
+use Rattle.report_law.specs.Reports.{IsComplexPart, IsInducedPart, IsMapPart}
+use Rattle.report_law.proofs.CanonicalData.{bases-of}
+use Rattle.report_law.proofs.Carrying.{bases_promise, operation_promises, product_promise}
+use Rattle.report_law.proofs.Maps.{IsMapOf, job-complexes, job-maps, job-prime, simplicial}
+use Rattle.report_law.proofs.Naturality.{induced_promise}
+use Rattle.report_law.proofs.Verdicts.{cartan_promises}
+
+module _ (form : Form) (p : ℕ) (is_served : IsTrue (served p)) where
+  complex-promise : (block : ComplexBlock) (c : ComplexPart) → Each IsAscending block.facets → IsComplexPart form p block c → ComplexPromise form p block c
+  complex-promise block c ascending h =
+      let are = bases-of block.facets ascending p (served_field p is_served) (classes_of c) h.classes in record {
+        bases = bases_promise block.facets p is_served c are;
+        tables = λ has. (let t = h.tables has in record {
+          products = each_map (λ x b. product_promise block.facets p is_served c are form x b) c.products t.product_parts;
+          operations = operation_promises block.facets p is_served c are form t.operations t.operation_parts;
+          cartans = cartan_promises form block.facets ascending p is_served c are t.cartans t.cartan_parts;
+        });
+      }
+
+  complex-promises : (blocks : List ComplexBlock) (cs : List ComplexPart) → Each (λ b. Each IsAscending b.facets) blocks → AllZip (IsComplexPart form p) blocks cs → AllZip (ComplexPromise form p) blocks cs
+  complex-promises [] [] a h = tt
+  complex-promises [] (c ∷ cs) a h = absurd h
+  complex-promises (b ∷ bs) [] a h = absurd h
+  complex-promises (b ∷ bs) (c ∷ cs) a h = (complex-promise b c a.0 h.0, complex-promises bs cs a.1 h.1)
+
+  pub part-of : (blocks : List ComplexBlock) (cs : List ComplexPart) (k : ℕ) → k < length blocks → AllZip (IsComplexPart form p) blocks cs → IsComplexPart form p (get_or blocks k (record { name = []; facets = [] })) (part_at cs k)
+  part-of [] cs k l h = absurd (omega (arith, l))
+  part-of (b ∷ bs) [] k l h = absurd h
+  part-of (b ∷ bs) (c ∷ cs) zero l h = h.0
+  part-of (b ∷ bs) (c ∷ cs) (suc k) l h = part-of bs cs k (omega (arith, l)) h.1
+
+pub classes-at : (parts : List ComplexPart) (k : ℕ) → get_or (map classes_of parts) k [] ≡ classes_of (part_at parts k)
+classes-at [] k = refl
+classes-at (c ∷ cs) zero = refl
+classes-at (c ∷ cs) (suc k) = classes-at cs k
+
+module _ (form : Form) (has : IsTrue (has_tables form)) (job : Spelled) (parts : List ComplexPart) (is_served : IsTrue (served job.prime)) (ascending : Each (λ b. Each IsAscending b.facets) job.complexes)
+    (are : AllZip (IsComplexPart form job.prime) job.complexes parts) where
+  map-promise : (block : MapBlock) (m : MapPart) → IsMapOf job.complexes block → IsMapPart form job (map classes_of parts) block m → MapPromise job parts block m
+  map-promise block m is h =
+      let K = part-of form job.prime is_served job.complexes parts block.from is.from are in
+      let L = part-of form job.prime is_served job.complexes parts block.to is.to are in
+      let a = each_get_or (λ b. Each IsAscending b.facets) job.complexes block.from (record { name = []; facets = [] }) is.from ascending in
+      let b = each_get_or (λ b. Each IsAscending b.facets) job.complexes block.to (record { name = []; facets = [] }) is.to ascending in
+      induced_promise job.prime is_served (image block.sends)
+      (facets_at job.complexes block.from) (part_at parts block.from) (bases-of (facets_at job.complexes block.from) a job.prime (served_field job.prime is_served) (classes_of (part_at parts block.from)) K.classes)
+      (facets_at job.complexes block.to) (part_at parts block.to) (bases-of (facets_at job.complexes block.to) b job.prime (served_field job.prime is_served) (classes_of (part_at parts block.to)) L.classes)
+      (simplicial (facets_at job.complexes block.from) (facets_at job.complexes block.to) a b block.sends is.free) form m
+      (subst (λ (cs : Classes). map (λ x. x.q) m.induced ≡ induced_degrees (ranks cs) (ranks (classes_of (part_at parts block.to)))) (classes-at parts block.from)
+      (subst (λ (cs : Classes). map (λ x. x.q) m.induced ≡ induced_degrees (ranks (get_or (map classes_of parts) block.from [])) (ranks cs)) (classes-at parts block.to) h.induced))
+      (subst (λ (cs : Classes). Each (IsInducedPart form (image block.sends) (facets_at job.complexes block.from) job.prime cs (classes_of (part_at parts block.to))) m.induced) (classes-at parts block.from)
+      (subst (λ (cs : Classes). Each (IsInducedPart form (image block.sends) (facets_at job.complexes block.from) job.prime (get_or (map classes_of parts) block.from []) cs) m.induced) (classes-at parts block.to) h.induced_parts))
+      (K.tables has).operations (K.tables has).operation_parts (L.tables has).operations (L.tables has).operation_parts
+
+  map-promises : (blocks : List MapBlock) (ms : List MapPart) → Each (IsMapOf job.complexes) blocks → AllZip (IsMapPart form job (map classes_of parts)) blocks ms → AllZip (MapPromise job parts) blocks ms
+  map-promises [] [] is h = tt
+  map-promises [] (m ∷ ms) is h = absurd h
+  map-promises (b ∷ bs) [] is h = absurd h
+  map-promises (b ∷ bs) (m ∷ ms) is h = (map-promise b m is.0 h.0, map-promises bs ms is.1 h.1)
+
+pub headline_law : HeadlineLaw
+headline_law form job report kept h =
+    let s = job-prime job.prime job.complexes job.maps kept in
+    let a = job-complexes job.prime job.complexes job.maps kept in
+    record {
+      complexes = complex-promises form job.prime s job.complexes report.complexes a h.complexes;
+      maps = λ has. map-promises form has job report.complexes s a h.complexes job.maps report.maps (job-maps job.prime job.complexes job.maps kept) (h.maps has);
+    }

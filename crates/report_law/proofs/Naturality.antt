@@ -1,0 +1,100 @@
+-- Induced matrices, listed or not, and how they go with the matrices of operations.
+use Rattle.std.proofs.Common.{◌≡◌, ℕ, inl, inr, List, [], ◌∷◌, map, length, sym, subst}
+use Rattle.std.specs.Prelude.{IsTrue}
+use Rattle.std.specs.List.{AllZip}
+use Rattle.fp_field.specs.Served.{served}
+use Rattle.fp_field.proofs.ServedLemmas.{served_field}
+use Rattle.linear_law.specs.Congruence.{IsField}
+use Rattle.linear_law.specs.Lists.{Among, Each}
+use Rattle.linear_law.proofs.ListLemmas.{each_among}
+use Rattle.simplicial_law.specs.Cochains.{Chain, Cochain, HasCoordinates, IsCocycle, IsCohomologyBasis}
+use Rattle.simplicial_law.specs.CanonicalClasses.{AreCanonicalBases, cochain_of}
+use Rattle.steenrod_law.proofs.InducedMaps.{matrices-commute, pull_back-cocycle, pull_back-matrix}
+use Rattle.steenrod_law.proofs.OrbitTables.{orbit_tables}
+use Rattle.steenrod_law.specs.Operations.{IsSimplicial, pull_back}
+use Rattle.steenrod_law.specs.Words.{copies}
+use Rattle.report.specs.declared.columns.Column.{Column}
+use Rattle.report.specs.declared.complex.ComplexPart.{ComplexPart}
+use Rattle.report.specs.declared.form.Form.{Form}
+use Rattle.report.specs.declared.map.MapPart.{MapPart}
+use Rattle.report.specs.Forms.{has_details}
+use Rattle.report_law.specs.Columns.{IsColumn}
+use Rattle.report_law.specs.Headline.{InducedPromise, listed}
+use Rattle.report_law.specs.Live.{blocks, element_degree, induced_degrees, target_degree}
+use Rattle.report_law.specs.Matrices.{classes_in, ranks}
+use Rattle.report_law.specs.Parts.{block_of, classes_of, induced_matrix, matrix_of, operation_matrix}
+use Rattle.report_law.specs.Reports.{IsInducedPart, IsOperationPart}
+use Rattle.report_law.proofs.Blocks.{in-induced, induced-found, rank-or-none}
+use Rattle.report_law.proofs.Carrying.{any_basis, matrix-columns}
+use Rattle.report_law.proofs.Coordinates.{no-coordinates}
+use Rattle.report_law.proofs.ScaledForms.{scaled}
+
+module _ (p : ℕ) (is_served : IsTrue (served p)) (f : ℕ → ℕ)
+    (K : List (List ℕ)) (from : ComplexPart) (are_K : AreCanonicalBases K p (classes_of from))
+    (L : List (List ℕ)) (to : ComplexPart) (are_L : AreCanonicalBases L p (classes_of to))
+    (simplicial : IsSimplicial f K L) (form : Form) (m : MapPart)
+    (are_induced : map (λ x. x.q) m.induced ≡ induced_degrees (ranks (classes_of from)) (ranks (classes_of to))) (each : Each (IsInducedPart form f K p (classes_of from) (classes_of to)) m.induced) where
+  abbrev field : IsField p
+  field = served_field p is_served
+
+  basis_K : (n : ℕ) → IsCohomologyBasis K n p (listed from n)
+  basis_K n = any_basis K p is_served from are_K n
+
+  basis_L : (n : ℕ) → IsCohomologyBasis L n p (listed to n)
+  basis_L n = any_basis L p is_served to are_L n
+
+  abbrev IsPulledColumn : ℕ → List ℕ → Cochain → Type 0
+  IsPulledColumn q column u = HasCoordinates K q p (listed from q) u column
+
+  listed-columns : (q : ℕ) (ws : List Cochain) (ys : List Column) → AllZip (λ w y. IsColumn (has_details form) K q p (listed from q) (pull_back f w) y.values y.primitive) ws ys
+      → AllZip (IsPulledColumn q) (matrix_of ys) (map (pull_back f) ws)
+  listed-columns q [] [] h = tt
+  listed-columns q [] (y ∷ ys) h = absurd h
+  listed-columns q (w ∷ ws) [] h = absurd h
+  listed-columns q (w ∷ ws) (y ∷ ys) h = (h.0.coordinates, listed-columns q ws ys h.1)
+
+  no-rows : (q : ℕ) → classes_in (classes_of from) q ≡ [] → (ts : List Chain) → Each (IsCocycle L q p) (map cochain_of ts) → AllZip (IsPulledColumn q) (copies (length ts) []) (map (pull_back f) (map cochain_of ts))
+  no-rows q e [] h = tt
+  no-rows q e (t ∷ ts) h =
+      let u : Cochain = pull_back f (cochain_of t) in
+      let empty : IsCohomologyBasis K q p [] = subst (λ (us : List Chain). IsCohomologyBasis K q p (map cochain_of us)) e (basis_K q) in (
+        subst (λ (us : List Chain). HasCoordinates K q p (map cochain_of us) u []) (sym e) (no-coordinates K q p u empty (pull_back-cocycle f K L p field simplicial q (cochain_of t) h.0)),
+        no-rows q e ts h.1,
+      )
+
+  pub induced-columns : (q : ℕ) → AllZip (IsPulledColumn q) (induced_matrix to m q) (map (pull_back f) (listed to q))
+  induced-columns q =
+      elim (induced-found (copies (length (classes_in (classes_of to) q)) []) q m.induced) [
+        | inl g ↦
+            let x = g.block in
+            let block = each_among (IsInducedPart form f K p (classes_of from) (classes_of to)) x m.induced each g.listed in
+            let columns = listed-columns x.q (listed to x.q) x.columns block in
+            subst (λ (a : List (List ℕ)). AllZip (IsPulledColumn q) a (map (pull_back f) (listed to q))) (sym g.matrix_is)
+            (subst (λ (k : ℕ). AllZip (IsPulledColumn k) (matrix_of x.columns) (map (pull_back f) (listed to k))) g.degree columns)
+        | inr none ↦
+            subst (λ (a : List (List ℕ)). AllZip (IsPulledColumn q) a (map (pull_back f) (listed to q))) (sym none.0)
+            (elim (rank-or-none (classes_of from) q) [
+              | inr e ↦ no-rows q e (classes_in (classes_of to) q) (basis_L q).cocycles
+              | inl here ↦ elim (rank-or-none (classes_of to) q) [
+                | inr e ↦ subst (λ (ts : List Chain). AllZip (IsPulledColumn q) (copies (length ts) []) (map (pull_back f) (map cochain_of ts))) (sym e) tt
+                | inl there ↦ absurd (none.1 (subst (λ (qs : List ℕ). Among q qs) (sym are_induced) (in-induced (ranks (classes_of from)) (ranks (classes_of to)) q here there)))
+              ]
+            ])
+      ]
+
+  pub induced_promise : map block_of from.operations ≡ blocks p (ranks (classes_of from)) → Each (IsOperationPart form K p (classes_of from)) from.operations
+      → map block_of to.operations ≡ blocks p (ranks (classes_of to)) → Each (IsOperationPart form L p (classes_of to)) to.operations → InducedPromise f K L p from to m
+  induced_promise a b c d = record {
+    commute = λ op q defined. (
+        let constant = scaled p op q is_served defined in
+        let n : ℕ = target_degree p q op in
+        let ms = orbit_tables.all_served p is_served in
+        matrices-commute f K L p field simplicial (element_degree p q op) constant.scale q n ms.0 ms.1 (listed from q) (listed from n) (listed to q) (listed to n)
+        (operation_matrix from op q) (induced_matrix to m q) (operation_matrix to op q) (induced_matrix to m n)
+        (basis_K q).cocycles (basis_K n) (basis_L q).cocycles
+        (matrix-columns K p is_served from are_K form a b op q constant defined)
+        (matrix-columns L p is_served to are_L form c d op q constant defined)
+        (induced-columns q) (induced-columns n));
+    carries = λ q z cs closed coordinates.
+        pull_back-matrix f K L p field simplicial q (listed from q) (listed to q) (induced_matrix to m q) (induced-columns q) z cs coordinates;
+  }

@@ -1,0 +1,11 @@
+pub mod Live
+pub mod Differences
+pub mod Columns
+pub mod Matrices
+pub mod Parts
+pub mod Reports
+pub mod Headline
+pub mod Terms
+pub mod Laws
+pub mod Rows
+pub mod Point

@@ -1,0 +1,101 @@
+-- The report of a job in a form. What the form does not print is free.
+use Rattle.std.specs.Prelude.{◌≡◌, IsTrue, ℕ, ◌<◌, List, [], map, length, get_or}
+use Rattle.std.specs.List.{AllZip}
+use Rattle.linear_law.specs.Lists.{Among, Each, IsAscending}
+use Rattle.simplicial_law.specs.Simplices.{IsInOrder}
+use Rattle.complex_file.specs.declared.block.ComplexBlock.{ComplexBlock}
+use Rattle.complex_file.specs.declared.block.MapBlock.{MapBlock}
+use Rattle.complex_file.specs.declared.block.Sent.{Sent}
+use Rattle.complex_file.specs.Input.{Spelled}
+use Rattle.complex_file.specs.Jobs.{facets_at}
+use Rattle.complex_file.specs.Maps.{image}
+use Rattle.complex_file.specs.Written.{name_at}
+use Rattle.report.specs.declared.columns.CartanPart.{CartanPart}
+use Rattle.report.specs.declared.columns.OperationPart.{OperationPart}
+use Rattle.report.specs.declared.columns.ProductPart.{ProductPart}
+use Rattle.report.specs.declared.complex.ComplexPart.{ComplexPart}
+use Rattle.report.specs.declared.form.Form.{Form}
+use Rattle.report.specs.declared.job.Report.{Report}
+use Rattle.report.specs.declared.map.InducedPart.{InducedPart}
+use Rattle.report.specs.declared.map.MapPart.{MapPart}
+use Rattle.report.specs.Forms.{has_details, has_tables}
+use Rattle.report_law.specs.Columns.{ArePrimitives}
+use Rattle.report_law.specs.Live.{blocks, induced_degrees, lines, products}
+use Rattle.report_law.specs.Matrices.{AreClasses, Classes, IsInducedBlock, IsOperationBlock, IsProductBlock, IsVerdict, classes_in, ranks}
+use Rattle.report_law.specs.Parts.{below_in, block_of, classes_of, line_of, number_pairs, numbers_of, product_of, unnumbered}
+
+-- ---- a complex
+
+-- each vertex of f is one of g
+abbrev pub IsWithin : List ℕ → List ℕ → Type 0
+IsWithin f g = Each (λ v. Among v g) f
+
+-- f is a facet that lies in no other
+pub record IsMaximal (facets : List (List ℕ)) (f : List ℕ) : Type 0 where
+  pub given : Among f facets
+  pub alone : (g : List ℕ) → Among g facets → IsWithin f g → g ≡ f
+
+-- The facets that lie in no other, each once, ascending as lists.
+pub record AreMaximalFacets (facets listed : List (List ℕ)) : Type 0 where
+  pub in_order : IsInOrder listed
+  pub each : Each (IsMaximal facets) listed
+  pub all : (f : List ℕ) → IsMaximal facets f → Among f listed
+
+-- A block of products: its columns, with the numbers of their classes.
+pub record IsProductPart (form : Form) (facets : List (List ℕ)) (p : ℕ) (classes : Classes) (x : ProductPart) : Type 0 where
+  pub numbers : map numbers_of x.columns ≡ number_pairs (length (classes_in classes x.a)) (length (classes_in classes x.b))
+  pub block : IsProductBlock (has_details form) facets p classes (product_of x) (map unnumbered x.columns)
+
+abbrev pub IsOperationPart : Form → List (List ℕ) → ℕ → Classes → OperationPart → Type 0
+IsOperationPart form facets p classes o = IsOperationBlock (has_details form) facets p classes (block_of o) o.columns
+
+abbrev pub IsCartanPart : Form → List (List ℕ) → ℕ → Classes → CartanPart → Type 0
+IsCartanPart form facets p classes l = IsVerdict (has_details form) facets p classes (line_of l) l.answer
+
+-- The live products, operations and Cartan lines, in their order, with their matrices and verdicts.
+pub record AreTables (form : Form) (facets : List (List ℕ)) (p : ℕ) (classes : Classes) (c : ComplexPart) : Type 0 where
+  pub products : map product_of c.products ≡ products (ranks classes)
+  pub product_parts : Each (IsProductPart form facets p classes) c.products
+  pub operations : map block_of c.operations ≡ blocks p (ranks classes)
+  pub operation_parts : Each (IsOperationPart form facets p classes) c.operations
+  pub cartans : map line_of c.cartans ≡ lines p (ranks classes)
+  pub cartan_parts : Each (IsCartanPart form facets p classes) c.cartans
+
+-- What is listed of a complex: its name, and for each degree that has a simplex, from 0 on, its canonical classes. Then
+-- the tables. A certificate has the maximal facets, and the canonical primitives of the canonical coboundaries, too.
+pub record IsComplexPart (form : Form) (p : ℕ) (block : ComplexBlock) (c : ComplexPart) : Type 0 where
+  pub name : c.name ≡ block.name
+  pub classes : AreClasses block.facets p (classes_of c)
+  pub tables : IsTrue (has_tables form) → AreTables form block.facets p (classes_of c) c
+  pub facets : IsTrue (has_details form) → AreMaximalFacets block.facets c.facets
+  pub below : IsTrue (has_details form) → (n : ℕ) → n < length c.degrees → ArePrimitives block.facets n p (below_in c n)
+
+-- ---- a map
+
+-- the sends, ascending by the vertex that is sent
+pub record AreOrderedSends (sends listed : List Sent) : Type 0 where
+  pub ascending : IsAscending (map (λ s. s.from) listed)
+  pub each : Each (λ s. Among s sends) listed
+  pub all : Each (λ s. Among s listed) sends
+
+abbrev pub IsInducedPart : Form → (ℕ → ℕ) → List (List ℕ) → ℕ → Classes → Classes → InducedPart → Type 0
+IsInducedPart form f facets p from to x = IsInducedBlock (has_details form) f facets p from to x.q x.columns
+
+-- What is listed of a map, where the complexes have these classes: the names, and the matrices of the degrees in which
+-- both its complexes have classes. A certificate has the sends too.
+pub record IsMapPart (form : Form) (job : Spelled) (classes : List Classes) (block : MapBlock) (m : MapPart) : Type 0 where
+  pub name : m.name ≡ block.name
+  pub from_name : m.from ≡ name_at job.complexes block.from
+  pub to_name : m.to ≡ name_at job.complexes block.to
+  pub sends : IsTrue (has_details form) → AreOrderedSends block.sends m.sends
+  pub induced : map (λ x. x.q) m.induced ≡ induced_degrees (ranks (get_or classes block.from [])) (ranks (get_or classes block.to []))
+  pub induced_parts : Each (IsInducedPart form (image block.sends) (facets_at job.complexes block.from) job.prime
+      (get_or classes block.from []) (get_or classes block.to [])) m.induced
+
+-- ---- a job
+
+-- The report of a job: what is listed of its complexes and of its maps, in the order of the file.
+pub record IsReportOf (form : Form) (job : Spelled) (report : Report) : Type 0 where
+  pub prime : report.prime ≡ job.prime
+  pub complexes : AllZip (IsComplexPart form job.prime) job.complexes report.complexes
+  pub maps : IsTrue (has_tables form) → AllZip (IsMapPart form job (map classes_of report.complexes)) job.maps report.maps

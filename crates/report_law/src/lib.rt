@@ -1,0 +1,46 @@
+//! The report of a job, and what it promises: definitions and laws.
+#![tactic(auto)]
+
+ghost use Rattle.report_law.specs.Laws.{FormsLaw, HeadlineLaw, LimitLaw, OneReportLaw, OperationLaw, SizesLaw};
+ghost use Rattle.report_law.specs.Point.{PointRow};
+ghost use Rattle.report_law.specs.Rows.{WorkedRows};
+
+/// The headline holds of the report of each job, in each form.
+pub fn headline_law()
+    ensures { HeadlineLaw }
+{}
+
+/// The report of a certificate is that of each form.
+pub fn forms_law()
+    ensures { FormsLaw }
+{}
+
+/// Operations and Cartan differences exist, and each is one on simplices.
+pub fn operation_law()
+    ensures { OperationLaw }
+{}
+
+/// Live blocks and lines, and counted terms, of small complexes.
+pub fn worked_rows()
+    ensures { WorkedRows }
+{}
+
+/// A job has one report in each form.
+pub fn one_report()
+    ensures { OneReportLaw }
+{}
+
+/// A complex has one list of sizes, which a report tells.
+pub fn sizes_law()
+    ensures { SizesLaw }
+{}
+
+/// The counted terms of a job pass a limit with one sum, or not at all.
+pub fn limit_law()
+    ensures { LimitLaw }
+{}
+
+/// The report of a point.
+pub fn point_row()
+    ensures { PointRow }
+{}
