@@ -25,10 +25,11 @@ use Rattle.simplicial_law.specs.Cochains.{AgreesOnSimplices, Chain, Cochain, cob
 use Rattle.simplicial_law.specs.CanonicalClasses.{AreTerms, cochain_of}
 use Rattle.simplicial_law.specs.Places.{IsRowOf, cochain_at, terms_of}
 use Rattle.simplicial_law.proofs.CanonicalBases.{ordered_places}
+use Rattle.simplicial_law.proofs.DegreeZero.{no_bounds}
 use Rattle.simplicial_law.proofs.SimplexPlaces.{agree_by_place, canonical_up, cochain_at-value, pivot_down, pivot_up, simplex_at}
 use Rattle.simplicial_law.proofs.UnitCochains.{unit_away, unit_here}
 use Rattle.relative_law.proofs.RelativeDegrees.{IsOff, IsOuterByPlace, coboundary_down, coboundary_up, cocycle_down, cocycle_up, linear, off_down, off_up, outer_itself, rows_by_place}
-use Rattle.relative_law.proofs.Spaces.{bound_relative, relative_close, relative_coboundaries, relative_cocycles}
+use Rattle.relative_law.proofs.Spaces.{bound_relative, forget_bound, relative_close, relative_coboundaries, relative_cocycles}
 use Rattle.relative_law.specs.Laws.{RelativeBasisLaw}
 use Rattle.relative_law.specs.Pairs.{IsRelativeBasis, IsRelativeCoboundary, IsRelativeCocycle, IsSubcomplex}
 use Rattle.relative_law.specs.RelativeClasses.{IsCanonicalRelativeBasis, IsCanonicalRelativeClass, IsCanonicalRelativeCoboundary, IsCanonicalRelativePrimitive, IsRelativeCoboundaryPivot, IsRelativeCocyclePivot}
@@ -379,6 +380,7 @@ module _ (facets sub : List (List ℕ)) (n p : ℕ) (field : IsField p) (pair : 
 
 pub relative_basis_law : RelativeBasisLaw
 relative_basis_law = record {
+  vertices = λ facets sub p s h. no_bounds facets p s (record { vector = h.vector; member = forget_bound facets sub 0 p h.vector h.member; lead = h.lead });
   bounds = λ facets sub n p here above field pair all_here all_above ordered rows are skipped kernel images state.
       bound_places facets sub n p field pair here all_here above all_above ordered (row_combination rows) (rows_by_place p sub above here rows are) (λ x. Among x skipped) kernel images state;
   classes = λ facets sub n p here above field pair all_here all_above ordered rows are skipped places kernel images state vectors are_rows.

@@ -10,7 +10,7 @@ use Rattle.linear_law.specs.Triangular.{Skips, Walked, image_place}
 use Rattle.linear_law.specs.Pivots.{IsCanonical}
 use Rattle.simplicial_law.specs.Simplices.{IsInOrder, IsSimplex}
 use Rattle.simplicial_law.specs.Cochains.{Chain, Cochain, HasCoordinates, IsCoboundary, IsCocycle, IsCohomologyBasis}
-use Rattle.simplicial_law.specs.Canonical.{IsCanonicalCoboundary, IsCanonicalPrimitive, IsCoboundaryPivot, IsCocyclePivot}
+use Rattle.simplicial_law.specs.Canonical.{AreDualCycles, IsCanonicalCoboundary, IsCanonicalPrimitive, IsCoboundaryPivot, IsCocyclePivot, pairings}
 use Rattle.simplicial_law.specs.CanonicalClasses.{IsCanonicalBasis}
 use Rattle.simplicial_law.specs.Places.{IsRowOf, cochain_at, terms_of}
 use Rattle.relative_law.specs.Pairs.{HasRelativeCoordinates, IsRelativeBasis, IsRelativeCoboundary, IsRelativeCocycle, IsSubcomplex}
@@ -36,12 +36,20 @@ pub record NoSimplexLaw : Type 0 where
   pub relative : (facets sub : List (List ℕ)) (n p : ℕ) → ((s : List ℕ) → IsSimplex facets n s → ⊥) → IsRelativeBasis facets sub n p []
   pub absolute : (facets : List (List ℕ)) (n p : ℕ) → ((s : List ℕ) → IsSimplex facets n s → ⊥) → IsCohomologyBasis facets n p []
 
--- What walks of the rows of relative cochains tell. The places of the images are those of the pivots of the relative
+-- The relative coordinates of a relative cocycle are its pairings with cycles that are dual to the basis.
+abbrev pub RelativeDualLaw : Type 0
+RelativeDualLaw =
+    (facets sub : List (List ℕ)) (n p : ℕ) (zs : List Cochain) (ys : List Chain) (z : Cochain) → IsField p →
+    IsRelativeBasis facets sub n p zs → AreDualCycles p (IsRelativeCoboundary facets sub n p) zs ys →
+    IsRelativeCocycle facets sub n p z → HasRelativeCoordinates facets sub n p zs z (pairings p z ys)
+
+-- What walks of the rows of relative cochains tell. In degree 0 no simplex is a pivot of the relative coboundaries. The places of the images are those of the pivots of the relative
 -- coboundaries one degree up. Where these and the places of the subcomplex are skipped, the vectors of the kernel are
 -- the canonical relative classes, and a basis of relative cohomology; and a canonical vector of the image is a
 -- canonical relative coboundary, and what goes to it and is 0 at the places of the kernel and at the skipped ones is
 -- its canonical primitive.
 pub record RelativeBasisLaw : Type 0 where
+  pub vertices : (facets sub : List (List ℕ)) (p : ℕ) (s : List ℕ) → IsRelativeCoboundaryPivot facets sub 0 p s → ⊥
   pub bounds : (facets sub : List (List ℕ)) (n p : ℕ) (here above : List (List ℕ)) → IsField p → IsSubcomplex sub facets →
       ListsAll (IsSimplex facets n) here → ListsAll (IsSimplex facets (n + 1)) above → IsInOrder above →
       (rows : List (ℕ → ℕ)) → AllZip (IsRelativeCoboundaryRow p sub above) rows here →
