@@ -1,17 +1,18 @@
 -- The laws of operations and products on classes of cochains of residues.
-use Rattle.std.proofs.Common.{◌≡◌, ℕ, zero, suc, ◌+◌, ◌*◌, ◌<◌, ◌≤◌, ◌-◌, inl, inr, Bool, cond, List, [], ◌∷◌, ◌++◌, map, length, refl, sym, ◌∙◌, ap, ap₂, arith, subst}
+use Rattle.std.proofs.Common.{◌≡◌, ℕ, zero, suc, ◌+◌, ◌*◌, ◌≤◌, ◌-◌, inl, inr, Bool, cond, List, [], ◌∷◌, ◌++◌, map, length, refl, sym, ◌∙◌, ap, arith, subst}
 use Rattle.std.specs.Prelude.{ℤ, pos, ◌+ℤ◌, ◌*ℤ◌, neg_ℤ}
 use Rattle.std.specs.List.{AllZip}
-use Rattle.std.proofs.Common.{mod-lt}
 use Rattle.std.proofs.Math.IntN.{pos-*ℤ-pos}
 use Rattle.std.proofs.lemmas.Int.{ints}
 use Rattle.std.proofs.lemmas.Bool.{cases_Bool}
 use Rattle.std.proofs.lemmas.List.{length-append, length-map}
 use Rattle.interval_cut_law.proofs.CochainLaws.{naturality_law}
-use Rattle.linear_law.proofs.CongruenceLemmas.{Congruent_add, Congruent_from, Congruent_mod, Congruent_mul, Congruent_of, Congruent_refl, Congruent_scale, Congruent_sym, Congruent_trans, add-negated}
+use Rattle.linear_law.proofs.CongruenceLemmas.{Congruent_of, Congruent_trans}
 use Rattle.linear_law.specs.Congruence.{Congruent, IsField, negated}
 use Rattle.linear_law.specs.Lists.{Each}
+use Rattle.linear_law.specs.Matrices.{matrix_times}
 use Rattle.linear_law.specs.ReducedBases.{IsSubspace, combination}
+use Rattle.linear_law.proofs.Matrices.{from_columns}
 use Rattle.signed_sum.specs.Lists.{is_degenerate}
 use Rattle.simplicial_law.proofs.Bases.{coboundaries, cocycles}
 use Rattle.simplicial_law.proofs.IntegralBridge.{integral_congruence_law}
@@ -24,10 +25,9 @@ use Rattle.steenrod_law.proofs.Complexes.{IsNoSimplex, coboundary-extended, cobo
 use Rattle.steenrod_law.proofs.Forms.{AllCocycles, Cohomologous, InClass, IsCochain, Part, cup, operations, part_sum, products, products_with}
 use Rattle.steenrod_law.proofs.OperationLaws.{above_one, family_here, prime_here, pulled, residue-none, to_residues, value-same, vertices, whole_operation}
 use Rattle.steenrod_law.proofs.Products.{cup-closed, cup-degree, cup-on-classes}
-use Rattle.steenrod_law.proofs.Staircase.{length-copies}
 use Rattle.steenrod_law.proofs.WordCochains.{coboundary-cochain}
-use Rattle.steenrod_law.specs.Operations.{IsWeakSimplex, cochain_products, coefficient_products, cup_product, extended, matrix_times, may_operation, plus_scaled, pull_back, residue_cochain, scaled_operation}
-use Rattle.steenrod_law.specs.Words.{IsOrbitTable, copies}
+use Rattle.steenrod_law.specs.Operations.{IsWeakSimplex, cochain_products, coefficient_products, cup_product, extended, may_operation, pull_back, residue_cochain, scaled_operation}
+use Rattle.steenrod_law.specs.Words.{IsOrbitTable}
 use Rattle.table_reduction_law.specs.MayElements.{may_element}
 
 -- in degree 0 a coboundary is 0
@@ -49,12 +49,6 @@ parts-sum facets q (c ∷ cs) (z ∷ zs) f k =
     let a : pos c *ℤ extended q z f ≡ pos (c * z f) = ap (λ y. pos c *ℤ y) (extended-simplex facets q z f k) ∙ pos-*ℤ-pos c (z f) in
     let b = parts-sum facets q cs zs f k in
     omega (arith, ints)
-
--- F less the combination with these coefficients is a coboundary
-record IsColumn (facets : List (List ℕ)) (n p : ℕ) (ws : List Cochain) (F : Cochain) (column : List ℕ) : Type 0 where
-  size : length column ≡ length ws
-  small : Each (λ c. c < p) column
-  rest : IsCoboundary facets n p (λ s. F s + negated p (combination column ws s))
 
 zip-map : {A X Y : Type 0} (R : A → Y → Type 0) (f : X → Y) (rs : List A) (xs : List X) → AllZip (λ a x. R a (f x)) rs xs → AllZip R rs (map f xs)
 zip-map R f [] [] h = h
@@ -204,84 +198,11 @@ module _ (p : ℕ) (field : IsField p) (facets : List (List ℕ)) where
 
   -- matrices
 
-  copies-small : (h : ℕ) → Each (λ c. c < p) (copies h 0)
-  copies-small zero = tt
-  copies-small (suc h) = (let l = above_one p field in omega (arith, l), copies-small h)
-
-  combination-nothing : (h : ℕ) (ws : List Cochain) (s : List ℕ) → combination (copies h 0) ws s ≡ 0
-  combination-nothing zero ws s = refl
-  combination-nothing (suc h) [] s = refl
-  combination-nothing (suc h) (w ∷ ws) s = let e = combination-nothing h ws s in omega arith
-
-  plus_scaled-length : (c : ℕ) (xs ys : List ℕ) → length xs ≡ length ys → length (plus_scaled p c xs ys) ≡ length ys
-  plus_scaled-length c [] ys e = e
-  plus_scaled-length c (x ∷ xs) [] e = absurd (omega (arith, e))
-  plus_scaled-length c (x ∷ xs) (y ∷ ys) e = ap suc (plus_scaled-length c xs ys (omega (arith, e)))
-
-  plus_scaled-small : (c : ℕ) (xs ys : List ℕ) → Each (λ c. c < p) (plus_scaled p c xs ys)
-  plus_scaled-small c [] ys = tt
-  plus_scaled-small c (x ∷ xs) [] = tt
-  plus_scaled-small c (x ∷ xs) (y ∷ ys) = (mod-lt (c * x + y) (let l = above_one p field in omega (arith, l)), plus_scaled-small c xs ys)
-
-  combination-plus : (c : ℕ) (xs ys : List ℕ) (ws : List Cochain) (s : List ℕ) → length xs ≡ length ys →
-      Congruent p (combination (plus_scaled p c xs ys) ws s) (c * combination xs ws s + combination ys ws s)
-  combination-plus c [] [] ws s e = Congruent_of (omega arith)
-  combination-plus c [] (y ∷ ys) ws s e = absurd (omega (arith, e))
-  combination-plus c (x ∷ xs) [] ws s e = absurd (omega (arith, e))
-  combination-plus c (x ∷ xs) (y ∷ ys) [] s e = Congruent_of (omega arith)
-  combination-plus c (x ∷ xs) (y ∷ ys) (w ∷ ws) s e =
-      Congruent_trans (Congruent_add (Congruent_mul (Congruent_mod p (c * x + y)) (Congruent_refl (w s))) (combination-plus c xs ys ws s (omega (arith, e))))
-      (Congruent_of (omega arith))
-
-  columns : (n : ℕ) (ws Fs : List Cochain) (As : List (List ℕ)) (cs : List ℕ) → length cs ≡ length Fs →
-      AllZip (λ column F. HasCoordinates facets n p ws F column) As Fs → IsColumn facets n p ws (combination cs Fs) (matrix_times p (length ws) As cs)
-  columns n ws [] [] cs e h = record {
-    size = length-copies (length ws) 0;
-    small = copies-small (length ws);
-    rest = (spaces n).alike (λ s. combination {X = List ℕ} cs [] s + negated p (combination (copies (length ws) 0) ws s)) (λ s. 0)
-        (record { at = λ s on. Congruent_of (ap₂ (λ a b. a + (p - 1) * b) (none cs s) (combination-nothing (length ws) ws s) ∙ omega arith) }) (spaces n).zero_in;
-  }
-    where
-      none : (cs : List ℕ) (s : List ℕ) → combination {X = List ℕ} cs [] s ≡ 0
-      none [] s = refl
-      none (c ∷ cs) s = refl
-  columns n ws [] (A ∷ As) cs e h = absurd h
-  columns n ws (F ∷ Fs) [] cs e h = absurd h
-  columns n ws (F ∷ Fs) (A ∷ As) [] e h = absurd (omega (arith, e))
-  columns n ws (F ∷ Fs) (A ∷ As) (x ∷ cs) e h =
-      let R : List ℕ = matrix_times p (length ws) As cs in
-      let k = columns n ws Fs As cs (omega (arith, e)) h.1 in
-      let l : length A ≡ length R = h.0.count ∙ sym k.size in
-      record {
-        size = plus_scaled-length x A R l ∙ k.size;
-        small = plus_scaled-small x A R;
-        rest = (spaces n).alike (λ s. (x * F s + combination cs Fs s) + negated p (combination (plus_scaled p x A R) ws s))
-            (λ s. (combination cs Fs s + negated p (combination R ws s)) + x * (F s + negated p (combination A ws s)))
-            (record { at = λ s on. Congruent_trans (Congruent_add (Congruent_refl (x * F s + combination cs Fs s)) (Congruent_scale (p - 1) (combination-plus x A R ws s l))) (Congruent_of (omega arith)) })
-            ((spaces n).plus x (λ s. combination cs Fs s + negated p (combination R ws s)) (λ s. F s + negated p (combination A ws s)) k.rest h.0.rest);
-      }
-
-  -- a cochain that differs from a combination of cochains with coordinates by a coboundary
-  pub from_columns : (n : ℕ) (ws Fs : List Cochain) (As : List (List ℕ)) (cs : List ℕ) (F : Cochain) → length cs ≡ length Fs →
-      AllZip (λ column F. HasCoordinates facets n p ws F column) As Fs → IsCoboundary facets n p (λ s. F s + negated p (combination cs Fs s)) →
-      HasCoordinates facets n p ws F (matrix_times p (length ws) As cs)
-  from_columns n ws Fs As cs F e h b =
-      let x : Cochain = combination cs Fs in
-      let y : Cochain = combination (matrix_times p (length ws) As cs) ws in
-      let m = columns n ws Fs As cs e h in
-      record {
-        count = m.size;
-        small = m.small;
-        rest = (spaces n).alike (λ s. F s + negated p (y s)) (λ s. (F s + negated p (x s)) + 1 * (x s + negated p (y s)))
-            (record { at = λ s on. Congruent_sym (Congruent_from (add-negated p (x s) (above_one p field)) (omega arith)) })
-            ((spaces n).plus 1 (λ s. F s + negated p (x s)) (λ s. x s + negated p (y s)) b m.rest);
-      }
-
   pub matrix-law : (d c q n : ℕ) (ms : List (List Bool)) (zs ws : List Cochain) (As : List (List ℕ)) → IsOrbitTable p ms → Each (IsCocycle facets q p) zs →
       AllZip (λ column z. HasCoordinates facets n p ws (scaled_operation p d c q z) column) As zs → (z : Cochain) (cs : List ℕ) → HasCoordinates facets q p zs z cs →
       HasCoordinates facets n p ws (scaled_operation p d c q z) (matrix_times p (length ws) As cs)
   matrix-law d c q n ms zs ws As orbits cocycles h z cs k =
-      from_columns n ws (map (scaled_operation p d c q) zs) As cs (scaled_operation p d c q z) (k.count ∙ sym (length-map zs (scaled_operation p d c q)))
+      from_columns p (above_one p field) (spaces n) ws (map (scaled_operation p d c q) zs) As cs (scaled_operation p d c q z) (k.count ∙ sym (length-map zs (scaled_operation p d c q)))
       (zip-map (λ column F. HasCoordinates facets n p ws F column) (scaled_operation p d c q) As zs h) (linearity-law d c q n ms zs z cs orbits cocycles k)
 
   -- products
@@ -325,7 +246,7 @@ module _ (p : ℕ) (field : IsField p) (facets : List (List ℕ)) where
       AllZip (λ column u. HasCoordinates facets n p us u column) As (cochain_products p q k zs ws) → (z w : Cochain) (cs ds : List ℕ) → HasCoordinates facets q p zs z cs → HasCoordinates facets k p ws w ds →
       HasCoordinates facets n p us (cup_product p q k z w) (matrix_times p (length us) As (coefficient_products cs ds))
   product-matrix q k n zs ws us As cz cw h z w cs ds hz hw =
-      from_columns n us (cochain_products p q k zs ws) As (coefficient_products cs ds) (cup_product p q k z w) (products-length p q k cs ds zs ws hz.count hw.count) h
+      from_columns p (above_one p field) (spaces n) us (cochain_products p q k zs ws) As (coefficient_products cs ds) (cup_product p q k z w) (products-length p q k cs ds zs ws hz.count hw.count) h
       ((spaces n).alike (λ s. cup_product p q k z w s + negated p (combination (coefficient_products cs ds) (cochain_products p q k zs ws) s))
       (λ s. cup_product p q k z w s + negated p (combination cs (map (λ a. combination ds (map (cup_product p q k a) ws)) zs) s))
       (record { at = λ s on. Congruent_of (ap (λ j. cup_product p q k z w s + (p - 1) * j) (combination-products p q k cs ds zs ws s hz.count hw.count)) })

@@ -7,10 +7,11 @@ use Rattle.signed_sum.proofs.SignLemmas.{signed-parity, signed-signed, signed-ze
 use Rattle.signed_sum.specs.Signs.{signed}
 use Rattle.simplicial_law.proofs.IntegralCongruence.{CongruentInt-signed, CongruentInt-sum, CongruentInt_of, CongruentInt_refl, CongruentInt_sym, CongruentInt_trans}
 use Rattle.simplicial_law.specs.Integral.{CongruentInt, integral_coboundary}
+use Rattle.linear_law.proofs.Matrices.{length-copies}
 use Rattle.steenrod_law.proofs.AdditiveMaps.{adds-zero}
 use Rattle.steenrod_law.proofs.Forms.{AreTerms, IsCochain, IsFaceClosed, IsIntegralCocycle, IsMayFamily, IsPrime, SurjectionTerm, boundary_over, operation_of, value_over}
 use Rattle.steenrod_law.proofs.Primes.{two-or-odd}
-use Rattle.steenrod_law.proofs.Staircase.{length-copies, top-step}
+use Rattle.steenrod_law.proofs.Staircase.{top-step}
 use Rattle.steenrod_law.proofs.ValuesOnFaces.{value-none-at}
 use Rattle.steenrod_law.proofs.WordBoundary.{letters-copies, letters-normalized, relation, relation-first, some, sum-law}
 use Rattle.steenrod_law.proofs.WordCochains.{degrees-letters, over-same, over-sum, word-closed}

@@ -19,9 +19,10 @@ use Rattle.signed_sum.proofs.SignLemmas.{signed-zero}
 use Rattle.signed_sum.specs.Lists.{IsDistinct, is_degenerate, numbers_from, occurs}
 use Rattle.signed_sum.specs.Signs.{signed}
 use Rattle.simplicial_law.specs.Integral.{HaveDegrees, integral_coboundary}
+use Rattle.linear_law.proofs.Matrices.{length-copies}
 use Rattle.steenrod_law.proofs.CycleFaces.{onto-cycle, sum_of}
 use Rattle.steenrod_law.proofs.Forms.{AreTerms, HasDegreeBelow, IsCochain, IsMayFamily, IsPrime, SurjectionTerm, operation_of, value_over, word_sum}
-use Rattle.steenrod_law.proofs.Staircase.{degree-copies, length-copies}
+use Rattle.steenrod_law.proofs.Staircase.{degree-copies}
 use Rattle.steenrod_law.proofs.WordBoundary.{letters-copies, letters-normalized, some}
 use Rattle.steenrod_law.proofs.WordCochains.{coboundary-cochain, degree-sum, degrees-letters}
 use Rattle.steenrod_law.proofs.WordLemmas.{degree-append}

@@ -5,10 +5,12 @@ use Rattle.std.specs.List.{AllZip}
 use Rattle.std.proofs.lemmas.Int.{ints}
 use Rattle.std.proofs.lemmas.Bool.{cases_Bool}
 use Rattle.std.proofs.lemmas.List.{length-map}
-use Rattle.linear_law.proofs.CongruenceLemmas.{Congruent_add, Congruent_of, Congruent_refl, Congruent_scale, Congruent_sym, Congruent_trans}
+use Rattle.linear_law.proofs.CongruenceLemmas.{Congruent_of, Congruent_scale, Congruent_sym, Congruent_trans}
 use Rattle.linear_law.specs.Congruence.{Congruent, IsField, negated}
 use Rattle.linear_law.specs.Lists.{Each}
+use Rattle.linear_law.specs.Matrices.{matrix_times}
 use Rattle.linear_law.specs.ReducedBases.{combination}
+use Rattle.linear_law.proofs.Matrices.{coordinates-alike, from_columns}
 use Rattle.signed_sum.proofs.SumLemmas.{fun_ext}
 use Rattle.signed_sum.specs.Lists.{is_degenerate, unless_empty}
 use Rattle.signed_sum.specs.Sums.{without_one}
@@ -17,11 +19,11 @@ use Rattle.simplicial_law.proofs.IntegralCongruence.{CongruentInt_of, CongruentI
 use Rattle.simplicial_law.specs.Cochains.{AgreesOnSimplices, Cochain, HasCoordinates, IsCoboundary, IsCocycle, IsCohomologyBasis, coboundary}
 use Rattle.simplicial_law.specs.Integral.{CongruentInt, integral_coboundary}
 use Rattle.simplicial_law.specs.Simplices.{IsSimplex}
-use Rattle.steenrod_law.proofs.ClassLaws.{coboundary-vertex, from_columns, matrix-law}
+use Rattle.steenrod_law.proofs.ClassLaws.{coboundary-vertex, matrix-law}
 use Rattle.steenrod_law.proofs.Complexes.{coboundary-extended, extended-cochain, simplex_of_weak}
 use Rattle.steenrod_law.proofs.OperationLaws.{above_one, may_operation-closed, pull_back-operation, pulled, to_residues, vertices}
 use Rattle.steenrod_law.proofs.WordCochains.{coboundary-cochain}
-use Rattle.steenrod_law.specs.Operations.{IsSimplicial, extended, matrix_times, may_operation, pull_back, scaled_operation}
+use Rattle.steenrod_law.specs.Operations.{IsSimplicial, extended, may_operation, pull_back, scaled_operation}
 use Rattle.steenrod_law.specs.Words.{IsOrbitTable}
 
 -- the coboundary at an image
@@ -134,7 +136,7 @@ module _ (f : ℕ → ℕ) (from to : List (List ℕ)) (p : ℕ) (field : IsFiel
   pub pull_back-matrix : (q : ℕ) (zs ws : List Cochain) (As : List (List ℕ)) → AllZip (λ column u. HasCoordinates from q p zs u column) As (map (pull_back f) ws) →
       (w : Cochain) (cs : List ℕ) → HasCoordinates to q p ws w cs → HasCoordinates from q p zs (pull_back f w) (matrix_times p (length zs) As cs)
   pull_back-matrix q zs ws As h w cs k =
-      from_columns p field from q zs (map (pull_back f) ws) As cs (pull_back f w) (k.count ∙ sym (length-map ws (pull_back f))) h
+      from_columns p (above_one p field) (coboundaries from q p (above_one p field)) zs (map (pull_back f) ws) As cs (pull_back f w) (k.count ∙ sym (length-map ws (pull_back f))) h
       ((coboundaries from q p (above_one p field)).alike (λ s. pull_back f w s + negated p (combination cs (map (pull_back f) ws) s)) (pull_back f (λ t. w t + negated p (combination cs ws t)))
       (record { at = λ s on. Congruent_of (ap (λ j. pull_back f w s + (p - 1) * j) (sym (pull_back-combination cs ws s)) ∙ sym (pull_back-minus w (combination cs ws) s)) })
       (pull_back-bound q (λ t. w t + negated p (combination cs ws t)) k.rest))
@@ -160,14 +162,6 @@ module _ (f : ℕ → ℕ) (from to : List (List ℕ)) (p : ℕ) (field : IsFiel
           go true = omega arith
           go false = refl
 
-  coordinates-alike : (n : ℕ) (us : List Cochain) (v w : Cochain) (cs : List ℕ) → AgreesOnSimplices from n p v w → HasCoordinates from n p us w cs → HasCoordinates from n p us v cs
-  coordinates-alike n us v w cs e h = record {
-    count = h.count;
-    small = h.small;
-    rest = (coboundaries from n p (above_one p field)).alike (λ s. v s + negated p (combination cs us s)) (λ s. w s + negated p (combination cs us s))
-        (record { at = λ s on. Congruent_add (e.at s on) (Congruent_refl (negated p (combination cs us s))) }) h.rest;
-  }
-
   pub matrices-commute : (d c q n : ℕ) (ms : List (List Bool)) → IsOrbitTable p ms → (zs us zs' us' : List Cochain) (ops induced_q ops' induced_n : List (List ℕ)) →
       Each (IsCocycle from q p) zs → IsCohomologyBasis from n p us → Each (IsCocycle to q p) zs' →
       AllZip (λ column z. HasCoordinates from n p us (scaled_operation p d c q z) column) ops zs →
@@ -185,5 +179,5 @@ module _ (f : ℕ → ℕ) (from to : List (List ℕ)) (p : ℕ) (field : IsFiel
       let left = pull_back-matrix n us us' induced_n g' (scaled_operation p d c q z) a h'.0 in
       let right = matrix-law p field from d c q n ms zs us ops orbits cz h (pull_back f z) i g.0 in
       let e = basis.only v (matrix_times p (length us) induced_n a) (matrix_times p (length us) ops i) (pull_back-cocycle n (scaled_operation p d c q z) (scaled-cocycle to d c q n z cz'.0)) left
-      (coordinates-alike n us v (scaled_operation p d c q (pull_back f z)) (matrix_times p (length us) ops i) (scaled-pull_back d c q n z) right) in
+      (coordinates-alike p (above_one p field) (coboundaries from n p (above_one p field)) us v (scaled_operation p d c q (pull_back f z)) (matrix_times p (length us) ops i) (scaled-pull_back d c q n z) right) in
       (λ j. e j ∷ matrices-commute d c q n ms orbits zs us zs' us' ops induced_q ops' induced_n cz basis cz'.1 h h'.1 g.1 g' j)

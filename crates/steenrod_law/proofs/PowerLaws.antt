@@ -7,11 +7,12 @@ use Rattle.std.proofs.Math.Nat.{pow-succ', pow-zero}
 use Rattle.std.proofs.lemmas.Int.{ints}
 use Rattle.fp_field.proofs.ServedLemmas.{served_field}
 use Rattle.fp_field.specs.Element.{IsScale, factorial, half}
-use Rattle.linear_law.proofs.CongruenceLemmas.{Congruent_add, Congruent_mul, Congruent_of, Congruent_refl, Congruent_scale, Congruent_sym, Congruent_trans}
+use Rattle.linear_law.proofs.CongruenceLemmas.{Congruent_mul, Congruent_of, Congruent_refl, Congruent_scale, Congruent_sym, Congruent_trans}
 use Rattle.linear_law.proofs.Primes.{two_field}
 use Rattle.linear_law.specs.Congruence.{Congruent, IsField, negated}
 use Rattle.linear_law.specs.Lists.{Each}
-use Rattle.linear_law.specs.ReducedBases.{combination}
+use Rattle.linear_law.specs.Matrices.{matrix_times}
+use Rattle.linear_law.proofs.Matrices.{coordinates-alike}
 use Rattle.signed_sum.proofs.Ring.{mul-add, mul-neg, mul_assoc, one-mul}
 use Rattle.simplicial_law.proofs.Bases.{coboundaries, cocycles}
 use Rattle.simplicial_law.proofs.IntegralBridge.{integral_congruence_law}
@@ -23,7 +24,7 @@ use Rattle.steenrod_law.proofs.OperationLaws.{above_one, to_residues}
 use Rattle.steenrod_law.proofs.OrbitTables.{orbit_tables}
 use Rattle.steenrod_law.proofs.Primes.{prime_of_field}
 use Rattle.steenrod_law.specs.Laws.{SteenrodMatrixLaw}
-use Rattle.steenrod_law.specs.Operations.{IsBocksteinPower, IsPower, IsSquare, matrix_times, may_operation, power_degree, scaled_operation}
+use Rattle.steenrod_law.specs.Operations.{IsBocksteinPower, IsPower, IsSquare, may_operation, power_degree, scaled_operation}
 use Rattle.steenrod_law.specs.Words.{IsOrbitTable, orbit_words_of_2}
 
 module _ (p : ℕ) (field : IsField p) where
@@ -55,14 +56,6 @@ module _ (p : ℕ) (field : IsField p) where
       to_residues p field (CongruentInt_from z (omega (arith, ints)))
 
   module _ (facets : List (List ℕ)) where
-    coordinates-agree : (n : ℕ) (us : List Cochain) (v w : Cochain) (cs : List ℕ) → AgreesOnSimplices facets n p v w → HasCoordinates facets n p us w cs → HasCoordinates facets n p us v cs
-    coordinates-agree n us v w cs e h = record {
-      count = h.count;
-      small = h.small;
-      rest = (coboundaries facets n p (above_one p field)).alike (λ s. v s + negated p (combination cs us s)) (λ s. w s + negated p (combination cs us s))
-          (record { at = λ s on. Congruent_add (e.at s on) (Congruent_refl (negated p (combination cs us s))) }) h.rest;
-    }
-
     turned-around : (n : ℕ) (v w : Cochain) → AgreesOnSimplices facets n p v w → AgreesOnSimplices facets n p w v
     turned-around n v w e = record { at = λ s on. Congruent_sym (e.at s on) }
 
@@ -75,13 +68,13 @@ module _ (p : ℕ) (field : IsField p) where
     columns-agree n d c q R f us (z ∷ zs) [] columns h k = absurd h
     columns-agree n d c q R f us (z ∷ zs) (b ∷ bs) [] h k = absurd k
     columns-agree n d c q R f us (z ∷ zs) (b ∷ bs) (column ∷ columns) h k =
-        (coordinates-agree n us (scaled_operation p d c q z) b column (turned-around n b (scaled_operation p d c q z) (f z b h.0)) k.0, columns-agree n d c q R f us zs bs columns h.1 k.1)
+        (coordinates-alike p (above_one p field) (coboundaries facets n p (above_one p field)) us (scaled_operation p d c q z) b column (turned-around n b (scaled_operation p d c q z) (f z b h.0)) k.0, columns-agree n d c q R f us zs bs columns h.1 k.1)
 
     pub carried : (n d c q : ℕ) (ms : List (List Bool)) (R : Cochain → Cochain → Type 0) → IsOrbitTable p ms → ((z b : Cochain) → R z b → AgreesOnSimplices facets n p b (scaled_operation p d c q z)) →
         (us zs bs : List Cochain) (columns : List (List ℕ)) → Each (IsCocycle facets q p) zs → AllZip R zs bs → AllZip (λ column b. HasCoordinates facets n p us b column) columns bs →
         (z b : Cochain) (cs : List ℕ) → HasCoordinates facets q p zs z cs → R z b → HasCoordinates facets n p us b (matrix_times p (length us) columns cs)
     carried n d c q ms R orbits f us zs bs columns cocycles h k z b cs coordinates r =
-        coordinates-agree n us b (scaled_operation p d c q z) (matrix_times p (length us) columns cs) (f z b r)
+        coordinates-alike p (above_one p field) (coboundaries facets n p (above_one p field)) us b (scaled_operation p d c q z) (matrix_times p (length us) columns cs) (f z b r)
         (matrix-law p field facets d c q n ms zs us columns orbits cocycles (columns-agree n d c q R f us zs bs columns h k) z cs coordinates)
 
     rescaled : (n d c e q : ℕ) (z b : Cochain) → Congruent p c e → AgreesOnSimplices facets n p b (scaled_operation p d c q z) → AgreesOnSimplices facets n p b (scaled_operation p d e q z)

@@ -7,6 +7,7 @@ use Rattle.signed_sum.proofs.SignLemmas.{signed-parity, signed-zero}
 use Rattle.signed_sum.specs.Signs.{signed}
 use Rattle.simplicial_law.proofs.IntegralCongruence.{CongruentInt-neg, CongruentInt-signed, CongruentInt-sum, CongruentInt_from, CongruentInt_multiple, CongruentInt_of, CongruentInt_refl, CongruentInt_sym, CongruentInt_trans}
 use Rattle.simplicial_law.specs.Integral.{CongruentInt}
+use Rattle.linear_law.proofs.Matrices.{length-copies}
 use Rattle.steenrod_law.proofs.AdditiveMaps.{adds-signed, adds-zero}
 use Rattle.steenrod_law.proofs.Primes.{prime_of_field, two-or-odd}
 use Rattle.steenrod_law.proofs.WordLemmas.{bound-step, homotopy, step-step, step-sum}
@@ -49,10 +50,6 @@ shorten-sum : (h g : List Bool → ℤ) (w : List Bool) → contraction (λ v. h
 shorten-sum h g [] = refl
 shorten-sum h g (false ∷ w) = refl
 shorten-sum h g (true ∷ w) = refl
-
-pub length-copies : {A : Type 0} (k : ℕ) (a : A) → length (copies k a) ≡ k
-length-copies zero a = refl
-length-copies (suc k) a = ap suc (length-copies k a)
 
 pub copies-end : {A : Type 0} (k : ℕ) (a : A) → copies k a ++ (a ∷ []) ≡ a ∷ copies k a
 copies-end zero a = refl

@@ -5,10 +5,11 @@ use Rattle.fp_field.specs.Element.{sign_power}
 use Rattle.fp_field.specs.Served.{served}
 use Rattle.linear_law.specs.Congruence.{Congruent, IsField, negated}
 use Rattle.linear_law.specs.Lists.{Each}
+use Rattle.linear_law.specs.Matrices.{matrix_times}
 use Rattle.linear_law.specs.ReducedBases.{combination}
 use Rattle.simplicial_law.specs.Simplices.{IsSimplex}
 use Rattle.simplicial_law.specs.Cochains.{AgreesOnSimplices, Cochain, HasCoordinates, IsCoboundary, IsCocycle, IsCohomologyBasis, coboundary}
-use Rattle.steenrod_law.specs.Operations.{IsBocksteinPower, IsPower, IsSimplicial, IsSquare, cochain_products, coefficient_products, cup_product, matrix_times, may_operation, orbit_primitive, power_degree, pull_back, scaled_operation, staircase_primitive, value_on}
+use Rattle.steenrod_law.specs.Operations.{IsBocksteinPower, IsPower, IsSimplicial, IsSquare, cochain_products, coefficient_products, cup_product, may_operation, orbit_primitive, power_degree, pull_back, scaled_operation, staircase_primitive, value_on}
 use Rattle.signed_sum.specs.Permutations.{cycle}
 use Rattle.signed_sum.specs.Sums.{unit_terms}
 use Rattle.surjection_law.specs.Boundary.{caesura_count, surjection_boundary}

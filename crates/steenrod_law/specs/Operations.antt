@@ -103,18 +103,6 @@ orbit_primitive p d q ms a c = residue_cochain p (orbit_sum p d (may_element p) 
 abbrev pub staircase_primitive : ℕ → ℕ → ℕ → Cochain → Cochain
 staircase_primitive p d n y = residue_cochain p (staircase_sum p n d (may_element p) (extended n y))
 
--- c times the first list plus the second, place by place, modulo p
-abbrev pub plus_scaled : ℕ → ℕ → List ℕ → List ℕ → List ℕ
-plus_scaled p c [] ys = []
-plus_scaled p c (x ∷ xs) [] = []
-plus_scaled p c (x ∷ xs) (y ∷ ys) = ((c * x + y) % p) ∷ plus_scaled p c xs ys
-
--- a matrix with h rows, given by its columns, times the list of coefficients, modulo p
-abbrev pub matrix_times : ℕ → ℕ → List (List ℕ) → List ℕ → List ℕ
-matrix_times p h [] cs = copies h 0
-matrix_times p h (column ∷ columns) [] = copies h 0
-matrix_times p h (column ∷ columns) (c ∷ cs) = plus_scaled p c column (matrix_times p h columns cs)
-
 -- the products of the coefficients, by the first list and then the second
 abbrev pub coefficient_products : List ℕ → List ℕ → List ℕ
 coefficient_products cs ds = flat_map (λ c. map (λ d. c * d) ds) cs

@@ -2,13 +2,9 @@
 -- whole coefficients is given by its values: an operator on sums of words by the function that takes h
 -- to the value of h at the operator's result.
 use Rattle.std.specs.Prelude.{ℕ, ◌+◌, ◌-◌, ◌*◌, ◌%◌, ◌≡◌, Bool, true, false, List, [], ◌∷◌, ◌++◌, length, ℤ, pos, ◌+ℤ◌, ◌-ℤ◌, zero, suc}
+pub use Rattle.linear_law.specs.Lists.{copies}
 use Rattle.signed_sum.specs.Signs.{signed}
 use Rattle.signed_sum.specs.Sums.{total}
-
--- k copies of a
-abbrev pub copies : {X : Type 0} → ℕ → X → List X
-copies zero a = []
-copies (suc k) a = a ∷ copies k a
 
 -- a where the number is 0, else b
 abbrev pub choice : {X : Type 0} → ℕ → X → X → X
