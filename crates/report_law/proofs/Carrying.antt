@@ -13,7 +13,8 @@ use Rattle.simplicial_law.specs.Cochains.{Chain, Cochain, HasCoordinates, IsCocy
 use Rattle.simplicial_law.specs.CanonicalClasses.{AreCanonicalBases, cochain_of}
 use Rattle.steenrod_law.proofs.ClassLaws.{matrix-law, product-closed, product-matrix}
 use Rattle.steenrod_law.proofs.OrbitTables.{orbit_tables}
-use Rattle.steenrod_law.specs.Operations.{cochain_products, matrix_times, scaled_operation}
+use Rattle.linear_law.specs.Matrices.{matrix_times}
+use Rattle.steenrod_law.specs.Operations.{cochain_products, scaled_operation}
 use Rattle.steenrod_law.specs.Words.{copies}
 use Rattle.report.specs.declared.columns.Column.{Column}
 use Rattle.report.specs.declared.columns.OperationPart.{OperationPart}

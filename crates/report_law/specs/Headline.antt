@@ -6,7 +6,8 @@ use Rattle.linear_law.specs.Lists.{Each}
 use Rattle.simplicial_law.specs.Simplices.{IsSimplex}
 use Rattle.simplicial_law.specs.Cochains.{AgreesOnSimplices, Chain, Cochain, HasCoordinates, IsCoboundary, IsCocycle, IsCohomologyBasis, boundary, coboundary, pairing, unit_cochain}
 use Rattle.simplicial_law.specs.CanonicalClasses.{AreTerms, cochain_of}
-use Rattle.steenrod_law.specs.Operations.{coefficient_products, cup_product, matrix_times, pull_back}
+use Rattle.linear_law.specs.Matrices.{matrix_times}
+use Rattle.steenrod_law.specs.Operations.{coefficient_products, cup_product, pull_back}
 use Rattle.complex_file.specs.declared.block.ComplexBlock.{ComplexBlock}
 use Rattle.complex_file.specs.declared.block.MapBlock.{MapBlock}
 use Rattle.complex_file.specs.Input.{Spelled}
