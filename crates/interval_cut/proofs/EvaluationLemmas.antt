@@ -31,14 +31,14 @@ next_is w = go w.values w.top w.here w.left
     go u n h (p ∷ ps) = refl
 
 -- the step from a walk, by what is to come
-took : (w v : CutWalk) → v ≡ next_walk w → IsSome v.here → (w.left ≡ cut_of v ∷ v.left) × (v.values ≡ w.values) × (v.top ≡ w.top)
+pub took : (w v : CutWalk) → v ≡ next_walk w → IsSome v.here → (w.left ≡ cut_of v ∷ v.left) × (v.values ≡ w.values) × (v.top ≡ w.top)
 took w v e s = go w.left (next_is w) e
   where
     go : (ps : List (List ℕ)) → next_walk w ≡ step_of w ps → v ≡ next_walk w → (ps ≡ cut_of v ∷ v.left) × (v.values ≡ w.values) × (v.top ≡ w.top)
     go [] q f = absurd (false≢true (sym (ap (λ x. is_some x.here) (f ∙ q)) ∙ s))
     go (p ∷ ps) q f = (sym (ap (λ x. cut_of x ∷ x.left) (f ∙ q)), ap (λ x. x.values) (f ∙ q), ap (λ x. x.top) (f ∙ q))
 
-ended : (w v : CutWalk) → v ≡ next_walk w → (IsSome v.here → ⊥) → (w.left ≡ []) × (v ≡ finish_of w.values w.top)
+pub ended : (w v : CutWalk) → v ≡ next_walk w → (IsSome v.here → ⊥) → (w.left ≡ []) × (v ≡ finish_of w.values w.top)
 ended w v e s = go w.left (next_is w) e
   where
     go : (ps : List (List ℕ)) → next_walk w ≡ step_of w ps → v ≡ next_walk w → (ps ≡ []) × (v ≡ finish_of w.values w.top)

@@ -16,15 +16,10 @@ use Rattle.surjection_law.specs.Surjections.{arity}
 use Rattle.interval_cut_law.specs.Cuts.{cut_face, cut_faces, cuts, sign_exponent, vertex_at}
 use Rattle.interval_cut_law.specs.LiveCuts.{is_live}
 use Rattle.interval_cut_law.specs.Operations.{value_product}
-use Rattle.interval_cut.specs.Evaluation.{IsPartOfSum}
+use Rattle.interval_cut.specs.Evaluation.{IsOfDegree, IsPartOfSum}
 use Rattle.interval_cut.specs.LiveWalking.{LiveWalk, is_live_cut, live_start, live_top}
 use Rattle.interval_cut.specs.Masks.{by_mask, cut_term}
 use Rattle.interval_cut.proofs.ProductLemmas.{remainder}
-
--- what a cochain of degree q is on lists that are no simplices of that degree
-pub record IsOfDegree (q : ℕ) (a : List ℕ → ℕ) : Type 0 where
-  pub ascending : (f : List ℕ) → (IsAscending f → ⊥) → a f ≡ 0
-  pub long : (f : List ℕ) → (length f ≡ suc q → ⊥) → a f ≡ 0
 
 degenerate-map : (g : ℕ → ℕ) (f : List ℕ) → is_degenerate f ≡ true → is_degenerate (map g f) ≡ true
 degenerate-map g [] d = absurd (false≢true d)

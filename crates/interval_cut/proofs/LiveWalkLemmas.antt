@@ -1,18 +1,18 @@
 -- The steps of the walk over live cuts, and the count of them.
-use Rattle.std.proofs.Common.{◌≡◌, ℕ, ◌+◌, Bool, true, false, cond, List, [], ◌∷◌, ◌++◌, map, length, refl, sym, ◌∙◌, ap, ap₂, subst, arith, Option, Some}
-use Rattle.std.specs.Prelude.{suc, IsSome, is_some}
+use Rattle.std.proofs.Common.{◌≡◌, ℕ, ◌+◌, ◌-◌, ◌≤◌, Bool, true, false, cond, List, [], ◌∷◌, ◌++◌, map, take, length, replicate, refl, sym, ◌∙◌, ap, ap₂, subst, arith, Option, Some}
 use Rattle.std.specs.List.{filter}
-use Rattle.std.proofs.lemmas.Bool.{false≢true}
+use Rattle.std.proofs.lemmas.List.{length-map, length-replicate, take-replicate}
 use Rattle.surjection_law.specs.Surjections.{arity}
-use Rattle.interval_cut_law.specs.Cuts.{rising_lists}
-use Rattle.interval_cut_law.specs.LiveCuts.{live_count_among}
+use Rattle.interval_cut_law.specs.Cuts.{cuts, rising_lists}
+use Rattle.interval_cut_law.specs.LiveCuts.{live_count_among, live_cut_count}
 use Rattle.interval_cut.specs.Walking.{CutWalk, lists_after, next_walk}
 use Rattle.interval_cut.specs.Stages.{here_of, left_of, shown}
-use Rattle.interval_cut.specs.LiveWalking.{LiveWalk, is_live_cut, live_walk, next_live}
-use Rattle.interval_cut.specs.LiveSearch.{FindsLive, is_live_list, lists_left}
+use Rattle.interval_cut.specs.LiveWalking.{LiveWalk, is_live_cut, live_top, live_walk, next_live}
+use Rattle.interval_cut.specs.LiveSearch.{FindsLive, IsListFor, is_live_list, lists_left}
 use Rattle.interval_cut.specs.declared.stage.Stage.{Stage}
 use Rattle.interval_cut.specs.declared.stage.Stage.TheVariants.{Before, At, Done}
 use Rattle.interval_cut.proofs.LiveListLemmas.{filter-map}
+use Rattle.interval_cut.proofs.WalkLemmas.{cut-start}
 
 -- the cuts that are to come are those of the lists that are to come
 left-lists : (s : Stage) (u : List ℕ) (top : ℕ) (inner : List ℕ) → length inner + 1 ≡ length u → left_of s u top inner ≡ map (λ p. p ++ (top ∷ [])) (lists_left s top inner)
@@ -62,6 +62,28 @@ among-length q u (p ∷ ps) = go (is_live_cut q u p) (live_count_among q (arity 
     go true n xs e = omega arith
     go false n xs e = omega arith
 
+-- the live cuts are those of the live lists
+pub cuts-listed : (q : ℕ) (u : List ℕ) (top : ℕ) (inner : List ℕ) → length inner + 1 ≡ length u → top ≡ live_top q u
+    → live_cut_count q (arity u) u ≡ length (filter (is_live_list q u top) (rising_lists 0 top (length inner)))
+cuts-listed q u top inner l e =
+    ap (λ n. live_count_among q (arity u) u (cuts u n)) (sym e)
+    ∙ among-length q u (cuts u top) ∙ ap (λ ps. length (filter (is_live_cut q u) ps)) (left-lists Before u top inner l)
+    ∙ ap length (live-left q u top (rising_lists 0 top (length inner))) ∙ length-map (filter (is_live_list q u top) (rising_lists 0 top (length inner))) (λ p. p ++ (top ∷ []))
+
+-- the same, of the values and the lists that the code has
+pub listed-count : (q : ℕ) (u v : List ℕ) (top n : ℕ) (inner : List ℕ) → v ≡ u → top ≡ n → length inner + 1 ≡ length v → n ≡ live_top q u
+    → length (filter (is_live_list q v top) (rising_lists 0 top (length inner))) ≡ live_cut_count q (arity u) u
+listed-count q u v top n inner e f l t = sym (cuts-listed q v top inner l (f ∙ t ∙ ap (live_top q) (sym e))) ∙ ap (λ (x : List ℕ). live_cut_count q (arity x) x) e
+
+-- the list of zeros is that of the first cut
+pub zeros-list : (v : List ℕ) (top : ℕ) → 1 ≤ length v → length v ≤ 256 → top ≤ 255 → IsListFor v top (take (length v - 1) (replicate 255 0))
+zeros-list v top some few low =
+    subst (IsListFor v top) (sym (take-replicate (length v - 1) 255 0 (omega arith)))
+    (record { low = low; long = omega (arith, length-replicate {A = ℕ} (length v - 1) 0); cut = cut-start v (length v - 1) top (omega arith) })
+
+pub length-zeros : (v : List ℕ) → 1 ≤ length v → length v ≤ 256 → length {A = ℕ} (take (length v - 1) (replicate 255 0)) + 1 ≡ length v
+length-zeros v some few = omega (arith, ap (λ (xs : List ℕ). length xs) (take-replicate (length v - 1) 255 0 (omega arith)), length-replicate {A = ℕ} (length v - 1) 0)
+
 next-same : (u : List ℕ) (top : ℕ) (here : Option (List ℕ)) (left : List (List ℕ)) → (next_walk (record { values = u; top = top; here = here; left = left })).values ≡ u
 next-same u top here [] = refl
 next-same u top here (p ∷ ps) = refl
@@ -69,16 +91,6 @@ next-same u top here (p ∷ ps) = refl
 next-top : (u : List ℕ) (top : ℕ) (here : Option (List ℕ)) (left : List (List ℕ)) → (next_walk (record { values = u; top = top; here = here; left = left })).top ≡ top
 next-top u top here [] = refl
 next-top u top here (p ∷ ps) = refl
-
-next-some : (u : List ℕ) (top : ℕ) (here : Option (List ℕ)) (left : List (List ℕ)) (x : CutWalk) → x ≡ next_walk (record { values = u; top = top; here = here; left = left }) → IsSome x.here
-    → length left ≡ suc (length x.left)
-next-some u top here [] x e h = absurd (false≢true (sym (ap (λ (y : CutWalk). is_some y.here) e) ∙ h))
-next-some u top here (p ∷ ps) x e h = sym (ap (λ (y : CutWalk). suc (length y.left)) e)
-
-next-none : (u : List ℕ) (top : ℕ) (here : Option (List ℕ)) (left : List (List ℕ)) (x : CutWalk) → x ≡ next_walk (record { values = u; top = top; here = here; left = left })
-    → (IsSome x.here → ⊥) → length left ≡ 0
-next-none u top here [] x e n = refl
-next-none u top here (p ∷ ps) x e n = absurd (n (ap (λ (y : CutWalk). is_some y.here) e))
 
 module _ (q : ℕ) (w x : CutWalk) (step : live_walk q x ≡ next_live (live_walk q w)) where
   walk_step : (live_walk q x).walk ≡ next_walk (live_walk q w).walk
@@ -90,12 +102,3 @@ module _ (q : ℕ) (w x : CutWalk) (step : live_walk q x ≡ next_live (live_wal
     ap (λ (y : CutWalk). y.values) walk_step ∙ next-same w.values w.top w.here (live_walk q w).walk.left,
     ap (λ (y : CutWalk). y.top) walk_step ∙ next-top w.values w.top w.here (live_walk q w).walk.left,
   )
-
-  -- a step to a live cut leaves one less
-  pub step-counted : IsSome x.here → live_count_among q (arity w.values) w.values w.left ≡ suc (live_count_among q (arity x.values) x.values x.left)
-  step-counted h =
-      among-length q w.values w.left ∙ next-some w.values w.top w.here (live_walk q w).walk.left (live_walk q x).walk walk_step h ∙ ap suc (sym (among-length q x.values x.left))
-
-  -- where there is no step, none is left
-  pub step-none : (IsSome x.here → ⊥) → live_count_among q (arity w.values) w.values w.left ≡ 0
-  step-none n = among-length q w.values w.left ∙ next-none w.values w.top w.here (live_walk q w).walk.left (live_walk q x).walk walk_step n

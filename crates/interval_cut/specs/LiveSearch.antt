@@ -85,7 +85,7 @@ pub record IsReady (q : ℕ) (u later counts nexts : List ℕ) : Type 0 where
 
 -- the same, of a search
 abbrev pub IsReadyFor : List ℕ → Search → Type 0
-IsReadyFor u s = IsReady s.degree u s.later.items s.counts.items s.nexts.items
+IsReadyFor u s = IsReady s.degree u (take (length u) s.later) s.counts s.nexts
 
 -- the list has all right ends but the last of a cut of 0 to `top`
 pub record IsListFor (u : List ℕ) (top : ℕ) (inner : List ℕ) : Type 0 where

@@ -1,14 +1,13 @@
 -- What a walk over live cuts shows of its fields.
 use Rattle.std.specs.Prelude.{◌≡◌}
-use Rattle.interval_cut.specs.LiveWalking.{LiveWalk, capped_count, live_top, live_walk}
+use Rattle.interval_cut.specs.LiveWalking.{LiveWalk, live_top, live_walk}
 use Rattle.interval_cut.specs.LiveSearch.{IsReadyFor}
 use Rattle.interval_cut.specs.declared.live.LiveCuts.TheInside.{Inside}
 
 abbrev pub live_view : Inside → LiveWalk
 live_view a = live_walk a.search.degree a.cuts
 
--- the cuts are those that can be live, and the search and the count are of them
+-- the cuts are those that can be live, and the search is of them
 pub record IsLiveSound (a : Inside) : Type 0 where
   pub top : a.cuts.top ≡ live_top a.search.degree a.cuts.values
   pub ready : IsReadyFor a.cuts.values a.search
-  pub count : a.count ≡ capped_count a.search.degree a.cuts.values

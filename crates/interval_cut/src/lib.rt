@@ -16,4 +16,4 @@ mod words;
 
 pub use cuts::{Cuts, evaluate};
 pub use live::{LiveCuts, evaluate_live, live_count};
-pub use values::Values;
+pub use values::{Values, with_sign};

@@ -2,19 +2,20 @@ ghost use Rattle.std.specs.Prelude.{◌≡◌, ◌↔◌, ℕ, ◌+◌, ◌*◌,
 ghost use Rattle.signed_sum.specs.Signs.{signed};
 ghost use Rattle.surjection_law.specs.Boundary.{caesura_count};
 ghost use Rattle.surjection_law.specs.Surjections.{arity};
-ghost use Rattle.interval_cut_law.specs.Cuts.{cut_face, sign_exponent};
-ghost use Rattle.interval_cut_law.specs.LiveCuts.{live_count_among};
+ghost use Rattle.interval_cut_law.specs.Cuts.{cut_face, rising_lists, sign_exponent};
+ghost use Rattle.std.specs.List.{filter};
 ghost use Rattle.interval_cut_law.specs.Operations.{operation_value};
 ghost use Rattle.simplicial_law.specs.Integral.{CongruentInt};
 ghost use Rattle.fp_field.specs.Served.{served};
 ghost use Rattle.interval_cut.specs.Masks.{by_mask, cut_term};
 ghost use Rattle.interval_cut.specs.Walking.{cut_of};
-ghost use Rattle.interval_cut.specs.LiveSearch.{IsReadyFor};
+ghost use Rattle.interval_cut.specs.LiveSearch.{IsListFor, IsReadyFor, is_live_list};
 ghost use Rattle.interval_cut.specs.LiveWalking.{capped_count, counted_live, live_finish, live_start, live_top, live_walk, next_live};
 
 use crate::cuts::{Cuts, greatest};
 use crate::live_lists::reached;
-use crate::live_search::Search;
+use crate::live_search::{INTERVALS, Search};
+use crate::stage::Stage;
 use crate::values::Values;
 use crate::words::count_caesuras;
 use fp_field::Fp;
@@ -33,7 +34,6 @@ const MOST: u64 = 1_000_000_000_000_000;
 pub struct LiveCuts {
     cuts: Cuts,
     search: Search,
-    count: u64,
 }
 
 impl Model for LiveCuts {
@@ -76,18 +76,18 @@ impl Cuts {
     }
 }
 
-/// The number of live cuts that are to come, cut off.
-fn count_left(cuts: &mut Cuts, search: &mut Search) -> u64
-    requires ready { IsReadyFor cuts.old.values search.old }
-    ensures count { result ≡ min (live_count_among search.old.degree (arity cuts.old.values) cuts.old.values cuts.old.left) (10 ^ 15) }
-    ensures same { (cuts.new.values ≡ cuts.old.values) × (cuts.new.top ≡ cuts.old.top) }
-    ensures ready { IsReadyFor cuts.new.values search.new }
-    ensures degree { search.new.degree ≡ search.old.degree }
+/// The number of the lists of right ends of live cuts, cut off.
+fn count_lists(search: &mut Search, values: &[u8], inner: &mut [u32], top: u32) -> u64
+    requires ready { IsReadyFor values.now search.old }
+    requires list { IsListFor values.now top inner.old }
+    ensures { result ≡ min (length (filter (is_live_list search.old.degree values.now top) (rising_lists 0 top (length inner.old)))) (10 ^ 15) }
 {
+    let mut stage = Stage::Before;
     for count in 0..MOST {
-        if !cuts.advance_live(search) {
+        if !search.next(stage, values, inner, top) {
             return count;
         }
+        stage = Stage::At;
     }
     MOST
 }
@@ -104,22 +104,21 @@ impl LiveCuts {
         let values = surjection.as_slice();
         let most = greatest(values);
         let top = u32::from(most) * q - count_caesuras(values);
-        let mut cuts = Cuts::new(alloc, surjection, top)?;
-        let mut search = Search::new(alloc, values, most, q)?;
-        let count = count_left(&mut cuts, &mut search);
-        cuts.restart();
         Ok(LiveCuts {
-            cuts,
-            search,
-            count,
+            cuts: Cuts::new(alloc, surjection, top)?,
+            search: Search::new(values, q),
         })
     }
 
-    /// The number of live cuts, cut off at 10^15.
+    /// The number of live cuts, cut off at 10^15. It takes no memory.
     pub fn count(&self) -> u64
         ensures { result ≡ capped_count self.now.degree self.now.walk.values }
     {
-        self.count
+        let values = self.cuts.values.as_slice();
+        let mut search = self.search;
+        let mut ends = [0; INTERVALS];
+        let inner = &mut ends[..values.len() - 1];
+        count_lists(&mut search, values, inner, self.cuts.top)
     }
 
     /// Goes back before the first live cut.

@@ -1,21 +1,24 @@
 //! The search for live cuts, from one list of right ends to the next.
-ghost use Rattle.std.specs.Prelude.{◌≡◌, ℕ, ◌+◌, ◌≤◌, [], ◌∷◌, ◌++◌, IfOk, MatchOption, length, true};
-ghost use Rattle.surjection_law.specs.Surjections.{IsSurjection, arity};
+ghost use Rattle.std.specs.Prelude.{◌≡◌, ℕ, ◌+◌, ◌≤◌, [], ◌∷◌, ◌++◌, MatchOption, length, take, true};
+ghost use Rattle.surjection_law.specs.Surjections.{IsSurjection};
 ghost use Rattle.interval_cut.specs.LiveSearch.{FindsLive, IsDeadEnd, IsFitting, IsListFor, IsReady, IsReadyFor, IsUnfit, is_live_list, later_times, lists_left, times};
 
 use crate::faces::end_of;
 use crate::live_lists::{DeadEnd, first_left, leave};
+use crate::signs::VALUES;
 use crate::stage::Stage;
-use std::alloc::{AllocError, Global};
+
+/// The most intervals that there are.
+pub(crate) const INTERVALS: usize = 255;
 
 /// What the search for the cuts live for a degree keeps: for each interval how many later ones have
 /// its value, and for each value the number of places of its face so far and the place after them.
-#[derive(Drop)]
+#[derive(Clone, Copy)]
 pub(crate) struct Search {
     pub(crate) degree: u32,
-    pub(crate) later: Vec<u32>,
-    pub(crate) counts: Vec<u32>,
-    pub(crate) nexts: Vec<u32>,
+    pub(crate) later: [u32; INTERVALS],
+    pub(crate) counts: [u32; VALUES],
+    pub(crate) nexts: [u32; VALUES],
 }
 
 /// How often a value comes.
@@ -27,15 +30,15 @@ fn count_of(value: u8, values: &[u8]) -> u32
 }
 
 /// Of each place, how often its value comes later.
-fn later_counts(alloc: Global, values: &[u8]) -> Result<Vec<u32>, AllocError>
+fn later_counts(values: &[u8]) -> [u32; INTERVALS]
     requires { length values.now ≤ 255 }
-    ensures { IfOk result (λ v. v.items ≡ later_times values.now) }
+    ensures { take (length values.now) result ≡ later_times values.now }
 {
-    let mut later = Vec::new(alloc);
+    let mut later = [0; INTERVALS];
     for (i, value) in values.iter().enumerate() {
-        later.push(count_of(*value, &values[i + 1..]))?;
+        later[i] = count_of(*value, &values[i + 1..]);
     }
-    Ok(later)
+    later
 }
 
 /// The last end for which the interval from `start` is in no live cut, if that is so for `end`. Its
@@ -106,24 +109,18 @@ fn dead_end(
 
 impl Search {
     /// The search for the cuts of these values that are live for `degree`.
-    pub(crate) fn new(
-        alloc: Global,
-        values: &[u8],
-        most: u8,
-        degree: u32,
-    ) -> Result<Search, AllocError>
+    pub(crate) fn new(values: &[u8], degree: u32) -> Search
         requires surjection { IsSurjection values.now }
-        requires most { most ≡ arity values.now }
         requires small { degree ≤ 15 }
-        ensures degree { IfOk result (λ s. s.degree ≡ degree) }
-        ensures ready { IfOk result (IsReadyFor values.now) }
+        ensures degree { result.degree ≡ degree }
+        ensures ready { IsReadyFor values.now result }
     {
-        Ok(Search {
+        Search {
             degree,
-            later: later_counts(alloc, values)?,
-            counts: vec![in alloc; 0; most as usize + 1]?,
-            nexts: vec![in alloc; 0; most as usize + 1]?,
-        })
+            later: later_counts(values),
+            counts: [0; VALUES],
+            nexts: [0; VALUES],
+        }
     }
 
     /// The first interval of a list that no live cut has after those before it.
@@ -139,9 +136,9 @@ impl Search {
             inner,
             top,
             self.degree,
-            self.later.as_slice(),
-            self.counts.as_mut_slice(),
-            self.nexts.as_mut_slice(),
+            &self.later[..values.len()],
+            &mut self.counts,
+            &mut self.nexts,
         )
     }
 

@@ -10,7 +10,7 @@ ghost use Rattle.interval_cut_law.specs.Cuts.{IsCutFrom, gap_symbols, gap_word, 
 use crate::faces::{end_of, point_of, write_numbers};
 
 /// The greatest value of a surjection, and one more.
-const VALUES: usize = 33;
+pub(crate) const VALUES: usize = 33;
 
 /// -1 to the exponent.
 pub(crate) fn sign_of(exponent: u32) -> i8

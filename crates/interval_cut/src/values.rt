@@ -86,8 +86,8 @@ pub(crate) fn product<const P: u32, V: Values<P>>(
     product
 }
 
-/// A value with a sign.
-pub(crate) fn with_sign<const P: u32>(value: Fp<P>, sign: i8) -> Fp<P>
+/// A value times a sign.
+pub fn with_sign<const P: u32>(value: Fp<P>, sign: i8) -> Fp<P>
     requires { IsTrue (served P) }
     ensures { (e : ℕ) → sign ≡ signed e (pos 1) → CongruentInt P (pos result) (signed e (pos value.entry)) }
 {

@@ -1,5 +1,5 @@
 use Rattle.std.proofs.Common.{ap, ap₂, sym, ◌∙◌}
-use Rattle.interval_cut.specs.LiveWalking.{LiveWalk, capped_count, live_top}
+use Rattle.interval_cut.specs.LiveWalking.{LiveWalk, live_top}
 use Rattle.interval_cut.proofs.LiveWalkLemmas.{step-same}
 use Rattle.interval_cut.proofs.live.LiveCuts.advance.Goals as goal
 
@@ -10,7 +10,6 @@ invariant_of-self c =
     record {
       top = s.1 ∙ c.self.invariant.top ∙ ap₂ live_top (sym c.advance_live.ensures.degree) (sym s.0);
       ready = c.advance_live.ensures.ready;
-      count = c.self.invariant.count ∙ ap₂ capped_count (sym c.advance_live.ensures.degree) (sym s.0);
     }
 
 pub returns-clause-values : goal.returns-clause-values
