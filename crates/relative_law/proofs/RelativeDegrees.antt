@@ -1,19 +1,20 @@
 -- What a walk of the rows of relative cochains tells of the relative cocycles of one degree and of the relative
 -- coboundaries of the next.
-use Rattle.std.proofs.Common.{◌≡◌, ℕ, suc, ◌+◌, ◌*◌, ◌<◌, inl, inr, Bool, true, false, cond, List, [], ◌∷◌, length, get_or, arith, refl, sym, ap, subst, ◌∙◌, add_comm}
+use Rattle.std.proofs.Common.{◌≡◌, ℕ, ◌+◌, ◌*◌, ◌<◌, inl, inr, Bool, true, false, cond, List, [], length, get_or, arith, refl, sym, ap, subst, ◌∙◌}
 use Rattle.std.specs.List.{AllZip}
 use Rattle.std.proofs.lemmas.Bool.{cases_Bool}
 use Rattle.linear_law.specs.Congruence.{Congruent}
 use Rattle.linear_law.specs.Elimination.{IsImage, IsInKernel, IsLinear}
-use Rattle.linear_law.specs.Listing.{ListsAll, row_combination, row_combination_from, unit_sum_from}
-use Rattle.linear_law.proofs.CongruenceLemmas.{Congruent_add, Congruent_from, Congruent_of, Congruent_refl, Congruent_scale, Congruent_sym, Congruent_trans}
-use Rattle.linear_law.proofs.ListLemmas.{each_get_or}
+use Rattle.linear_law.specs.Listing.{ListsAll, row_combination}
+use Rattle.linear_law.proofs.CongruenceLemmas.{Congruent_of, Congruent_refl, Congruent_sym, Congruent_trans}
+use Rattle.linear_law.proofs.ListLemmas.{each_get_or, zip_change}
 use Rattle.linear_law.proofs.UnitSums.{unit_sum-past}
 use Rattle.signed_sum.proofs.ListLemmas.{is_same_list-true}
 use Rattle.simplicial_law.specs.Simplices.{IsSimplex}
 use Rattle.simplicial_law.specs.Cochains.{AgreesOnSimplices, Cochain, coboundary, is_same_list, unit_cochain}
 use Rattle.simplicial_law.specs.Places.{cochain_at}
 use Rattle.simplicial_law.proofs.Bases.{coboundary_plus, coboundary_same, coboundary_zero}
+use Rattle.simplicial_law.proofs.DegreeMaps.{IsLinearMap, by_place, combined_rows, linear_by_place}
 use Rattle.simplicial_law.proofs.SimplexPlaces.{agree_by_place, cochain_at-value, simplex_at}
 use Rattle.simplicial_law.proofs.UnitCochains.{unit_away, unit_here}
 use Rattle.relative_law.proofs.Covered.{covered_simplex, simplex_covered}
@@ -100,22 +101,16 @@ outer_unit p sub s t = ap (λ (h : Cochain). coboundary p h t) (λ i u. outside_
 pub record IsOuterByPlace (p : ℕ) (sub here above : List (List ℕ)) (L : (ℕ → ℕ) → ℕ → ℕ) : Type 0 where
   pub same : (v : ℕ → ℕ) (j : ℕ) → j < length above → Congruent p (L v j) (outer p sub (cochain_at here v) (get_or above j []))
 
-module _ (p : ℕ) (sub above : List (List ℕ)) where
-  applied_is : (k : ℕ) (rows : List (ℕ → ℕ)) (ss : List (List ℕ)) (v : ℕ → ℕ) (j : ℕ) → j < length above → AllZip (IsRelativeCoboundaryRow p sub above) rows ss
-      → Congruent p (row_combination_from k rows v j) (outer p sub (unit_sum_from unit_cochain k ss v) (get_or above j []))
-  applied_is k [] [] v j b h = Congruent_of (sym (outer_zero p sub (get_or above j [])))
-  applied_is k [] (s ∷ ss) v j b h = elim h [ ]
-  applied_is k (r ∷ rs) [] v j b h = elim h [ ]
-  applied_is k (r ∷ rs) (s ∷ ss) v j b h =
-      let t = get_or above j [] in
-      let turned : outer p sub (unit_sum_from unit_cochain k (s ∷ ss) v) t ≡ outer p sub (λ x. unit_sum_from unit_cochain (suc k) ss v x + v k * unit_cochain s x) t =
-      ap (λ (f : Cochain). outer p sub f t) (λ i x. add_comm (v k * unit_cochain s x) (unit_sum_from unit_cochain (suc k) ss v x) i) in
-      let parts = outer_plus p sub (v k) (unit_sum_from unit_cochain (suc k) ss v) (unit_cochain s) t in
-      let first = Congruent_trans (h.0 j b) (Congruent_of (sym (outer_unit p sub s t))) in
-      Congruent_from (Congruent_add (applied_is (suc k) rs ss v j b h.1) (Congruent_add (Congruent_scale (v k) first) (Congruent_of {p = p} (sym (turned ∙ parts))))) (omega arith)
+outer_map : (p : ℕ) (sub : List (List ℕ)) → IsLinearMap (outer p sub)
+outer_map p sub = record { nothing = outer_zero p sub; plus = outer_plus p sub }
 
-  pub rows_by_place : (here : List (List ℕ)) (rows : List (ℕ → ℕ)) → AllZip (IsRelativeCoboundaryRow p sub above) rows here → IsOuterByPlace p sub here above (row_combination rows)
-  rows_by_place here rows are = record { same = λ v j b. applied_is 0 rows here v j b are }
+pub rows_by_place : (p : ℕ) (sub above here : List (List ℕ)) (rows : List (ℕ → ℕ)) → AllZip (IsRelativeCoboundaryRow p sub above) rows here → IsOuterByPlace p sub here above (row_combination rows)
+rows_by_place p sub above here rows are =
+    let given : List ℕ → (ℕ → ℕ) → Type 0 = λ s r. (j : ℕ) → j < length above → Congruent p (r j) (outer p sub (unit_cochain s) (get_or above j [])) in
+    record {
+      same = λ v j b. combined_rows p (outer p sub) (outer_map p sub) above 0 rows here v j b
+          (zip_change (IsRelativeCoboundaryRow p sub above) (λ r s. given s r) (λ r s h j b. Congruent_trans (h j b) (Congruent_of (sym (outer_unit p sub s (get_or above j []))))) rows here are);
+    }
 
 -- ---- by places
 
@@ -138,29 +133,11 @@ module _ (facets sub : List (List ℕ)) (n p : ℕ) (pair : IsSubcomplex sub fac
 
   module _ (above : List (List ℕ)) (all_above : ListsAll (IsSimplex facets (n + 1)) above)
       (L : (ℕ → ℕ) → ℕ → ℕ) (is_outer : IsOuterByPlace p sub here above L) where
-    -- it sees the values at the places alone
-    by_place : (v : ℕ → ℕ) (f : Cochain) → ((x : ℕ) → x < length here → Congruent p (v x) (f (get_or here x []))) → (j : ℕ) → j < length above → Congruent p (L v j) (outer p sub f (get_or above j []))
-    by_place v f h j b =
-        Congruent_trans (is_outer.same v j b)
-        ((outer_same facets sub n p (cochain_at here v) f (agree_by_place facets n p here all_here (cochain_at here v) f (λ x c. Congruent_trans (Congruent_of (cochain_at-value facets n p here all_here v x c)) (h x c)))).at
-        (get_or above j []) (simplex_at facets (n + 1) p above all_above j b))
+    values_down : (v : ℕ → ℕ) (f : Cochain) → ((x : ℕ) → x < length here → Congruent p (v x) (f (get_or here x []))) → (j : ℕ) → j < length above → Congruent p (L v j) (outer p sub f (get_or above j []))
+    values_down = by_place facets n p (outer p sub) (outer_map p sub) (outer_same facets sub n p) here all_here above all_above L is_outer.same
 
     pub linear : IsLinear p (length here) (λ y. y < length above) L
-    linear = record {
-      nothing = record { at = λ j b. Congruent_trans (by_place (λ x. 0) (λ t. 0) (λ x c. Congruent_of refl) j b) (Congruent_of (outer_zero p sub (get_or above j []))) };
-      plus = λ k v w. record {
-        at = λ j b.
-            let t = get_or above j [] in
-            let both : Cochain = λ s. cochain_at here v s + k * cochain_at here w s in
-            let values = λ (x : ℕ) (c : x < length here). Congruent_of {p = p} (sym (ap (λ m. m + k * cochain_at here w (get_or here x [])) (cochain_at-value facets n p here all_here v x c) ∙ ap (λ m. v x + k * m) (cochain_at-value facets n p here all_here w x c))) in
-            Congruent_trans (by_place (λ x. v x + k * w x) both values j b)
-            (Congruent_trans (Congruent_of (outer_plus p sub k (cochain_at here v) (cochain_at here w) t))
-            (Congruent_add (Congruent_sym (is_outer.same v j b)) (Congruent_scale k (Congruent_sym (is_outer.same w j b)))));
-      };
-      alike = λ v w same. record {
-        at = λ j b. Congruent_trans (by_place v (cochain_at here w) (λ x c. Congruent_trans (same.at x c) (Congruent_of (sym (cochain_at-value facets n p here all_here w x c)))) j b) (Congruent_sym (is_outer.same w j b));
-      };
-    }
+    linear = linear_by_place facets n p (outer p sub) (outer_map p sub) (outer_same facets sub n p) here all_here above all_above L is_outer.same
 
     pub cocycle_up : (v : ℕ → ℕ) → IsInKernel p (λ y. y < length above) L v → IsOff sub n p here v → IsRelativeCocycle facets sub n p (cochain_at here v)
     cocycle_up v h off = record {
@@ -174,7 +151,7 @@ module _ (facets sub : List (List ℕ)) (n p : ℕ) (pair : IsSubcomplex sub fac
     cocycle_down f h = record {
       at = λ j b.
           let on = simplex_at facets (n + 1) p above all_above j b in
-          Congruent_trans (by_place (λ x. f (get_or here x [])) f (λ x c. Congruent_of refl) j b)
+          Congruent_trans (values_down (λ x. f (get_or here x [])) f (λ x c. Congruent_of refl) j b)
           (Congruent_trans ((outer_itself facets sub n p f h.relative).at (get_or above j []) on) (h.closed.at (get_or above j []) on));
     }
 
@@ -199,6 +176,6 @@ module _ (facets sub : List (List ℕ)) (n p : ℕ) (pair : IsSubcomplex sub fac
             let on = simplex_at facets (n + 1) p above all_above j b in
             Congruent_trans (h.same.at (get_or above j []) on)
             (Congruent_trans (Congruent_sym ((outer_itself facets sub n p h.below (h.relative n refl)).at (get_or above j []) on))
-            (Congruent_sym (by_place (λ x. h.below (get_or here x [])) h.below (λ x c. Congruent_of refl) j b)));
+            (Congruent_sym (values_down (λ x. h.below (get_or here x [])) h.below (λ x c. Congruent_of refl) j b)));
       };
     }

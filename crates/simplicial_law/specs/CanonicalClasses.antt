@@ -3,9 +3,10 @@ use Rattle.std.specs.Prelude.{ℕ, ◌<◌, ◌*◌, List, [], map, length, get_
 use Rattle.std.specs.List.{AllZip}
 use Rattle.linear_law.specs.Congruence.{sum_over}
 use Rattle.linear_law.specs.Lists.{Among, Each}
-use Rattle.simplicial_law.specs.Simplices.{IsInOrder, IsSimplex}
-use Rattle.simplicial_law.specs.Cochains.{Chain, Cochain, IsCohomologyBasis, unit_cochain}
-use Rattle.simplicial_law.specs.Canonical.{IsCanonicalClass, IsCoboundaryPivot, IsCocyclePivot}
+use Rattle.linear_law.specs.Pivots.{IsPivot}
+use Rattle.simplicial_law.specs.Simplices.{IsInOrder, IsSimplex, Precedes}
+use Rattle.simplicial_law.specs.Cochains.{Chain, Cochain, IsBasisModulo, IsCoboundary, IsCocycle, unit_cochain}
+use Rattle.simplicial_law.specs.Canonical.{IsCanonicalModulo}
 
 -- the cochain with these terms: at a simplex, the sum of the coefficients that stand with it
 abbrev pub cochain_of : Chain → Cochain
@@ -17,19 +18,28 @@ pub record AreTerms (facets : List (List ℕ)) (n p : ℕ) (terms : Chain) : Typ
   pub simplices : Each (λ t. IsSimplex facets n t.1) terms
   pub in_order : IsInOrder (map (λ t. t.1) terms)
 
--- These are the canonical classes of degree n: one for each simplex that is a pivot of the cocycles
--- and not of the coboundaries, in the order of these simplices.
-pub record AreCanonicalClasses (facets : List (List ℕ)) (n p : ℕ) (classes : List Chain) : Type 0 where
+-- These are the canonical classes of the cocycles Z modulo the coboundaries B, in degree n: one for each simplex
+-- that is a pivot of the cocycles and not of the coboundaries, in the order of these simplices.
+pub record AreCanonicalModulo (facets : List (List ℕ)) (n p : ℕ) (Z B : Cochain → Type 0) (classes : List Chain) : Type 0 where
   pub pivots : List (List ℕ)
   pub in_order : IsInOrder pivots
-  pub all : (s : List ℕ) → IsCocyclePivot facets n p s → (IsCoboundaryPivot facets n p s → ⊥) → Among s pivots
-  pub canonical : AllZip (λ s terms. IsCanonicalClass facets n p s (cochain_of terms)) pivots classes
+  pub all : (s : List ℕ) → IsPivot p (IsSimplex facets n) Precedes Z s →
+      (IsPivot p (IsSimplex facets n) Precedes B s → ⊥) → Among s pivots
+  pub canonical : AllZip (λ s terms. IsCanonicalModulo facets n p Z B s (cochain_of terms)) pivots classes
   pub terms : Each (AreTerms facets n p) classes
 
+-- they are canonical, and a basis
+pub record IsCanonicalBasisModulo (facets : List (List ℕ)) (n p : ℕ) (Z B : Cochain → Type 0) (classes : List Chain) : Type 0 where
+  pub canonical : AreCanonicalModulo facets n p Z B classes
+  pub basis : IsBasisModulo p Z B (map cochain_of classes)
+
+-- the canonical classes of degree n
+abbrev pub AreCanonicalClasses : List (List ℕ) → ℕ → ℕ → List Chain → Type 0
+AreCanonicalClasses facets n p classes = AreCanonicalModulo facets n p (IsCocycle facets n p) (IsCoboundary facets n p) classes
+
 -- the canonical classes of degree n, which are a basis of cohomology
-pub record IsCanonicalBasis (facets : List (List ℕ)) (n p : ℕ) (classes : List Chain) : Type 0 where
-  pub canonical : AreCanonicalClasses facets n p classes
-  pub basis : IsCohomologyBasis facets n p (map cochain_of classes)
+abbrev pub IsCanonicalBasis : List (List ℕ) → ℕ → ℕ → List Chain → Type 0
+IsCanonicalBasis facets n p classes = IsCanonicalBasisModulo facets n p (IsCocycle facets n p) (IsCoboundary facets n p) classes
 
 -- a basis for each degree that has a simplex, from 0 on
 pub record AreCanonicalBases (facets : List (List ℕ)) (p : ℕ) (degrees : List (List Chain)) : Type 0 where
