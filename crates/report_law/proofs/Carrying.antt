@@ -1,5 +1,5 @@
 -- The bases of a listed complex, and what its matrices carry.
-use Rattle.std.proofs.Common.{◌≡◌, ℕ, ◌+◌, inl, inr, true, List, [], ◌∷◌, map, length, arith, refl, sym, ap, subst, ◌∙◌}
+use Rattle.std.proofs.Common.{◌≡◌, Bool, ℕ, ◌+◌, inl, inr, true, List, [], ◌∷◌, map, length, arith, refl, sym, ap, subst, ◌∙◌}
 use Rattle.std.specs.Prelude.{IsTrue}
 use Rattle.std.specs.List.{AllZip}
 use Rattle.std.proofs.lemmas.List.{length-map}
@@ -21,10 +21,8 @@ use Rattle.report.specs.declared.columns.OperationPart.{OperationPart}
 use Rattle.report.specs.declared.columns.PairColumn.{PairColumn}
 use Rattle.report.specs.declared.columns.ProductPart.{ProductPart}
 use Rattle.report.specs.declared.complex.ComplexPart.{ComplexPart}
-use Rattle.report.specs.declared.form.Form.{Form}
 use Rattle.report.specs.declared.plan.Block.{Block}
 use Rattle.report.specs.declared.plan.Op.{Op}
-use Rattle.report.specs.Forms.{has_details}
 use Rattle.report_law.specs.Columns.{IsColumn}
 use Rattle.report_law.specs.Differences.{IsOperation}
 use Rattle.report_law.specs.Headline.{BasesPromise, listed, OperationPromise, ProductPromise}
@@ -52,8 +50,8 @@ module _ (facets : List (List ℕ)) (p : ℕ) (is_served : IsTrue (served p)) (c
 
   -- ---- products
 
-  module _ (form : Form) (x : ProductPart) (part : IsProductPart form facets p (classes_of c) x) where
-    product-columns : (us : List Cochain) (ys : List PairColumn) → AllZip (λ u y. IsColumn (has_details form) facets (x.a + x.b) p (listed c (x.a + x.b)) u y.values y.primitive) us (map unnumbered ys)
+  module _ (detailed : Bool) (x : ProductPart) (part : IsProductPart detailed facets p (classes_of c) x) where
+    product-columns : (us : List Cochain) (ys : List PairColumn) → AllZip (λ u y. IsColumn detailed facets (x.a + x.b) p (listed c (x.a + x.b)) u y.values y.primitive) us (map unnumbered ys)
         → AllZip (λ column u. HasCoordinates facets (x.a + x.b) p (listed c (x.a + x.b)) u column) (map (λ y. y.values) ys) us
     product-columns [] [] h = tt
     product-columns [] (y ∷ ys) h = absurd h
@@ -80,18 +78,18 @@ module _ (facets : List (List ℕ)) (p : ℕ) (is_served : IsTrue (served p)) (c
     IsMadeColumn column z = HasCoordinates facets n p (listed c n) (made z) column
 
     -- the columns of a listed block
-    block-columns : (form : Form) (o : OperationPart) → o.from ≡ q → op ≡ op_of o → o.to ≡ n → (zs : List Cochain) (ys : List Column) → AllZip (IsOperationColumn (has_details form) facets p (classes_of c) (block_of o)) zs ys → AllZip IsMadeColumn (matrix_of ys) zs
-    block-columns form o a b t [] [] h = tt
-    block-columns form o a b t [] (y ∷ ys) h = absurd h
-    block-columns form o a b t (z ∷ zs) [] h = absurd h
-    block-columns form o a b t (z ∷ zs) (y ∷ ys) h =
+    block-columns : (detailed : Bool) (o : OperationPart) → o.from ≡ q → op ≡ op_of o → o.to ≡ n → (zs : List Cochain) (ys : List Column) → AllZip (IsOperationColumn detailed facets p (classes_of c) (block_of o)) zs ys → AllZip IsMadeColumn (matrix_of ys) zs
+    block-columns detailed o a b t [] [] h = tt
+    block-columns detailed o a b t [] (y ∷ ys) h = absurd h
+    block-columns detailed o a b t (z ∷ zs) [] h = absurd h
+    block-columns detailed o a b t (z ∷ zs) (y ∷ ys) h =
         let r = h.0.result in
         let is : IsOperation facets p op q z r = subst (λ (x : Op). IsOperation facets p x q z r) (sym b) (subst (λ (m : ℕ). IsOperation facets p (op_of o) m z r) a h.0.is_result) in
         let has : HasCoordinates facets n p (listed c n) r y.values = subst (λ (m : ℕ). HasCoordinates facets m p (listed c m) r y.values) t h.0.is_column.coordinates in
-        (coordinates-alike facets n p field.large (listed c n) (made z) r y.values (agrees-sym (constant.there facets z r is)) has, block-columns form o a b t zs ys h.1)
+        (coordinates-alike facets n p field.large (listed c n) (made z) r y.values (agrees-sym (constant.there facets z r is)) has, block-columns detailed o a b t zs ys h.1)
 
-    pub listed-columns : (form : Form) (o : OperationPart) → o.from ≡ q → op ≡ op_of o → o.to ≡ n → IsOperationPart form facets p (classes_of c) o → AllZip IsMadeColumn (matrix_of o.columns) (listed c q)
-    listed-columns form o a b t h = block-columns form o a b t (listed c q) o.columns (subst (λ (m : ℕ). AllZip (IsOperationColumn (has_details form) facets p (classes_of c) (block_of o)) (listed c m) o.columns) a h)
+    pub listed-columns : (detailed : Bool) (o : OperationPart) → o.from ≡ q → op ≡ op_of o → o.to ≡ n → IsOperationPart detailed facets p (classes_of c) o → AllZip IsMadeColumn (matrix_of o.columns) (listed c q)
+    listed-columns detailed o a b t h = block-columns detailed o a b t (listed c q) o.columns (subst (λ (m : ℕ). AllZip (IsOperationColumn detailed facets p (classes_of c) (block_of o)) (listed c m) o.columns) a h)
 
     -- the columns without rows, where the target degree has no classes
     no-rows : classes_in (classes_of c) n ≡ [] → (ts : List Chain) → Each (IsCocycle facets q p) (map cochain_of ts) → AllZip IsMadeColumn (copies (length ts) []) (map cochain_of ts)
@@ -103,7 +101,7 @@ module _ (facets : List (List ℕ)) (p : ℕ) (is_served : IsTrue (served p)) (c
         (subst (λ (us : List Chain). HasCoordinates facets n p (map cochain_of us) (made z) []) (sym e) (no-coordinates facets n p (made z) empty closed), no-rows e ts h.1)
 
   -- each matrix of an operation, listed or not
-  module _ (form : Form) (are_blocks : map block_of c.operations ≡ blocks p (ranks (classes_of c))) (each : Each (IsOperationPart form facets p (classes_of c)) c.operations) where
+  module _ (detailed : Bool) (are_blocks : map block_of c.operations ≡ blocks p (ranks (classes_of c))) (each : Each (IsOperationPart detailed facets p (classes_of c)) c.operations) where
     live-block : (o : OperationPart) → Among o c.operations → (is_defined p o.from (op_of o) ≡ true) × (o.to ≡ target_degree p o.from (op_of o))
     live-block o m =
         let a : Among (block_of o) (map block_of c.operations) = among_map block_of o (block_of o) c.operations m refl in
@@ -119,7 +117,7 @@ module _ (facets : List (List ℕ)) (p : ℕ) (is_served : IsTrue (served p)) (c
               let live = live-block o g.listed in
               let to : o.to ≡ n = live.1 ∙ ap (λ (m : ℕ). target_degree p m (op_of o)) g.from ∙ ap (target_degree p q) (sym g.op_is) in
               subst (λ (m : List (List ℕ)). AllZip (IsMadeColumn op q constant) m (listed c q)) (sym g.matrix_is)
-              (listed-columns op q constant form o g.from g.op_is to (each_among (IsOperationPart form facets p (classes_of c)) o c.operations each g.listed))
+              (listed-columns op q constant detailed o g.from g.op_is to (each_among (IsOperationPart detailed facets p (classes_of c)) o c.operations each g.listed))
           | inr none ↦
               subst (λ (m : List (List ℕ)). AllZip (IsMadeColumn op q constant) m (listed c q)) (sym none.0)
               (elim (rank-or-none (classes_of c) n) [
@@ -139,7 +137,7 @@ module _ (facets : List (List ℕ)) (p : ℕ) (is_served : IsTrue (served p)) (c
         let n : ℕ = target_degree p q (op_of o) in
         let ms = orbit_tables.all_served p is_served in
         let same = constant.there facets z b is in
-        let columns = listed-columns (op_of o) q constant form o refl refl live.1 (each_among (IsOperationPart form facets p (classes_of c)) o c.operations each m) in
+        let columns = listed-columns (op_of o) q constant detailed o refl refl live.1 (each_among (IsOperationPart detailed facets p (classes_of c)) o c.operations each m) in
         let carried = matrix-law p field facets (element_degree p q (op_of o)) constant.scale q n ms.0 (listed c q) (listed c n) (matrix_of o.columns) ms.1 (any_basis q).cocycles columns z cs coordinates in
         subst (λ (t : ℕ). IsCocycle facets t p b × HasCoordinates facets t p (listed c t) b (matrix_times p (length (listed c t)) (matrix_of o.columns) cs)) (sym live.1) (
           scaled-closed facets p (element_degree p q (op_of o)) constant.scale q n z b field closed same,

@@ -9,7 +9,7 @@ use Rattle.report.specs.declared.columns.CartanAnswer.TheVariants.{Yes, No}
 use Rattle.report.specs.declared.complex.ComplexPart.{ComplexPart}
 use Rattle.report.specs.declared.form.Form.{Form}
 use Rattle.report.specs.declared.form.Form.TheVariants.{Certificate}
-use Rattle.report.specs.Forms.{has_details}
+use Rattle.report.specs.Forms.{has_details, has_tables}
 use Rattle.report_law.specs.Columns.{IsAnswer, IsColumn}
 use Rattle.report_law.specs.Laws.{FormsLaw}
 use Rattle.report_law.specs.Reports.{IsComplexPart}
@@ -28,7 +28,7 @@ module _ (form : Form) where
   of-answer facets n p classes d (Yes primitive) h = (h.0, λ t. h.1 refl)
   of-answer facets n p classes d (No value cycle) h = record { values = h.values; coordinates = h.coordinates; place = h.place; first = h.first; cycle_of = λ t. h.cycle_of refl }
 
-  of-complex : (p : ℕ) (block : ComplexBlock) (c : ComplexPart) → IsComplexPart Certificate p block c → IsComplexPart form p block c
+  of-complex : (p : ℕ) (block : ComplexBlock) (c : ComplexPart) → IsComplexPart true true p block c → IsComplexPart (has_tables form) (has_details form) p block c
   of-complex p block c h =
       let k = h.tables refl in
       record {

@@ -14,7 +14,7 @@ use Rattle.complex_file.specs.Maps.{image}
 use Rattle.report.specs.declared.complex.ComplexPart.{ComplexPart}
 use Rattle.report.specs.declared.form.Form.{Form}
 use Rattle.report.specs.declared.map.MapPart.{MapPart}
-use Rattle.report.specs.Forms.{has_tables}
+use Rattle.report.specs.Forms.{has_details, has_tables}
 use Rattle.report_law.specs.Headline.{ComplexPromise, MapPromise}
 use Rattle.report_law.specs.Laws.{HeadlineLaw}
 use Rattle.report_law.specs.Live.{induced_degrees}
@@ -28,24 +28,24 @@ use Rattle.report_law.proofs.Naturality.{induced_promise}
 use Rattle.report_law.proofs.Verdicts.{cartan_promises}
 
 module _ (form : Form) (p : ℕ) (is_served : IsTrue (served p)) where
-  complex-promise : (block : ComplexBlock) (c : ComplexPart) → Each IsAscending block.facets → IsComplexPart form p block c → ComplexPromise form p block c
+  complex-promise : (block : ComplexBlock) (c : ComplexPart) → Each IsAscending block.facets → IsComplexPart (has_tables form) (has_details form) p block c → ComplexPromise form p block c
   complex-promise block c ascending h =
       let are = bases-of block.facets ascending p (served_field p is_served) (classes_of c) h.classes in record {
         bases = bases_promise block.facets p is_served c are;
         tables = λ has. (let t = h.tables has in record {
-          products = each_map (λ x b. product_promise block.facets p is_served c are form x b) c.products t.product_parts;
-          operations = operation_promises block.facets p is_served c are form t.operations t.operation_parts;
+          products = each_map (λ x b. product_promise block.facets p is_served c are (has_details form) x b) c.products t.product_parts;
+          operations = operation_promises block.facets p is_served c are (has_details form) t.operations t.operation_parts;
           cartans = cartan_promises form block.facets ascending p is_served c are t.cartans t.cartan_parts;
         });
       }
 
-  complex-promises : (blocks : List ComplexBlock) (cs : List ComplexPart) → Each (λ b. Each IsAscending b.facets) blocks → AllZip (IsComplexPart form p) blocks cs → AllZip (ComplexPromise form p) blocks cs
+  complex-promises : (blocks : List ComplexBlock) (cs : List ComplexPart) → Each (λ b. Each IsAscending b.facets) blocks → AllZip (IsComplexPart (has_tables form) (has_details form) p) blocks cs → AllZip (ComplexPromise form p) blocks cs
   complex-promises [] [] a h = tt
   complex-promises [] (c ∷ cs) a h = absurd h
   complex-promises (b ∷ bs) [] a h = absurd h
   complex-promises (b ∷ bs) (c ∷ cs) a h = (complex-promise b c a.0 h.0, complex-promises bs cs a.1 h.1)
 
-  pub part-of : (blocks : List ComplexBlock) (cs : List ComplexPart) (k : ℕ) → k < length blocks → AllZip (IsComplexPart form p) blocks cs → IsComplexPart form p (get_or blocks k (record { name = []; facets = [] })) (part_at cs k)
+  pub part-of : (blocks : List ComplexBlock) (cs : List ComplexPart) (k : ℕ) → k < length blocks → AllZip (IsComplexPart (has_tables form) (has_details form) p) blocks cs → IsComplexPart (has_tables form) (has_details form) p (get_or blocks k (record { name = []; facets = [] })) (part_at cs k)
   part-of [] cs k l h = absurd (omega (arith, l))
   part-of (b ∷ bs) [] k l h = absurd h
   part-of (b ∷ bs) (c ∷ cs) zero l h = h.0
@@ -57,8 +57,8 @@ classes-at (c ∷ cs) zero = refl
 classes-at (c ∷ cs) (suc k) = classes-at cs k
 
 module _ (form : Form) (has : IsTrue (has_tables form)) (job : Spelled) (parts : List ComplexPart) (is_served : IsTrue (served job.prime)) (ascending : Each (λ b. Each IsAscending b.facets) job.complexes)
-    (are : AllZip (IsComplexPart form job.prime) job.complexes parts) where
-  map-promise : (block : MapBlock) (m : MapPart) → IsMapOf job.complexes block → IsMapPart form job (map classes_of parts) block m → MapPromise job parts block m
+    (are : AllZip (IsComplexPart (has_tables form) (has_details form) job.prime) job.complexes parts) where
+  map-promise : (block : MapBlock) (m : MapPart) → IsMapOf job.complexes block → IsMapPart (has_details form) job (map classes_of parts) block m → MapPromise job parts block m
   map-promise block m is h =
       let K = part-of form job.prime is_served job.complexes parts block.from is.from are in
       let L = part-of form job.prime is_served job.complexes parts block.to is.to are in
@@ -67,14 +67,14 @@ module _ (form : Form) (has : IsTrue (has_tables form)) (job : Spelled) (parts :
       induced_promise job.prime is_served (image block.sends)
       (facets_at job.complexes block.from) (part_at parts block.from) (bases-of (facets_at job.complexes block.from) a job.prime (served_field job.prime is_served) (classes_of (part_at parts block.from)) K.classes)
       (facets_at job.complexes block.to) (part_at parts block.to) (bases-of (facets_at job.complexes block.to) b job.prime (served_field job.prime is_served) (classes_of (part_at parts block.to)) L.classes)
-      (simplicial (facets_at job.complexes block.from) (facets_at job.complexes block.to) a b block.sends is.free) form m
+      (simplicial (facets_at job.complexes block.from) (facets_at job.complexes block.to) a b block.sends is.free) (has_details form) m
       (subst (λ (cs : Classes). map (λ x. x.q) m.induced ≡ induced_degrees (ranks cs) (ranks (classes_of (part_at parts block.to)))) (classes-at parts block.from)
       (subst (λ (cs : Classes). map (λ x. x.q) m.induced ≡ induced_degrees (ranks (get_or (map classes_of parts) block.from [])) (ranks cs)) (classes-at parts block.to) h.induced))
-      (subst (λ (cs : Classes). Each (IsInducedPart form (image block.sends) (facets_at job.complexes block.from) job.prime cs (classes_of (part_at parts block.to))) m.induced) (classes-at parts block.from)
-      (subst (λ (cs : Classes). Each (IsInducedPart form (image block.sends) (facets_at job.complexes block.from) job.prime (get_or (map classes_of parts) block.from []) cs) m.induced) (classes-at parts block.to) h.induced_parts))
+      (subst (λ (cs : Classes). Each (IsInducedPart (has_details form) (image block.sends) (facets_at job.complexes block.from) job.prime cs (classes_of (part_at parts block.to))) m.induced) (classes-at parts block.from)
+      (subst (λ (cs : Classes). Each (IsInducedPart (has_details form) (image block.sends) (facets_at job.complexes block.from) job.prime (get_or (map classes_of parts) block.from []) cs) m.induced) (classes-at parts block.to) h.induced_parts))
       (K.tables has).operations (K.tables has).operation_parts (L.tables has).operations (L.tables has).operation_parts
 
-  map-promises : (blocks : List MapBlock) (ms : List MapPart) → Each (IsMapOf job.complexes) blocks → AllZip (IsMapPart form job (map classes_of parts)) blocks ms → AllZip (MapPromise job parts) blocks ms
+  map-promises : (blocks : List MapBlock) (ms : List MapPart) → Each (IsMapOf job.complexes) blocks → AllZip (IsMapPart (has_details form) job (map classes_of parts)) blocks ms → AllZip (MapPromise job parts) blocks ms
   map-promises [] [] is h = tt
   map-promises [] (m ∷ ms) is h = absurd h
   map-promises (b ∷ bs) [] is h = absurd h

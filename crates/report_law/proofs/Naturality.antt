@@ -1,5 +1,5 @@
 -- Induced matrices, listed or not, and how they go with the matrices of operations.
-use Rattle.std.proofs.Common.{◌≡◌, ℕ, inl, inr, List, [], ◌∷◌, map, length, sym, subst}
+use Rattle.std.proofs.Common.{◌≡◌, Bool, ℕ, inl, inr, List, [], ◌∷◌, map, length, sym, subst}
 use Rattle.std.specs.Prelude.{IsTrue}
 use Rattle.std.specs.List.{AllZip}
 use Rattle.fp_field.specs.Served.{served}
@@ -15,9 +15,7 @@ use Rattle.steenrod_law.specs.Operations.{IsSimplicial, pull_back}
 use Rattle.steenrod_law.specs.Words.{copies}
 use Rattle.report.specs.declared.columns.Column.{Column}
 use Rattle.report.specs.declared.complex.ComplexPart.{ComplexPart}
-use Rattle.report.specs.declared.form.Form.{Form}
 use Rattle.report.specs.declared.map.MapPart.{MapPart}
-use Rattle.report.specs.Forms.{has_details}
 use Rattle.report_law.specs.Columns.{IsColumn}
 use Rattle.report_law.specs.Headline.{InducedPromise, listed}
 use Rattle.report_law.specs.Live.{blocks, element_degree, induced_degrees, target_degree}
@@ -32,8 +30,8 @@ use Rattle.report_law.proofs.ScaledForms.{scaled}
 module _ (p : ℕ) (is_served : IsTrue (served p)) (f : ℕ → ℕ)
     (K : List (List ℕ)) (from : ComplexPart) (are_K : AreCanonicalBases K p (classes_of from))
     (L : List (List ℕ)) (to : ComplexPart) (are_L : AreCanonicalBases L p (classes_of to))
-    (simplicial : IsSimplicial f K L) (form : Form) (m : MapPart)
-    (are_induced : map (λ x. x.q) m.induced ≡ induced_degrees (ranks (classes_of from)) (ranks (classes_of to))) (each : Each (IsInducedPart form f K p (classes_of from) (classes_of to)) m.induced) where
+    (simplicial : IsSimplicial f K L) (detailed : Bool) (m : MapPart)
+    (are_induced : map (λ x. x.q) m.induced ≡ induced_degrees (ranks (classes_of from)) (ranks (classes_of to))) (each : Each (IsInducedPart detailed f K p (classes_of from) (classes_of to)) m.induced) where
   abbrev field : IsField p
   field = served_field p is_served
 
@@ -46,7 +44,7 @@ module _ (p : ℕ) (is_served : IsTrue (served p)) (f : ℕ → ℕ)
   abbrev IsPulledColumn : ℕ → List ℕ → Cochain → Type 0
   IsPulledColumn q column u = HasCoordinates K q p (listed from q) u column
 
-  listed-columns : (q : ℕ) (ws : List Cochain) (ys : List Column) → AllZip (λ w y. IsColumn (has_details form) K q p (listed from q) (pull_back f w) y.values y.primitive) ws ys
+  listed-columns : (q : ℕ) (ws : List Cochain) (ys : List Column) → AllZip (λ w y. IsColumn detailed K q p (listed from q) (pull_back f w) y.values y.primitive) ws ys
       → AllZip (IsPulledColumn q) (matrix_of ys) (map (pull_back f) ws)
   listed-columns q [] [] h = tt
   listed-columns q [] (y ∷ ys) h = absurd h
@@ -67,7 +65,7 @@ module _ (p : ℕ) (is_served : IsTrue (served p)) (f : ℕ → ℕ)
       elim (induced-found (copies (length (classes_in (classes_of to) q)) []) q m.induced) [
         | inl g ↦
             let x = g.block in
-            let block = each_among (IsInducedPart form f K p (classes_of from) (classes_of to)) x m.induced each g.listed in
+            let block = each_among (IsInducedPart detailed f K p (classes_of from) (classes_of to)) x m.induced each g.listed in
             let columns = listed-columns x.q (listed to x.q) x.columns block in
             subst (λ (a : List (List ℕ)). AllZip (IsPulledColumn q) a (map (pull_back f) (listed to q))) (sym g.matrix_is)
             (subst (λ (k : ℕ). AllZip (IsPulledColumn k) (matrix_of x.columns) (map (pull_back f) (listed to k))) g.degree columns)
@@ -82,8 +80,8 @@ module _ (p : ℕ) (is_served : IsTrue (served p)) (f : ℕ → ℕ)
             ])
       ]
 
-  pub induced_promise : map block_of from.operations ≡ blocks p (ranks (classes_of from)) → Each (IsOperationPart form K p (classes_of from)) from.operations
-      → map block_of to.operations ≡ blocks p (ranks (classes_of to)) → Each (IsOperationPart form L p (classes_of to)) to.operations → InducedPromise f K L p from to m
+  pub induced_promise : map block_of from.operations ≡ blocks p (ranks (classes_of from)) → Each (IsOperationPart detailed K p (classes_of from)) from.operations
+      → map block_of to.operations ≡ blocks p (ranks (classes_of to)) → Each (IsOperationPart detailed L p (classes_of to)) to.operations → InducedPromise f K L p from to m
   induced_promise a b c d = record {
     commute = λ op q defined. (
         let constant = scaled p op q is_served defined in
@@ -92,8 +90,8 @@ module _ (p : ℕ) (is_served : IsTrue (served p)) (f : ℕ → ℕ)
         matrices-commute f K L p field simplicial (element_degree p q op) constant.scale q n ms.0 ms.1 (listed from q) (listed from n) (listed to q) (listed to n)
         (operation_matrix from op q) (induced_matrix to m q) (operation_matrix to op q) (induced_matrix to m n)
         (basis_K q).cocycles (basis_K n) (basis_L q).cocycles
-        (matrix-columns K p is_served from are_K form a b op q constant defined)
-        (matrix-columns L p is_served to are_L form c d op q constant defined)
+        (matrix-columns K p is_served from are_K detailed a b op q constant defined)
+        (matrix-columns L p is_served to are_L detailed c d op q constant defined)
         (induced-columns q) (induced-columns n));
     carries = λ q z cs closed coordinates.
         pull_back-matrix f K L p field simplicial q (listed from q) (listed to q) (induced_matrix to m q) (induced-columns q) z cs coordinates;

@@ -125,7 +125,7 @@ module _ (form : Form) (facets : List (List ℕ)) (ascending : Each IsAscending 
       let first : outline_pair form x ≡ outline_pair form y = (λ t. record { i = (q t).0; j = (q t).1; values = (c t).values; primitive = (c t).primitive }) in
       ap₂ ◌∷◌ first (pair-columns n us xs ys (rest-same (numbers_of x) (numbers_of y) (map numbers_of xs) (map numbers_of ys) e) h.1 k.1)
 
-  product-once : (x y : ProductPart) → product_of x ≡ product_of y → IsProductPart form facets p classes x → IsProductPart form facets p classes y → outline_product form x ≡ outline_product form y
+  product-once : (x y : ProductPart) → product_of x ≡ product_of y → IsProductPart (has_details form) facets p classes x → IsProductPart (has_details form) facets p classes y → outline_product form x ≡ outline_product form y
   product-once x y e h k =
       let numbers = h.numbers ∙ ap (λ (q : Product). number_pairs (length (classes_in classes q.a)) (length (classes_in classes q.b))) e ∙ sym k.numbers in
       let there : IsProductBlock (has_details form) facets p classes (product_of x) (map unnumbered y.columns) = subst (λ (q : Product). IsProductBlock (has_details form) facets p classes q (map unnumbered y.columns)) (sym e) k.block in
@@ -161,7 +161,7 @@ module _ (form : Form) (facets : List (List ℕ)) (ascending : Each IsAscending 
   number-named word.Power k = refl
   number-named word.BocksteinPower k = refl
 
-  operation-part-once : (x y : OperationPart) → block_of x ≡ block_of y → IsLiveBlock p (block_of x) × IsOperationPart form facets p classes x → IsOperationPart form facets p classes y → outline_operation form x ≡ outline_operation form y
+  operation-part-once : (x y : OperationPart) → block_of x ≡ block_of y → IsLiveBlock p (block_of x) × IsOperationPart (has_details form) facets p classes x → IsOperationPart (has_details form) facets p classes y → outline_operation form x ≡ outline_operation form y
   operation-part-once x y e h k =
       let named = ap (λ (b : Block). b.op) e in
       let w = same-word x.word y.word x.number y.number named in
@@ -182,14 +182,14 @@ module _ (form : Form) (facets : List (List ℕ)) (ascending : Each IsAscending 
       let same = difference-once facets p is_served l.a l.b l.n (class_at classes l.a l.i) (class_at classes l.b l.j) h.difference k.difference live.0 h.is_difference k.is_difference in
       same-answer form facets ascending p field n (classes_in classes n) (basis n) h.difference k.difference x y same h.is_answer k.is_answer
 
-  cartan-once : (x y : CartanPart) → line_of x ≡ line_of y → IsLive (line_of x) × IsCartanPart form facets p classes x → IsCartanPart form facets p classes y → outline_line form x ≡ outline_line form y
+  cartan-once : (x y : CartanPart) → line_of x ≡ line_of y → IsLive (line_of x) × IsCartanPart (has_details form) facets p classes x → IsCartanPart (has_details form) facets p classes y → outline_line form x ≡ outline_line form y
   cartan-once x y e h k =
       let answer = verdict-once (line_of x) h.0 x.answer y.answer h.1 (subst (λ (l : Line). IsVerdict (has_details form) facets p classes l y.answer) (sym e) k) in
       (λ t. record { a = (e t).a; i = (e t).i; b = (e t).b; j = (e t).j; n = (e t).n; answer = answer t })
 
   -- ---- tables
 
-  module _ (c d : ComplexPart) (h : AreTables form facets p classes c) (k : AreTables form facets p classes d) where
+  module _ (c d : ComplexPart) (h : AreTables (has_details form) facets p classes c) (k : AreTables (has_details form) facets p classes d) where
     live-blocks : Each (λ o. IsLiveBlock p (block_of o)) c.operations
     live-blocks = each-of (λ o. IsLiveBlock p (block_of o)) c.operations
         (λ o m. of-blocks p (ranks classes) (block_of o) (subst (λ (bs : List Block). Among (block_of o) bs) h.operations (among_map block_of o (block_of o) c.operations m refl)))
@@ -199,19 +199,19 @@ module _ (form : Form) (facets : List (List ℕ)) (ascending : Each IsAscending 
         (λ l m. of-lines p (ranks classes) (line_of l) (subst (λ (ls : List Line). Among (line_of l) ls) h.cartans (among_map line_of l (line_of l) c.cartans m refl)))
 
     pub products-once : map (outline_product form) c.products ≡ map (outline_product form) d.products
-    products-once = same-parts product_of (outline_product form) (IsProductPart form facets p classes) (IsProductPart form facets p classes) product-once c.products d.products (h.products ∙ sym k.products) h.product_parts k.product_parts
+    products-once = same-parts product_of (outline_product form) (IsProductPart (has_details form) facets p classes) (IsProductPart (has_details form) facets p classes) product-once c.products d.products (h.products ∙ sym k.products) h.product_parts k.product_parts
 
     pub operations-once : map (outline_operation form) c.operations ≡ map (outline_operation form) d.operations
-    operations-once = same-parts block_of (outline_operation form) (λ x. IsLiveBlock p (block_of x) × IsOperationPart form facets p classes x) (IsOperationPart form facets p classes)
+    operations-once = same-parts block_of (outline_operation form) (λ x. IsLiveBlock p (block_of x) × IsOperationPart (has_details form) facets p classes x) (IsOperationPart (has_details form) facets p classes)
         operation-part-once c.operations d.operations (h.operations ∙ sym k.operations) (each_zip (λ x u v. (u, v)) c.operations live-blocks h.operation_parts) k.operation_parts
 
     pub cartans-once : map (outline_line form) c.cartans ≡ map (outline_line form) d.cartans
-    cartans-once = same-parts line_of (outline_line form) (λ x. IsLive (line_of x) × IsCartanPart form facets p classes x) (IsCartanPart form facets p classes)
+    cartans-once = same-parts line_of (outline_line form) (λ x. IsLive (line_of x) × IsCartanPart (has_details form) facets p classes x) (IsCartanPart (has_details form) facets p classes)
         cartan-once c.cartans d.cartans (h.cartans ∙ sym k.cartans) (each_zip (λ x u v. (u, v)) c.cartans live-lines h.cartan_parts) k.cartan_parts
 
 -- ---- two parts of one complex
 
-module _ (form : Form) (p : ℕ) (is_served : IsTrue (served p)) (block : ComplexBlock) (ascending : Each IsAscending block.facets) (c d : ComplexPart) (h : IsComplexPart form p block c) (k : IsComplexPart form p block d) where
+module _ (form : Form) (p : ℕ) (is_served : IsTrue (served p)) (block : ComplexBlock) (ascending : Each IsAscending block.facets) (c d : ComplexPart) (h : IsComplexPart (has_tables form) (has_details form) p block c) (k : IsComplexPart (has_tables form) (has_details form) p block d) where
   pub same-listed : classes_of c ≡ classes_of d
   same-listed = same-bases block.facets ascending p (served_field p is_served) (classes_of c) (classes_of d) h.classes k.classes
 
@@ -225,8 +225,8 @@ module _ (form : Form) (p : ℕ) (is_served : IsTrue (served p)) (block : Comple
   are : AreCanonicalBases block.facets p (classes_of c)
   are = bases-of block.facets ascending p (served_field p is_served) (classes_of c) h.classes
 
-  there : IsTrue (has_tables form) → AreTables form block.facets p (classes_of c) d
-  there t = subst (λ (cs : Classes). AreTables form block.facets p cs d) (sym same-listed) (k.tables t)
+  there : IsTrue (has_tables form) → AreTables (has_details form) block.facets p (classes_of c) d
+  there t = subst (λ (cs : Classes). AreTables (has_details form) block.facets p cs d) (sym same-listed) (k.tables t)
 
   pub complex-once : outline_complex form c ≡ outline_complex form d
   complex-once =
@@ -243,7 +243,7 @@ module _ (form : Form) (p : ℕ) (is_served : IsTrue (served p)) (block : Comple
       (λ t. record { name = name t; facets = facets t; degrees = degrees t; products = products t; operations = operations t; cartans = cartans t })
 
 module _ (form : Form) (p : ℕ) (is_served : IsTrue (served p)) where
-  complexes-once : (blocks : List ComplexBlock) → Each (λ b. Each IsAscending b.facets) blocks → (cs ds : List ComplexPart) → AllZip (IsComplexPart form p) blocks cs → AllZip (IsComplexPart form p) blocks ds
+  complexes-once : (blocks : List ComplexBlock) → Each (λ b. Each IsAscending b.facets) blocks → (cs ds : List ComplexPart) → AllZip (IsComplexPart (has_tables form) (has_details form) p) blocks cs → AllZip (IsComplexPart (has_tables form) (has_details form) p) blocks ds
       → (map (outline_complex form) cs ≡ map (outline_complex form) ds) × (map classes_of cs ≡ map classes_of ds)
   complexes-once [] a [] [] h k = (refl, refl)
   complexes-once [] a [] (d ∷ ds) h k = absurd k
@@ -286,7 +286,7 @@ same-sends (s ∷ ss) (t ∷ ts) a b f g =
 
 -- ---- two parts of one map
 
-module _ (form : Form) (job : Spelled) (is_served : IsTrue (served job.prime)) (ascending : Each (λ b. Each IsAscending b.facets) job.complexes) (parts : List ComplexPart) (are : AllZip (IsComplexPart form job.prime) job.complexes parts)
+module _ (form : Form) (job : Spelled) (is_served : IsTrue (served job.prime)) (ascending : Each (λ b. Each IsAscending b.facets) job.complexes) (parts : List ComplexPart) (are : AllZip (IsComplexPart (has_tables form) (has_details form) job.prime) job.complexes parts)
     (block : MapBlock) (is : IsMapOf job.complexes block) where
   abbrev K : List (List ℕ)
   K = facets_at job.complexes block.from
@@ -304,7 +304,7 @@ module _ (form : Form) (job : Spelled) (is_served : IsTrue (served job.prime)) (
   are_K = subst (λ (cs : Classes). AreCanonicalBases K job.prime cs) (sym (classes-at parts block.from)) (bases-of K ascending_K job.prime (served_field job.prime is_served) (classes_of (part_at parts block.from)) (part-of form job.prime is_served job.complexes parts block.from is.from are).classes)
 
   abbrev IsPart : InducedPart → Type 0
-  IsPart = IsInducedPart form (image block.sends) K job.prime from to
+  IsPart = IsInducedPart (has_details form) (image block.sends) K job.prime from to
 
   induced-once : (x y : InducedPart) → x.q ≡ y.q → IsPart x → IsPart y → outline_induced form x ≡ outline_induced form y
   induced-once x y e h k =
@@ -313,7 +313,7 @@ module _ (form : Form) (job : Spelled) (is_served : IsTrue (served job.prime)) (
       let columns = zip-outline column column (outline_column form) (λ w a b u v. column-once form K ascending_K job.prime is_served from are_K x.q (pull_back (image block.sends) w) a b u v) (cochains_in to x.q) x.columns y.columns h there in
       (λ t. record { q = e t; columns = columns t })
 
-  map-once : (m n : MapPart) → IsMapPart form job (map classes_of parts) block m → IsMapPart form job (map classes_of parts) block n → outline_map form m ≡ outline_map form n
+  map-once : (m n : MapPart) → IsMapPart (has_details form) job (map classes_of parts) block m → IsMapPart (has_details form) job (map classes_of parts) block n → outline_map form m ≡ outline_map form n
   map-once m n h k =
       let name = h.name ∙ sym k.name in
       let from_name = h.from_name ∙ sym k.from_name in
@@ -324,8 +324,8 @@ module _ (form : Form) (job : Spelled) (is_served : IsTrue (served job.prime)) (
       let induced = same-parts (λ x. x.q) (outline_induced form) IsPart IsPart induced-once m.induced n.induced (h.induced ∙ sym k.induced) h.induced_parts k.induced_parts in
       (λ t. record { name = name t; from = from_name t; to = to_name t; sends = sends t; induced = induced t })
 
-module _ (form : Form) (job : Spelled) (is_served : IsTrue (served job.prime)) (ascending : Each (λ b. Each IsAscending b.facets) job.complexes) (parts : List ComplexPart) (are : AllZip (IsComplexPart form job.prime) job.complexes parts) where
-  maps-once : (blocks : List MapBlock) → Each (IsMapOf job.complexes) blocks → (ms ns : List MapPart) → AllZip (IsMapPart form job (map classes_of parts)) blocks ms → AllZip (IsMapPart form job (map classes_of parts)) blocks ns
+module _ (form : Form) (job : Spelled) (is_served : IsTrue (served job.prime)) (ascending : Each (λ b. Each IsAscending b.facets) job.complexes) (parts : List ComplexPart) (are : AllZip (IsComplexPart (has_tables form) (has_details form) job.prime) job.complexes parts) where
+  maps-once : (blocks : List MapBlock) → Each (IsMapOf job.complexes) blocks → (ms ns : List MapPart) → AllZip (IsMapPart (has_details form) job (map classes_of parts)) blocks ms → AllZip (IsMapPart (has_details form) job (map classes_of parts)) blocks ns
       → map (outline_map form) ms ≡ map (outline_map form) ns
   maps-once [] is [] [] h k = refl
   maps-once [] is [] (n ∷ ns) h k = absurd k
@@ -343,7 +343,7 @@ one-outline form job r s kept h k =
     let first = complexes.0 in
     let maps = tables-same form (map (outline_map form) r.maps) (map (outline_map form) s.maps)
     (λ t. maps-once form job is_served a r.complexes h.complexes job.maps (job-maps job.prime job.complexes job.maps kept) r.maps s.maps (h.maps t)
-    (subst (λ (cs : List Classes). AllZip (IsMapPart form job cs) job.maps s.maps) (sym complexes.1) (k.maps t))) in
+    (subst (λ (cs : List Classes). AllZip (IsMapPart (has_details form) job cs) job.maps s.maps) (sym complexes.1) (k.maps t))) in
     (λ t. record { prime = prime t; complexes = first t; maps = maps t })
 
 -- ---- the outline of a certificate is the whole report

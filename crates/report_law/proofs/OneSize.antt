@@ -29,7 +29,7 @@ module _ (p : ℕ) (facets : List (List ℕ)) (is_served : IsTrue (served p)) (a
 pub sizes_law : SizesLaw
 sizes_law = record {
   one = λ p facets z w is_served ascending h k. one p facets is_served ascending z w h k;
-  listed = λ form p block c h. record { classes = classes_of c; are = h.classes; ranks_are = refl; simplices_are = ap (simplex_counts block.facets) (sym (length-map c.degrees (λ d. d.classes))) };
+  listed = λ tabled detailed p block c h. record { classes = classes_of c; are = h.classes; ranks_are = refl; simplices_are = ap (simplex_counts block.facets) (sym (length-map c.degrees (λ d. d.classes))) };
 }
 
 -- ---- the limit

@@ -172,12 +172,12 @@ of-lines p ranks l m =
     (of-filter (λ (k : Line). is_defined p (k.a + k.b) (cartan_op p k.n) && has_class ranks (target_degree p (k.a + k.b) (cartan_op p k.n))) (all_lines ranks) l m).1
 
 module _ (form : Form) (facets : List (List ℕ)) (ascending : Each IsAscending facets) (p : ℕ) (is_served : IsTrue (served p)) (c : ComplexPart) (are : AreCanonicalBases facets p (classes_of c))
-    (are_lines : map line_of c.cartans ≡ lines p (ranks (classes_of c))) (each : Each (IsCartanPart form facets p (classes_of c)) c.cartans) where
+    (are_lines : map line_of c.cartans ≡ lines p (ranks (classes_of c))) (each : Each (IsCartanPart (has_details form) facets p (classes_of c)) c.cartans) where
   cartan_promise : (l : CartanPart) → Among l c.cartans → CartanPromise form facets p c l
   cartan_promise l m e is =
       let a : Among (line_of l) (map line_of c.cartans) = among_map line_of l (line_of l) c.cartans m refl in
       let live = of-lines p (ranks (classes_of c)) (line_of l) (subst (λ (ls : List Line). Among (line_of l) ls) are_lines a) in
-      let verdict = each_among (IsCartanPart form facets p (classes_of c)) l c.cartans each m in
+      let verdict = each_among (IsCartanPart (has_details form) facets p (classes_of c)) l c.cartans each m in
       let n : ℕ = line_degree p (line_of l) in
       let low : n < length (classes_of c) = (let b = has-degree (ranks (classes_of c)) n live.1 in let k = length-map (classes_of c) (λ cs. length cs) in omega (arith, b, k)) in
       let same = difference-once facets p is_served l.a l.b l.n (class_at (classes_of c) l.a l.i) (class_at (classes_of c) l.b l.j) e verdict.difference live.0 is verdict.is_difference in

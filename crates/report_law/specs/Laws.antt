@@ -1,5 +1,5 @@
 -- The laws of reports.
-use Rattle.std.specs.Prelude.{◌≡◌, ℕ, ◌+◌, true, List, IsTrue}
+use Rattle.std.specs.Prelude.{◌≡◌, Bool, ℕ, ◌+◌, true, List, IsTrue}
 use Rattle.fp_field.specs.Served.{served}
 use Rattle.linear_law.specs.Lists.{Each, IsAscending}
 use Rattle.simplicial_law.specs.Cochains.{AgreesOnSimplices, Cochain}
@@ -51,7 +51,7 @@ pub record OneReportLaw : Type 0 where
 -- A complex has one list of sizes, and those of what is listed of it are its sizes.
 pub record SizesLaw : Type 0 where
   pub one : (p : ℕ) (facets : List (List ℕ)) (z w : Sizes) → IsTrue (served p) → Each IsAscending facets → AreSizes p facets z → AreSizes p facets w → z ≡ w
-  pub listed : (form : Form) (p : ℕ) (block : ComplexBlock) (c : ComplexPart) → IsComplexPart form p block c →
+  pub listed : (tabled detailed : Bool) (p : ℕ) (block : ComplexBlock) (c : ComplexPart) → IsComplexPart tabled detailed p block c →
       AreSizes p block.facets (sizes_of block.facets c)
 
 -- The counted terms of a job pass a limit with one sum, or not at all.

@@ -1,5 +1,5 @@
 -- The report of a job in a form. What the form does not print is free.
-use Rattle.std.specs.Prelude.{◌≡◌, IsTrue, ℕ, ◌<◌, List, [], map, length, get_or}
+use Rattle.std.specs.Prelude.{◌≡◌, IsTrue, Bool, ℕ, ◌<◌, List, [], map, length, get_or}
 use Rattle.std.specs.List.{AllZip}
 use Rattle.linear_law.specs.Lists.{Among, Each, IsAscending}
 use Rattle.simplicial_law.specs.Simplices.{IsInOrder}
@@ -42,33 +42,34 @@ pub record AreMaximalFacets (facets listed : List (List ℕ)) : Type 0 where
   pub all : (f : List ℕ) → IsMaximal facets f → Among f listed
 
 -- A block of products: its columns, with the numbers of their classes.
-pub record IsProductPart (form : Form) (facets : List (List ℕ)) (p : ℕ) (classes : Classes) (x : ProductPart) : Type 0 where
+pub record IsProductPart (detailed : Bool) (facets : List (List ℕ)) (p : ℕ) (classes : Classes) (x : ProductPart) : Type 0 where
   pub numbers : map numbers_of x.columns ≡ number_pairs (length (classes_in classes x.a)) (length (classes_in classes x.b))
-  pub block : IsProductBlock (has_details form) facets p classes (product_of x) (map unnumbered x.columns)
+  pub block : IsProductBlock detailed facets p classes (product_of x) (map unnumbered x.columns)
 
-abbrev pub IsOperationPart : Form → List (List ℕ) → ℕ → Classes → OperationPart → Type 0
-IsOperationPart form facets p classes o = IsOperationBlock (has_details form) facets p classes (block_of o) o.columns
+abbrev pub IsOperationPart : Bool → List (List ℕ) → ℕ → Classes → OperationPart → Type 0
+IsOperationPart detailed facets p classes o = IsOperationBlock detailed facets p classes (block_of o) o.columns
 
-abbrev pub IsCartanPart : Form → List (List ℕ) → ℕ → Classes → CartanPart → Type 0
-IsCartanPart form facets p classes l = IsVerdict (has_details form) facets p classes (line_of l) l.answer
+abbrev pub IsCartanPart : Bool → List (List ℕ) → ℕ → Classes → CartanPart → Type 0
+IsCartanPart detailed facets p classes l = IsVerdict detailed facets p classes (line_of l) l.answer
 
 -- The live products, operations and Cartan lines, in their order, with their matrices and verdicts.
-pub record AreTables (form : Form) (facets : List (List ℕ)) (p : ℕ) (classes : Classes) (c : ComplexPart) : Type 0 where
+pub record AreTables (detailed : Bool) (facets : List (List ℕ)) (p : ℕ) (classes : Classes) (c : ComplexPart) : Type 0 where
   pub products : map product_of c.products ≡ products (ranks classes)
-  pub product_parts : Each (IsProductPart form facets p classes) c.products
+  pub product_parts : Each (IsProductPart detailed facets p classes) c.products
   pub operations : map block_of c.operations ≡ blocks p (ranks classes)
-  pub operation_parts : Each (IsOperationPart form facets p classes) c.operations
+  pub operation_parts : Each (IsOperationPart detailed facets p classes) c.operations
   pub cartans : map line_of c.cartans ≡ lines p (ranks classes)
-  pub cartan_parts : Each (IsCartanPart form facets p classes) c.cartans
+  pub cartan_parts : Each (IsCartanPart detailed facets p classes) c.cartans
 
--- What is listed of a complex: its name, and for each degree that has a simplex, from 0 on, its canonical classes. Then
--- the tables. A certificate has the maximal facets, and the canonical primitives of the canonical coboundaries, too.
-pub record IsComplexPart (form : Form) (p : ℕ) (block : ComplexBlock) (c : ComplexPart) : Type 0 where
+-- What is listed of a complex: its name, and for each degree that has a simplex, from 0 on, its canonical classes. Where
+-- `tabled` is true it has the tables too; where `detailed` is, the maximal facets, the canonical primitives of the canonical
+-- coboundaries, and the chains of the tables.
+pub record IsComplexPart (tabled detailed : Bool) (p : ℕ) (block : ComplexBlock) (c : ComplexPart) : Type 0 where
   pub name : c.name ≡ block.name
   pub classes : AreClasses block.facets p (classes_of c)
-  pub tables : IsTrue (has_tables form) → AreTables form block.facets p (classes_of c) c
-  pub facets : IsTrue (has_details form) → AreMaximalFacets block.facets c.facets
-  pub below : IsTrue (has_details form) → (n : ℕ) → n < length c.degrees → ArePrimitives block.facets n p (below_in c n)
+  pub tables : IsTrue tabled → AreTables detailed block.facets p (classes_of c) c
+  pub facets : IsTrue detailed → AreMaximalFacets block.facets c.facets
+  pub below : IsTrue detailed → (n : ℕ) → n < length c.degrees → ArePrimitives block.facets n p (below_in c n)
 
 -- ---- a map
 
@@ -78,18 +79,18 @@ pub record AreOrderedSends (sends listed : List Sent) : Type 0 where
   pub each : Each (λ s. Among s sends) listed
   pub all : Each (λ s. Among s listed) sends
 
-abbrev pub IsInducedPart : Form → (ℕ → ℕ) → List (List ℕ) → ℕ → Classes → Classes → InducedPart → Type 0
-IsInducedPart form f facets p from to x = IsInducedBlock (has_details form) f facets p from to x.q x.columns
+abbrev pub IsInducedPart : Bool → (ℕ → ℕ) → List (List ℕ) → ℕ → Classes → Classes → InducedPart → Type 0
+IsInducedPart detailed f facets p from to x = IsInducedBlock detailed f facets p from to x.q x.columns
 
 -- What is listed of a map, where the complexes have these classes: the names, and the matrices of the degrees in which
--- both its complexes have classes. A certificate has the sends too.
-pub record IsMapPart (form : Form) (job : Spelled) (classes : List Classes) (block : MapBlock) (m : MapPart) : Type 0 where
+-- both its complexes have classes. Where `detailed` is true it has the sends, and the chains under the columns.
+pub record IsMapPart (detailed : Bool) (job : Spelled) (classes : List Classes) (block : MapBlock) (m : MapPart) : Type 0 where
   pub name : m.name ≡ block.name
   pub from_name : m.from ≡ name_at job.complexes block.from
   pub to_name : m.to ≡ name_at job.complexes block.to
-  pub sends : IsTrue (has_details form) → AreOrderedSends block.sends m.sends
+  pub sends : IsTrue detailed → AreOrderedSends block.sends m.sends
   pub induced : map (λ x. x.q) m.induced ≡ induced_degrees (ranks (get_or classes block.from [])) (ranks (get_or classes block.to []))
-  pub induced_parts : Each (IsInducedPart form (image block.sends) (facets_at job.complexes block.from) job.prime
+  pub induced_parts : Each (IsInducedPart detailed (image block.sends) (facets_at job.complexes block.from) job.prime
       (get_or classes block.from []) (get_or classes block.to [])) m.induced
 
 -- ---- a job
@@ -97,5 +98,5 @@ pub record IsMapPart (form : Form) (job : Spelled) (classes : List Classes) (blo
 -- The report of a job: what is listed of its complexes and of its maps, in the order of the file.
 pub record IsReportOf (form : Form) (job : Spelled) (report : Report) : Type 0 where
   pub prime : report.prime ≡ job.prime
-  pub complexes : AllZip (IsComplexPart form job.prime) job.complexes report.complexes
-  pub maps : IsTrue (has_tables form) → AllZip (IsMapPart form job (map classes_of report.complexes)) job.maps report.maps
+  pub complexes : AllZip (IsComplexPart (has_tables form) (has_details form) job.prime) job.complexes report.complexes
+  pub maps : IsTrue (has_tables form) → AllZip (IsMapPart (has_details form) job (map classes_of report.complexes)) job.maps report.maps
