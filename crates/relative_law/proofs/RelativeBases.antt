@@ -24,9 +24,8 @@ use Rattle.simplicial_law.specs.Simplices.{IsInOrder, IsSimplex, Precedes}
 use Rattle.simplicial_law.specs.Cochains.{AgreesOnSimplices, Chain, Cochain, coboundary, unit_cochain}
 use Rattle.simplicial_law.specs.CanonicalClasses.{AreTerms, cochain_of}
 use Rattle.simplicial_law.specs.Places.{IsRowOf, cochain_at, terms_of}
-use Rattle.simplicial_law.proofs.CanonicalBases.{ordered_places}
 use Rattle.simplicial_law.proofs.DegreeZero.{no_bounds}
-use Rattle.simplicial_law.proofs.SimplexPlaces.{agree_by_place, canonical_up, cochain_at-value, pivot_down, pivot_up, simplex_at}
+use Rattle.simplicial_law.proofs.SimplexPlaces.{agree_by_place, canonical_up, cochain_at-value, ordered_places, pivot_down, pivot_up, simplex_at}
 use Rattle.simplicial_law.proofs.UnitCochains.{unit_away, unit_here}
 use Rattle.relative_law.proofs.RelativeDegrees.{IsOff, IsOuterByPlace, coboundary_down, coboundary_up, cocycle_down, cocycle_up, linear, off_down, off_up, outer_itself, rows_by_place}
 use Rattle.relative_law.proofs.Spaces.{bound_relative, forget_bound, relative_close, relative_coboundaries, relative_cocycles}

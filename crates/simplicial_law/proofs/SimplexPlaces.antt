@@ -1,7 +1,8 @@
--- Between vectors by places and cochains: leads, pivots and canonical vectors.
-use Rattle.std.proofs.Common.{◌≡◌, ℕ, ◌%◌, ◌<◌, List, [], length, get_or, arith, sym, subst, ◌∙◌, ap}
+-- Between vectors by places and cochains: leads, pivots and canonical vectors, and simplices at ascending places.
+use Rattle.std.proofs.Common.{◌≡◌, ℕ, zero, suc, ◌%◌, ◌<◌, List, [], ◌∷◌, map, length, get_or, arith, sym, subst, ◌∙◌, ap}
 use Rattle.std.specs.Cmp.Lexicographic.{nat_list_cmp_total}
 use Rattle.linear_law.specs.Congruence.{Congruent}
+use Rattle.linear_law.specs.Lists.{Each, IsAscending}
 use Rattle.linear_law.specs.Listing.{ListsAll}
 use Rattle.linear_law.specs.Pivots.{IsCanonical, IsLead, IsPivot}
 use Rattle.linear_law.specs.Triangular.{LeadsAt}
@@ -69,3 +70,22 @@ module _ (facets : List (List ℕ)) (n p : ℕ) (here : List (List ℕ)) (all_he
             let P : List ℕ → Type 0 = λ t. Congruent p (cochain_at here v t) 0 in
             subst P d.2 (Congruent_trans (Congruent_of (cochain_at-value v d.0 d.1)) (h.others d.0 d.3 (λ e. n (sym d.2 ∙ ap (λ i. get_or here i []) e))));
       }
+
+-- ---- lists in order
+
+in_order_more : (s : List ℕ) (ss : List (List ℕ)) → Each (Precedes s) ss → IsInOrder ss → IsInOrder (s ∷ ss)
+in_order_more s ss h o zero zero b c = absurd (omega arith)
+in_order_more s ss h o zero (suc k) b c = each_get_or (Precedes s) ss k [] (omega arith) h
+in_order_more s ss h o (suc j) zero b c = absurd (omega arith)
+in_order_more s ss h o (suc j) (suc k) b c = o j k (omega arith) (omega arith)
+
+-- the simplices at ascending places are in order
+pub ordered_places : {R : Type 0} (here : List (List ℕ)) → IsInOrder here → (place : R → ℕ) (rs : List R) → IsAscending (map place rs) → Each (λ r. place r < length here) rs
+    → IsInOrder (map (λ r. get_or here (place r) []) rs)
+ordered_places here o place [] a b = λ j k c d. absurd (omega arith)
+ordered_places {R} here o place (r ∷ rs) a b =
+    in_order_more (get_or here (place r) []) (map (λ s. get_or here (place s) []) rs) (after rs a.0 b.1) (ordered_places here o place rs a.1 b.1)
+  where
+    after : (ss : List R) → Each (λ w. place r < w) (map place ss) → Each (λ s. place s < length here) ss → Each (Precedes (get_or here (place r) [])) (map (λ s. get_or here (place s) []) ss)
+    after [] h c = tt
+    after (s ∷ ss) h c = (o (place r) (place s) h.0 c.0, after ss h.1 c.1)
