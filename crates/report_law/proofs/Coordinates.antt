@@ -102,6 +102,20 @@ module _ (facets : List (List ℕ)) (n p : ℕ) (large : 1 < p) where
       } in
       ap (λ (ds : List ℕ). get_or ds i 0) (once zs basis d cs (zeros zs) h none) ∙ zeros-at zs i
 
+  no-combination : (cs : List ℕ) (zs : List Cochain) (s : List ℕ) → ((i : ℕ) → get_or cs i 0 ≡ 0) → combination cs zs s ≡ 0
+  no-combination [] zs s h = refl
+  no-combination (c ∷ cs) [] s h = refl
+  no-combination (c ∷ cs) (z ∷ zs) s h =
+      let e = no-combination cs zs s (λ i. h (suc i)) in
+      let first : c ≡ 0 = h 0 in
+      ap (λ (k : ℕ). k * z s + combination cs zs s) first ∙ omega (arith, e)
+
+  -- what has coordinates 0 is a coboundary
+  pub bound-of-zeros : (zs : List Cochain) (d : Cochain) (cs : List ℕ) → HasCoordinates facets n p zs d cs → ((i : ℕ) → get_or cs i 0 ≡ 0) → IsCoboundary facets n p d
+  bound-of-zeros zs d cs h none =
+      (coboundaries facets n p large).alike d (λ s. d s + negated p (combination cs zs s))
+      (record { at = λ s on. Congruent_of (let e = no-combination cs zs s none in sym (ap (λ (k : ℕ). d s + negated p k) e ∙ omega arith)) }) h.rest
+
 -- ---- the bases of all degrees
 
 module _ (facets : List (List ℕ)) (p : ℕ) (classes : Classes) (are : AreCanonicalBases facets p classes) where
