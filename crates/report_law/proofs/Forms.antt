@@ -8,7 +8,6 @@ use Rattle.report.specs.declared.columns.CartanAnswer.{CartanAnswer}
 use Rattle.report.specs.declared.columns.CartanAnswer.TheVariants.{Yes, No}
 use Rattle.report.specs.declared.complex.ComplexPart.{ComplexPart}
 use Rattle.report.specs.declared.form.Form.{Form}
-use Rattle.report.specs.declared.form.Form.TheVariants.{Certificate}
 use Rattle.report.specs.Forms.{has_details, has_tables}
 use Rattle.report_law.specs.Columns.{IsAnswer, IsColumn}
 use Rattle.report_law.specs.Laws.{FormsLaw}
