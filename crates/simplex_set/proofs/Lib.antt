@@ -1,1 +1,4 @@
 mod AddingFaces
+mod InPieces
+mod Ordered
+pub mod Sizes

@@ -1,1 +1,4 @@
+pub mod InOrder
+pub mod Levels
+pub mod Pieces
 pub mod Refused

@@ -1,13 +1,13 @@
 ghost use Rattle.std.specs.Prelude.{◌≡◌, ◌≤◌, ◌<◌, ◌++◌, ◌∷◌, [], length, MatchResult, IfOk};
-ghost use Rattle.std.specs.List.{list_any};
-ghost use Rattle.std.specs.Str.{bytes_eq};
+ghost use Rattle.std.specs.List.{filter};
 ghost use Rattle.simplicial_law.specs.ListedSimplices.{simplices};
 ghost use Rattle.simplex_set.specs.declared.open.FacetRefused.TheVariants.{OutOfMemory};
 
-use crate::Simplex;
 use crate::closed::add_facet;
+use crate::levels::levels_of;
+use crate::{Complex, Simplex};
+use indexmap::IndexSet;
 use std::alloc::{AllocError, AllocFailed, Global};
-use std::collections::BTreeSet;
 use std::marker::Model;
 
 /// The facets of a complex that is being read, in the order in which they came, with the simplices of
@@ -15,18 +15,19 @@ use std::marker::Model;
 #[derive(Debug, Drop)]
 pub struct OpenComplex {
     facets: Vec<Simplex>,
-    found: BTreeSet<Simplex>,
+    found: IndexSet<Simplex>,
 }
 
 impl Model for OpenComplex {
     ghost use Rattle.std.specs.Prelude.{◌≡◌, List, ℕ};
     ghost use Rattle.simplicial_law.specs.ListedSimplices.{simplices};
+    ghost use Rattle.simplex_set.specs.InOrder.{in_order};
 
     ghost Value = { List (List ℕ) };
 
     ghost view = { λ c. c.facets.items };
 
-    ghost invariant = { λ c. c.found.keys ≡ simplices c.facets.items };
+    ghost invariant = { λ c. in_order c.found.keys ≡ simplices c.facets.items };
 }
 
 /// Why a facet was not added.
@@ -62,45 +63,19 @@ impl OpenComplex {
     {
         OpenComplex {
             facets: Vec::new(alloc),
-            found: BTreeSet::new(alloc),
+            found: IndexSet::new(alloc),
         }
     }
 
-    /// The complex with these facets.
-    pub fn of(alloc: Global, facets: &[Simplex]) -> Result<OpenComplex, AllocError>
-        ensures { IfOk result (λ c. c ≡ facets.now) }
+    // The complex with these facets.
+    pub(crate) fn of(alloc: Global, facets: Vec<Simplex>) -> Result<OpenComplex, AllocError>
+        ensures { IfOk result (λ c. c ≡ facets.items) }
     {
-        let mut copies = Vec::new(alloc);
-        let mut found = BTreeSet::new(alloc);
-        for facet in facets {
+        let mut found = IndexSet::new(alloc);
+        for facet in facets.as_slice() {
             add_facet(alloc, &mut found, facet)?;
-            copies.push(Simplex::new(alloc, facet.vertices())?)?;
         }
-        Ok(OpenComplex {
-            facets: copies,
-            found,
-        })
-    }
-
-    /// Whether this is a simplex of the complex so far.
-    pub fn contains(&self, simplex: &Simplex) -> bool
-        ensures { result ≡ list_any (bytes_eq simplex.now) (simplices self.now) }
-    {
-        self.found.contains(simplex)
-    }
-
-    /// The facets, in the order in which they came.
-    pub fn facets(&self) -> &[Simplex]
-        ensures { result.now ≡ self.now }
-    {
-        &self.facets
-    }
-
-    /// The number of simplices of the complex so far.
-    pub fn count(&self) -> usize
-        ensures { result ≡ length (simplices self.now) }
-    {
-        self.found.len()
+        Ok(OpenComplex { facets, found })
     }
 
     /// The complex with one more facet, or `TooManySimplices` exactly where it has more than `limit`
@@ -125,11 +100,12 @@ impl OpenComplex {
         Ok(OpenComplex { facets, found })
     }
 
-    /// The facets alone.
-    pub fn into_facets(self) -> Vec<Simplex>
-        ensures { result.items ≡ self }
+    /// The complex, with its simplices in order.
+    pub fn into_complex(self, alloc: Global) -> Result<Complex, AllocError>
+        ensures { IfOk result (λ c. c ≡ self) }
     {
-        let OpenComplex { facets, .. } = self;
-        facets
+        let OpenComplex { facets, found } = self;
+        let levels = levels_of(alloc, &found)?;
+        Ok(Complex { facets, levels })
     }
 }

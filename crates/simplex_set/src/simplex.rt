@@ -1,14 +1,17 @@
 ghost use Rattle.std.specs.Prelude.{◌≡◌, ◌<◌, [], length, get_or, IfOk};
 ghost use Rattle.simplicial_law.specs.Cochains.{faces};
-ghost use Rattle.std.proofs.Common.{rules};
-ghost use Rattle.std.specs.Cmp.{partial_order_from_own_ties};
+ghost use Rattle.std.proofs.Common.{ap, rules};
+ghost use Rattle.simplicial_law.proofs.ListedSimplices.{exact};
+ghost use Rattle.std.specs.Cmp.{Equal-is, partial_order_from_own_ties};
 ghost use Rattle.std.specs.Cmp.Rules.{comparing};
 ghost use Rattle.std.specs.Cmp.Lexicographic.{slice_cmp};
+ghost use Rattle.std.specs.Hash as fed;
 ghost use Rattle.std.specs.Ordering.{nat_cmp, eq_by_cmp, as_partial_cmp};
 
 use smallvec::SmallVec;
 use std::alloc::{AllocError, Global};
 use std::cmp::Ordering;
+use std::hash::{Hash, Hasher};
 use std::marker::Model;
 
 /// How two lists of vertices stand in the order of simplices. Most differ in the first vertex already.
@@ -70,6 +73,16 @@ impl Ord for Simplex {
 
     fn cmp(&self, other: &Simplex) -> Ordering {
         compare(self.vertices.as_slice(), other.vertices.as_slice())
+    }
+}
+
+impl Hash for Simplex {
+    ghost hash_input = { fed.slice fed.u32 };
+
+    ghost respects_eq = { λ x y e. ap (fed.slice fed.u32) (exact x y ((Equal-is (slice_cmp nat_cmp x y)).0 e)) };
+
+    fn hash<H: Hasher>(&self, state: &mut H) {
+        self.vertices.hash(state);
     }
 }
 
