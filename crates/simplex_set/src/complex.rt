@@ -51,16 +51,14 @@ impl Complex {
         &self.levels
     }
 
-    /// Whether this is a simplex of the complex.
-    pub fn contains(&self, simplex: &Simplex) -> bool
-        ensures { result ≡ list_any (bytes_eq simplex.now) (simplices self.now) }
+    /// Whether these are the vertices of a simplex of the complex.
+    pub fn contains(&self, vertices: &[u32]) -> bool
+        ensures { result ≡ list_any (bytes_eq vertices.now) (simplices self.now) }
     {
-        let size = simplex.vertices().len();
+        let size = vertices.len();
         if size == 0 || size > self.levels.len() {
             return false;
         }
-        self.levels[size - 1]
-            .place_of(simplex.vertices(), &[])
-            .is_some()
+        self.levels[size - 1].place_of(vertices, &[]).is_some()
     }
 }

@@ -1,4 +1,4 @@
-use Rattle.std.proofs.Common.{◌≡◌, ◌∙◌, ◌-◌, ◌<◌, arith, ap, length, sym, subst, List, ℕ}
+use Rattle.std.proofs.Common.{◌≡◌, ◌∙◌, ◌-◌, ◌<◌, arith, ap, length, refl, sym, subst, List, ℕ}
 use Rattle.std.specs.List.{list_any}
 use Rattle.std.specs.List.Sorted.{IsStrictlySortedBy}
 use Rattle.std.specs.Str.{bytes_eq}
@@ -10,23 +10,23 @@ use Rattle.simplex_set.proofs.complex.Complex.contains.Goals.{then-size-eq0-via-
 
 pub returns-then-size-eq0 : goal.returns-then-size-eq0
 returns-then-size-eq0 c =
-    beyond c.self.inside.facets.items (length c.self.inside.levels.items) c.args.simplex.now c.self.invariant.largest
+    beyond c.self.inside.facets.items (length c.self.inside.levels.items) c.args.vertices.now c.self.invariant.largest
     (λ p q. elim c.then-size-eq0.branch [
-      | then-size-eq0-via-then-size-eq0 w ↦ absurd (omega (arith, p, ap length c.vertices-size.ensures, w.if-size-eq0.true))
-      | then-size-eq0-via-else-size-eq0+then-size-len w ↦ absurd (omega (arith, q, ap length c.vertices-size.ensures, w.if-size-len.true, w.len.ensures))
+      | then-size-eq0-via-then-size-eq0 w ↦ absurd (omega (arith, p, w.if-size-eq0.true))
+      | then-size-eq0-via-else-size-eq0+then-size-len w ↦ absurd (omega (arith, q, w.if-size-len.true, w.len.ensures))
     ])
-    ∙ ap (λ (fs : List (List ℕ)). list_any (bytes_eq c.args.simplex.now) (simplices fs)) c.self.view_is
+    ∙ ap (λ (fs : List (List ℕ)). list_any (bytes_eq c.args.vertices.now) (simplices fs)) c.self.view_is
 
 pub place_of-requires : goal.place_of-requires
 place_of-requires c =
     subst (IsStrictlySortedBy simplex_cmp)
-    (sym (level_here (simplices c.self.inside.facets.items) c.self.inside.levels.items c.args.simplex.now c.vertices-size.result.now c.index.result.now c.self.invariant c.vertices-size.ensures c.if-size-eq0.false (omega (arith, c.if-size-len.false, c.len.ensures)) c.index.ensures))
-    (of_degree_sorted c.self.inside.facets.items (length c.args.simplex.now - 1))
+    (sym (level_here (simplices c.self.inside.facets.items) c.self.inside.levels.items c.args.vertices.now c.args.vertices.now c.index.result.now c.self.invariant refl c.if-size-eq0.false (omega (arith, c.if-size-len.false, c.len.ensures)) c.index.ensures))
+    (of_degree_sorted c.self.inside.facets.items (length c.args.vertices.now - 1))
 
 pub returns : goal.returns
 returns c =
-    looked_up (simplices c.self.inside.facets.items) c.args.simplex.now c.vertices.result.now c.index.result.now c.place_of.result c.is_some.result
-    (omega (arith, c.if-size-eq0.false, ap length c.vertices-size.ensures))
-    (level_here (simplices c.self.inside.facets.items) c.self.inside.levels.items c.args.simplex.now c.vertices-size.result.now c.index.result.now c.self.invariant c.vertices-size.ensures c.if-size-eq0.false (omega (arith, c.if-size-len.false, c.len.ensures)) c.index.ensures)
-    c.vertices.ensures c.is_some.ensures c.place_of.ensures
-    ∙ ap (λ (fs : List (List ℕ)). list_any (bytes_eq c.args.simplex.now) (simplices fs)) c.self.view_is
+    looked_up (simplices c.self.inside.facets.items) c.args.vertices.now c.args.vertices.now c.index.result.now c.place_of.result c.is_some.result
+    (omega (arith, c.if-size-eq0.false))
+    (level_here (simplices c.self.inside.facets.items) c.self.inside.levels.items c.args.vertices.now c.args.vertices.now c.index.result.now c.self.invariant refl c.if-size-eq0.false (omega (arith, c.if-size-len.false, c.len.ensures)) c.index.ensures)
+    refl c.is_some.ensures c.place_of.ensures
+    ∙ ap (λ (fs : List (List ℕ)). list_any (bytes_eq c.args.vertices.now) (simplices fs)) c.self.view_is
