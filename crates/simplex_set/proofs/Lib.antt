@@ -1,4 +1,4 @@
-mod AddingFaces
-mod InPieces
+pub mod AddingFaces
+pub mod InPieces
 mod Ordered
 pub mod Sizes

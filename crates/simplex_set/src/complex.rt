@@ -5,7 +5,7 @@ ghost use Rattle.simplicial_law.specs.ListedSimplices.{simplices};
 ghost use Rattle.simplex_set.specs.Levels.{AreLevelsOf};
 
 use crate::open::OpenComplex;
-use crate::{Simplex, Simplices};
+use crate::{FlatLists, Simplex};
 use std::alloc::{AllocError, Global};
 use std::marker::Model;
 
@@ -14,7 +14,7 @@ use std::marker::Model;
 #[derive(Debug, Drop)]
 pub struct Complex {
     pub(crate) facets: Vec<Simplex>,
-    pub(crate) levels: Vec<Simplices>,
+    pub(crate) levels: Vec<FlatLists>,
 }
 
 impl Model for Complex {
@@ -45,7 +45,7 @@ impl Complex {
     }
 
     /// The simplices by degree, in each degree in order and each once.
-    pub fn levels(&self) -> &[Simplices]
+    pub fn levels(&self) -> &[FlatLists]
         ensures { AreLevelsOf (simplices self.now) result.now }
     {
         &self.levels

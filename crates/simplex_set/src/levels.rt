@@ -3,7 +3,7 @@ ghost use Rattle.std.specs.List.{filter};
 ghost use Rattle.simplex_set.specs.InOrder.{in_order};
 ghost use Rattle.simplex_set.specs.Levels.{AreLevelsOf, IsLargest};
 
-use crate::{Simplex, Simplices};
+use crate::{FlatLists, Simplex};
 use indexmap::IndexSet;
 use std::alloc::{AllocError, Global};
 
@@ -29,12 +29,12 @@ fn sorted_of_size(
     alloc: Global,
     set: &IndexSet<Simplex>,
     size: usize,
-) -> Result<Simplices, AllocError>
+) -> Result<FlatLists, AllocError>
     ensures { IfOk result (λ l. l ≡ filter (λ s. length s == size) (in_order set.now.keys)) }
 {
     let mut found = copies_of_size(alloc, set.as_slice(), size)?;
     found.sort_unstable();
-    Simplices::of(alloc, &found, size)
+    FlatLists::of(alloc, &found, size)
 }
 
 // The greatest number of vertices.
@@ -52,7 +52,7 @@ fn largest(all: &[Simplex]) -> usize
 pub(crate) fn levels_of(
     alloc: Global,
     set: &IndexSet<Simplex>,
-) -> Result<Vec<Simplices>, AllocError>
+) -> Result<Vec<FlatLists>, AllocError>
     ensures { IfOk result (λ v. AreLevelsOf (in_order set.now.keys) v.items) }
 {
     let mut levels = Vec::new(alloc);

@@ -3,15 +3,15 @@
 
 mod closed;
 mod complex;
+mod flat_lists;
 mod levels;
 mod open;
 mod simplex;
-mod simplices;
 
 pub use complex::Complex;
 pub use open::{FacetRefused, OpenComplex};
 pub use simplex::{Simplex, compare};
-pub use simplices::Simplices;
+pub use flat_lists::FlatLists;
 
 #[cfg(test)]
 mod tests {

@@ -2,7 +2,7 @@ use Rattle.std.proofs.Common.{◌≡◌, ◌∙◌, ◌<◌, ◌+◌, ◌-◌, �
 use Rattle.simplicial_law.specs.ListedSimplices.{simplex_cmp}
 use Rattle.simplicial_law.proofs.ListedSimplices.{exact}
 use Rattle.simplex_set.proofs.InPieces.{between_all, between_high, between_low, nowhere}
-use Rattle.simplex_set.proofs.simplices.Simplices.place_of.Goals as goal
+use Rattle.simplex_set.proofs.flat_lists.FlatLists.place_of.Goals as goal
 
 pub loop-low-init : goal.loop-low-init
 loop-low-init c = between_all c.args.self.now (c.args.first.now ++ c.args.rest.now) c.len-high.result c.len-high.ensures
