@@ -1,9 +1,9 @@
 -- The values of a coboundary and of a boundary are the alternating sums over the faces.
-use Rattle.std.proofs.Common.{◌≡◌, ℕ, zero, suc, ◌+◌, ◌*◌, ◌<◌, ◌≤◌, inl, inr, arith, refl, sym, ◌∙◌, ap, ap₂, subst, List, [], ◌∷◌, ◌++◌, map, length, get_or, drop, append_assoc, Bool, true, false, cond, not, eqb, Vec, Global}
+use Rattle.std.proofs.Common.{◌≡◌, ℕ, zero, suc, ◌+◌, ◌*◌, ◌<◌, ◌≤◌, inl, inr, arith, refl, sym, ◌∙◌, ap, ap₂, subst, List, [], ◌∷◌, ◌++◌, map, length, get_or, drop, append_assoc, Bool, true, false, cond, not, eqb}
 use Rattle.std.proofs.lemmas.Bool.{eq-eqb}
 use Rattle.std.proofs.lemmas.Bool.Decides.{eqb_tells}
 use Rattle.std.specs.List.Sorted.{IsStrictlySortedBy}
-use Rattle.complex_index.specs.declared.incidence.Coface.{Coface}
+use Rattle.complex_index.specs.declared.cofaces.Coface.{Coface}
 use Rattle.linear_law.specs.Congruence.{Congruent, negated, sum_over}
 use Rattle.linear_law.specs.Lists.{Each}
 use Rattle.linear_law.specs.Listing.{unit_vector}
@@ -17,7 +17,7 @@ use Rattle.simplicial_law.specs.Places.{terms_of}
 use Rattle.simplicial_law.proofs.ListedSimplices.{get_or_any, once_in_order}
 use Rattle.simplicial_law.proofs.UnitCochains.{unit_away, unit_here}
 use Rattle.sparse_rows.specs.Rows.{IsBelow, value_in}
-use Rattle.complex_index.specs.Incidence.{ArePlaces, ArePlacesOf, simplex_at, marks, above_at, list_at}
+use Rattle.complex_index.specs.Incidence.{ArePlaces, ArePlacesOf, simplex_at, marks, above_at}
 use Rattle.complex_index.specs.Chains.{boundary_coefficient, pair_of, shrunk, signed_places, signed_value, spread}
 use Rattle.complex_index.proofs.FacePlaces.{left_at}
 use Rattle.complex_index.proofs.LevelLemmas.{places_length}
@@ -146,7 +146,7 @@ from_first p a x k pss h =
 
 -- ---- the rows by place
 
-places_at : (lower upper pss : List (List ℕ)) (k : ℕ) → ArePlacesOf lower upper pss → k < length upper → ArePlaces lower (simplex_at upper k) (get_or pss k [])
+pub places_at : (lower upper pss : List (List ℕ)) (k : ℕ) → ArePlacesOf lower upper pss → k < length upper → ArePlaces lower (simplex_at upper k) (get_or pss k [])
 places_at lower [] pss k h l = absurd (omega arith)
 places_at lower (s ∷ ss) [] k h l = absurd h
 places_at lower (s ∷ ss) (p ∷ ps) zero h l = h.0
@@ -162,21 +162,21 @@ pairing_none (t ∷ c) = omega (arith, pairing_none c)
 
 -- ---- coboundaries
 
-spread_value : (p : ℕ) (lower upper pss : List (List ℕ)) (above : List (Vec Coface Global)) (row : List (ℕ × ℕ)) (k : ℕ)
-    → 1 < p → IsStrictlySortedBy simplex_cmp lower → ArePlacesOf lower upper pss → ((x : ℕ) → list_at above x ≡ above_at x 0 pss) → IsBelow (length lower) row → k < length upper
+spread_value : (p : ℕ) (lower upper pss : List (List ℕ)) (above : List (List Coface)) (row : List (ℕ × ℕ)) (k : ℕ)
+    → 1 < p → IsStrictlySortedBy simplex_cmp lower → ArePlacesOf lower upper pss → ((x : ℕ) → get_or above x [] ≡ above_at x 0 pss) → IsBelow (length lower) row → k < length upper
     → Congruent p (sum_at k (spread p above row)) (coboundary p (λ s. sum_over (λ e. e.1 * unit_cochain (simplex_at lower e.0) s) row) (simplex_at upper k))
 spread_value p lower upper pss above [] k h w r e f l = Congruent_of (sym (pairing_none (boundary p (simplex_at upper k))))
 spread_value p lower upper pss above (t ∷ ts) k h w r e f l =
-    let row : part p t.1 k (list_at above t.0) ≡ edge p t.1 t.0 false (get_or pss k []) =
+    let row : part p t.1 k (get_or above t.0 []) ≡ edge p t.1 t.0 false (get_or pss k []) =
     ap (part p t.1 k) (e t.0) ∙ from_first p t.1 t.0 k pss (omega (arith, places_length lower upper pss r)) in
-    Congruent_trans (Congruent_of (sum_at_app k (map (pair_of p t.1) (list_at above t.0)) (spread p above ts)))
+    Congruent_trans (Congruent_of (sum_at_app k (map (pair_of p t.1) (get_or above t.0 [])) (spread p above ts)))
     (Congruent_trans (Congruent_add (Congruent_trans (Congruent_of row) (edge_of p t.1 t.0 lower (simplex_at upper k) (get_or pss k []) h w f.0 (places_at lower upper pss k r l)))
     (spread_value p lower upper pss above ts k h w r e f.1 l))
     (Congruent_of (sym (pairing_add t.1 (unit_cochain (simplex_at lower t.0)) (λ s. sum_over (λ e. e.1 * unit_cochain (simplex_at lower e.0) s) ts) (boundary p (simplex_at upper k))))))
 
 -- The value of the coboundary at each simplex is the alternating sum over its faces.
-pub coboundary_is : (p : ℕ) (lower upper pss : List (List ℕ)) (above : List (Vec Coface Global)) (row : List (ℕ × ℕ)) (k : ℕ)
-    → 1 < p → IsStrictlySortedBy simplex_cmp lower → ArePlacesOf lower upper pss → ((x : ℕ) → list_at above x ≡ above_at x 0 pss) → IsBelow (length lower) row → k < length upper
+pub coboundary_is : (p : ℕ) (lower upper pss : List (List ℕ)) (above : List (List Coface)) (row : List (ℕ × ℕ)) (k : ℕ)
+    → 1 < p → IsStrictlySortedBy simplex_cmp lower → ArePlacesOf lower upper pss → ((x : ℕ) → get_or above x [] ≡ above_at x 0 pss) → IsBelow (length lower) row → k < length upper
     → Congruent p (value_in (spread p above row) k) (coboundary p (cochain_of (terms_of lower row)) (simplex_at upper k))
 coboundary_is p lower upper pss above row k h w r e f l =
     Congruent_trans (Congruent_of (sym (sum_at_value k (spread p above row))))
@@ -222,11 +222,11 @@ above_place : (x y n : ℕ) (pss : List (List ℕ)) → y + length pss ≤ n →
 above_place x y n [] h = tt
 above_place x y n (ps ∷ pss) h = each_append (λ (c : Coface). c.place < n) (marks x y false ps) (above_at x (suc y) pss) (marks_place x y n false ps (omega arith)) (above_place x (suc y) n pss (omega arith))
 
-pub spread_below : (p n : ℕ) (pss : List (List ℕ)) (above : List (Vec Coface Global)) (row : List (ℕ × ℕ)) → ((x : ℕ) → list_at above x ≡ above_at x 0 pss) → length pss ≤ n → IsBelow n (spread p above row)
+pub spread_below : (p n : ℕ) (pss : List (List ℕ)) (above : List (List Coface)) (row : List (ℕ × ℕ)) → ((x : ℕ) → get_or above x [] ≡ above_at x 0 pss) → length pss ≤ n → IsBelow n (spread p above row)
 spread_below p n pss above [] e h = tt
 spread_below p n pss above (t ∷ ts) e h =
-    each_append (λ (u : ℕ × ℕ). u.0 < n) (map (pair_of p t.1) (list_at above t.0)) (spread p above ts)
-    (each_maps (λ (u : ℕ × ℕ). u.0 < n) (λ (c : Coface). c.place < n) (pair_of p t.1) (λ c l. l) (list_at above t.0)
+    each_append (λ (u : ℕ × ℕ). u.0 < n) (map (pair_of p t.1) (get_or above t.0 [])) (spread p above ts)
+    (each_maps (λ (u : ℕ × ℕ). u.0 < n) (λ (c : Coface). c.place < n) (pair_of p t.1) (λ c l. l) (get_or above t.0 [])
     (subst (Each (λ (c : Coface). c.place < n)) (sym (e t.0)) (above_place t.0 0 n pss (omega arith))))
     (spread_below p n pss above ts e h)
 
@@ -246,44 +246,22 @@ shrunk_below p lower upper pss (t ∷ ts) h =
     each_append (λ (u : ℕ × ℕ). u.0 < length lower) (signed_places p t.1 false (get_or pss t.0 [])) (shrunk p pss ts)
     (signed_below p t.1 (length lower) false (get_or pss t.0 []) (below_at lower upper pss t.0 h)) (shrunk_below p lower upper pss ts h)
 
--- ---- a simplex has one list of places of its faces
-
-head_same : {X : Type 0} (x y : X) (xs ys : List X) → x ∷ xs ≡ y ∷ ys → x ≡ y
-head_same x y xs ys e = cc
-
-tail_same : {X : Type 0} (x y : X) (xs ys : List X) → x ∷ xs ≡ y ∷ ys → xs ≡ ys
-tail_same x y xs ys e = cc
-
-same_places : (ks : List (List ℕ)) (ps qs : List ℕ) → IsStrictlySortedBy simplex_cmp ks → Each (λ x. x < length ks) ps → Each (λ x. x < length ks) qs → map (simplex_at ks) ps ≡ map (simplex_at ks) qs → ps ≡ qs
-same_places ks [] [] h a b e = refl
-same_places ks [] (q ∷ qs) h a b e = cc
-same_places ks (p ∷ ps) [] h a b e = cc
-same_places ks (p ∷ ps) (q ∷ qs) h a b e = ap₂ ◌∷◌
-    (once_in_order ks p q h a.0 b.0 (head_same (simplex_at ks p) (simplex_at ks q) (map (simplex_at ks) ps) (map (simplex_at ks) qs) e))
-    (same_places ks ps qs h a.1 b.1 (tail_same (simplex_at ks p) (simplex_at ks q) (map (simplex_at ks) ps) (map (simplex_at ks) qs) e))
-
-places_are : (lower upper pss : List (List ℕ)) (x : ℕ) (s ps : List ℕ) → IsStrictlySortedBy simplex_cmp lower → ArePlacesOf lower upper pss → x < length upper → s ≡ simplex_at upper x → ArePlaces lower s ps → ps ≡ get_or pss x []
-places_are lower upper pss x s ps h r l e a =
-    let there = places_at lower upper pss x r l in
-    same_places lower ps (get_or pss x []) h a.below there.below (a.places ∙ ap faces e ∙ sym there.places)
-
 -- ---- the steps of the loops
 
-pub spread_step : (p : ℕ) (above : List (Vec Coface Global)) (row : List (ℕ × ℕ)) (i : ℕ) (t : ℕ × ℕ) (found new : List (ℕ × ℕ)) (cs : List Coface)
-    → i < length row → t ≡ get_or row i t → cs ≡ list_at above t.0 → new ≡ found ++ map (pair_of p t.1) cs
+pub spread_step : (p : ℕ) (above : List (List Coface)) (row : List (ℕ × ℕ)) (i : ℕ) (t : ℕ × ℕ) (found new : List (ℕ × ℕ)) (cs : List Coface)
+    → i < length row → t ≡ get_or row i t → cs ≡ get_or above t.0 [] → new ≡ found ++ map (pair_of p t.1) cs
     → found ++ spread p above (drop i row) ≡ spread p above row → new ++ spread p above (drop (i + 1) row) ≡ spread p above row
 spread_step p above row i t found new cs l e r n h =
     ap (λ xs. xs ++ spread p above (drop (i + 1) row)) (n ∙ ap (λ (ds : List Coface). found ++ map (pair_of p t.1) ds) r)
-    ∙ append_assoc found (map (pair_of p t.1) (list_at above t.0)) (spread p above (drop (i + 1) row))
+    ∙ append_assoc found (map (pair_of p t.1) (get_or above t.0 [])) (spread p above (drop (i + 1) row))
     ∙ ap (λ (ts : List (ℕ × ℕ)). found ++ spread p above ts) (sym (left_at row i t l e))
     ∙ h
 
-pub shrunk_step : (p : ℕ) (lower upper : List (List ℕ)) (row : List (ℕ × ℕ)) (i : ℕ) (t : ℕ × ℕ) (found new : List (ℕ × ℕ)) (s qs : List ℕ)
-    → IsStrictlySortedBy simplex_cmp lower → i < length row → t ≡ get_or row i t → t.0 < length upper → s ≡ get_or upper t.0 s → ArePlaces lower s qs → new ≡ found ++ signed_places p t.1 false qs
-    → ((pss : List (List ℕ)) → ArePlacesOf lower upper pss → found ++ shrunk p pss (drop i row) ≡ shrunk p pss row)
-    → (pss : List (List ℕ)) → ArePlacesOf lower upper pss → new ++ shrunk p pss (drop (i + 1) row) ≡ shrunk p pss row
-shrunk_step p lower upper row i t found new s qs o l e b g r n h pss a =
-    ap (λ xs. xs ++ shrunk p pss (drop (i + 1) row)) (n ∙ ap (λ (ds : List ℕ). found ++ signed_places p t.1 false ds) (places_are lower upper pss t.0 s qs o a b (g ∙ get_or_any upper t.0 s [] b) r))
-    ∙ append_assoc found (signed_places p t.1 false (get_or pss t.0 [])) (shrunk p pss (drop (i + 1) row))
-    ∙ ap (λ (ts : List (ℕ × ℕ)). found ++ shrunk p pss ts) (sym (left_at row i t l e))
-    ∙ h pss a
+pub shrunk_step : (p : ℕ) (faces : List (List ℕ)) (row : List (ℕ × ℕ)) (i : ℕ) (t : ℕ × ℕ) (found new : List (ℕ × ℕ)) (qs : List ℕ)
+    → i < length row → t ≡ get_or row i t → qs ≡ get_or faces t.0 [] → new ≡ found ++ signed_places p t.1 false qs
+    → found ++ shrunk p faces (drop i row) ≡ shrunk p faces row → new ++ shrunk p faces (drop (i + 1) row) ≡ shrunk p faces row
+shrunk_step p faces row i t found new qs l e r n h =
+    ap (λ xs. xs ++ shrunk p faces (drop (i + 1) row)) (n ∙ ap (λ (ds : List ℕ). found ++ signed_places p t.1 false ds) r)
+    ∙ append_assoc found (signed_places p t.1 false (get_or faces t.0 [])) (shrunk p faces (drop (i + 1) row))
+    ∙ ap (λ (ts : List (ℕ × ℕ)). found ++ shrunk p faces ts) (sym (left_at row i t l e))
+    ∙ h

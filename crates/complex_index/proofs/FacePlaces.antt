@@ -1,13 +1,20 @@
 -- Steps of the loops over faces and cofaces.
-use Rattle.std.proofs.Common.{◌≡◌, ℕ, zero, suc, ◌+◌, ◌<◌, ◌≤◌, inl, inr, arith, refl, sym, ◌∙◌, ap, ap₂, subst, List, [], ◌∷◌, ◌++◌, map, length, take, drop, take_all, get_or, true, false, cond, eqb, append_assoc, Vec, Global, add-one, slice_set}
-use Rattle.std.proofs.lemmas.List.{map-append, length-map, take_more}
+use Rattle.std.proofs.Common.{◌≡◌, ℕ, zero, suc, ◌+◌, ◌-◌, ◌*◌, ◌<◌, ◌≤◌, inl, inr, arith, refl, sym, ◌∙◌, ap, ap₂, subst, List, [], ◌∷◌, ◌++◌, map, length, take, drop, take_all, get_or, true, false, cond, eqb, append_assoc, Vec, Global, add-one, slice_set, Result, Ok, Err}
+use Rattle.std.specs.Result.{IfOk}
+use Rattle.std.specs.declared.alloc.AllocError.{AllocError}
+use Rattle.std.proofs.lemmas.List.{length-append, length-map, map-append, take_more}
 use Rattle.std.proofs.lemmas.Bool.{eq-eqb}
 use Rattle.std.proofs.lemmas.Bool.Decides.{eqb_tells}
 use Rattle.std.proofs.Math.Seq.{drop-cons}
-use Rattle.complex_index.specs.declared.incidence.Coface.{Coface}
+use Rattle.complex_index.specs.declared.cofaces.Coface.{Coface}
 use Rattle.linear_law.specs.Lists.{Each}
+use Rattle.linear_law.proofs.ListLemmas.{each_get_or}
+use Rattle.simplicial_law.proofs.ListedSimplices.{get_or_any}
+use Rattle.simplex_set.specs.Pieces.{pieces}
+use Rattle.simplex_set.proofs.AddingFaces.{face_made, rest_all}
+use Rattle.simplex_set.proofs.InPieces.{length_push, pieces_push}
 use Rattle.simplicial_law.specs.Cochains.{faces}
-use Rattle.complex_index.specs.Incidence.{ArePlaces, ArePlacesOf, simplex_at, marks, above_at, list_at, lists_of}
+use Rattle.complex_index.specs.Incidence.{AddsPlaces, ArePlaces, ArePlacesOf, simplex_at, marks, above_at, list_at, lists_of}
 
 pub each_push : {X : Type 0} (P : X → Type 0) (xs : List X) (x : X) → Each P xs → P x → Each P (xs ++ x ∷ [])
 each_push P [] x h k = (k, tt)
@@ -61,15 +68,35 @@ pub lists_push : {X : Type 0} (vs : List (Vec X Global)) (v : Vec X Global) → 
 lists_push [] v = refl
 lists_push (w ∷ vs) v = ap (λ xs. w.items ∷ xs) (lists_push vs v)
 
-pub above_step : (x y : ℕ) (faces : List (Vec ℕ Global)) (v : Vec ℕ Global) (old new : List Coface) (row : List ℕ)
-    → y < length faces → v ≡ get_or faces y v → row ≡ v.items → new ≡ old ++ marks x y false row
-    → old ++ above_at x y (lists_of (drop y faces)) ≡ above_at x 0 (lists_of faces) → new ++ above_at x (y + 1) (lists_of (drop (y + 1) faces)) ≡ above_at x 0 (lists_of faces)
-above_step x y faces v old new row l e r n h =
-    ap (λ xs. xs ++ above_at x (y + 1) (lists_of (drop (y + 1) faces))) (n ∙ ap (λ (qs : List ℕ). old ++ marks x y false qs) r)
-    ∙ append_assoc old (marks x y false v.items) (above_at x (y + 1) (lists_of (drop (y + 1) faces)))
-    ∙ (let f : y + 1 ≡ suc y = omega arith in ap (λ (k : ℕ). old ++ (marks x y false v.items ++ above_at x k (lists_of (drop (y + 1) faces)))) f)
-    ∙ ap (λ (vs : List (Vec ℕ Global)). old ++ above_at x y (lists_of vs)) (sym (left_at faces y v l e))
+pub above_step : (x y : ℕ) (faces : List (List ℕ)) (old new : List Coface) (row : List ℕ)
+    → y < length faces → row ≡ get_or faces y [] → new ≡ old ++ marks x y false row
+    → old ++ above_at x y (drop y faces) ≡ above_at x 0 faces → new ++ above_at x (y + 1) (drop (y + 1) faces) ≡ above_at x 0 faces
+above_step x y faces old new row l e n h =
+    ap (λ xs. xs ++ above_at x (y + 1) (drop (y + 1) faces)) n
+    ∙ append_assoc old (marks x y false row) (above_at x (y + 1) (drop (y + 1) faces))
+    ∙ (let f : y + 1 ≡ suc y = omega arith in ap (λ (k : ℕ). old ++ (marks x y false row ++ above_at x k (drop (y + 1) faces))) f)
+    ∙ ap (λ (pss : List (List ℕ)). old ++ above_at x y pss) (sym (left_at faces y row l (e ∙ get_or_any faces y [] row l)))
     ∙ h
+
+pub lists_more : {X : Type 0} (vs : List (Vec X Global)) (i : ℕ) (v : Vec X Global) (ys : List X) → i < length vs → v ≡ get_or vs i v → ys ≡ v.items → lists_of (take i vs) ++ ys ∷ [] ≡ lists_of (take (i + 1) vs)
+lists_more {X = X} vs i v ys l e q =
+    ap (λ (zs : List X). lists_of (take i vs) ++ zs ∷ []) q ∙ sym (lists_push (take i vs) v) ∙ ap (λ (u : Vec X Global). lists_of (take i vs ++ u ∷ [])) e ∙ ap lists_of (sym (take_more vs i v l))
+
+at_lists : {X : Type 0} (vs : List (Vec X Global)) (x : ℕ) → get_or (lists_of vs) x [] ≡ list_at vs x
+at_lists [] x = refl
+at_lists (v ∷ vs) zero = refl
+at_lists (v ∷ vs) (suc x) = at_lists vs x
+
+pub all_above : (r : Result (List (List Coface)) AllocError) (vs : List (Vec Coface Global)) (ls : List (Vec Coface Global)) (pss : List (List ℕ)) (y : ℕ) → length pss ≤ y → ls ≡ vs
+    → ((x : ℕ) → list_at vs x ++ above_at x y (drop y pss) ≡ above_at x 0 pss) → IfOk r (λ c. c ≡ lists_of ls) → IfOk r (λ c. (x : ℕ) → get_or c x [] ≡ above_at x 0 pss)
+all_above (Ok c) vs ls pss y l q h e = λ x. ap (λ (k : List (List Coface)). get_or k x []) (e ∙ ap lists_of q) ∙ at_lists vs x ∙ append_nil (list_at vs x) ∙ ap (λ (ps : List (List ℕ)). list_at vs x ++ above_at x y ps) (sym (drop_all y pss l)) ∙ h x
+  where
+    drop_all : (n : ℕ) (xs : List (List ℕ)) → length xs ≤ n → drop n xs ≡ []
+    drop_all zero [] l = refl
+    drop_all zero (x ∷ xs) l = absurd (omega arith)
+    drop_all (suc n) [] l = refl
+    drop_all (suc n) (x ∷ xs) l = drop_all n xs (omega arith)
+all_above (Err f) vs ls pss y l q h e = tt
 
 pub places_push : (lower ss ps : List (List ℕ)) (s p : List ℕ) → ArePlacesOf lower ss ps → ArePlaces lower s p → ArePlacesOf lower (ss ++ s ∷ []) (ps ++ p ∷ [])
 places_push lower [] [] s p h k = (k, tt)
@@ -87,11 +114,6 @@ faces_more s i h = take_more (faces s) i [] (omega (arith, length_faces s))
 pub faces_all : (s : List ℕ) (i : ℕ) → length s ≤ i → take i (faces s) ≡ faces s
 faces_all s i h = take_all i (faces s) (omega (arith, length_faces s))
 
-pub each_lists : {X : Type 0} (P : List X → Type 0) (vs : List (Vec X Global)) (i : ℕ) (v : Vec X Global) → i < length vs → v ≡ get_or vs i v → Each P (lists_of vs) → P v.items
-each_lists P [] i v h e k = absurd (omega arith)
-each_lists {X = X} P (w ∷ vs) zero v h e k = subst (λ (u : Vec X Global). P u.items) (sym e) k.0
-each_lists P (w ∷ vs) (suc i) v h e k = each_lists P vs i v (omega arith) e k.1
-
 pub places_more : (lower : List (List ℕ)) (s : List ℕ) (i k : ℕ) (old new : List ℕ) → i < length s → new ≡ old ++ k ∷ [] → k < length lower → simplex_at lower k ≡ get_or (faces s) i []
     → Each (λ x. x < length lower) old → map (simplex_at lower) old ≡ take i (faces s) → Each (λ x. x < length lower) new × (map (simplex_at lower) new ≡ take (i + 1) (faces s))
 places_more lower s i k old new l n b e h g = (
@@ -99,8 +121,41 @@ places_more lower s i k old new l n b e h g = (
   ap (map (simplex_at lower)) n ∙ map-append (simplex_at lower) old (k ∷ []) ∙ ap₂ (λ (u v : List (List ℕ)). u ++ v) g (ap (λ (t : List ℕ). t ∷ []) e) ∙ sym (faces_more s i l),
 )
 
-pub places_so_far : (lower upper : List (List ℕ)) (i : ℕ) (s : List ℕ) (old new : List (Vec ℕ Global)) (v : Vec ℕ Global) → i < length upper → s ≡ get_or upper i s → new ≡ old ++ v ∷ []
-    → ArePlacesOf lower (take i upper) (lists_of old) → ArePlaces lower s v.items → ArePlacesOf lower (take (i + 1) upper) (lists_of new)
-places_so_far lower upper i s old new v l e n h k =
-    subst (λ (ss : List (List ℕ)). ArePlacesOf lower ss (lists_of new)) (sym (take_more upper i s l ∙ ap (λ (t : List ℕ). take i upper ++ t ∷ []) (sym e)))
-    (subst (λ (ps : List (List ℕ)). ArePlacesOf lower (take i upper ++ s ∷ []) ps) (sym (ap lists_of n ∙ lists_push old v)) (places_push lower (take i upper) (lists_of old) s v.items h k))
+pub length_places : (lower : List (List ℕ)) (s ps : List ℕ) → ArePlaces lower s ps → length ps ≡ length s
+length_places lower s ps h = sym (length-map ps (simplex_at lower)) ∙ ap length h.places ∙ length_faces s
+
+-- the places of the faces of i simplices, one after the other
+pub places_so_far : (size i : ℕ) (lower upper : List (List ℕ)) (s old new : List ℕ) → i < length upper → s ≡ get_or upper i [] → Each (λ t. length t ≡ size) upper → AddsPlaces lower s old new
+    → (length old ≡ i * size) × ArePlacesOf lower (take i upper) (pieces size i old) → (length new ≡ (i + 1) * size) × ArePlacesOf lower (take (i + 1) upper) (pieces size (i + 1) new)
+places_so_far size i lower upper s old new l e z a h =
+    let sized : length a.added ≡ size = length_places lower s a.added a.places ∙ subst (λ (t : List ℕ). length t ≡ size) (sym e) (each_get_or (λ t. length t ≡ size) upper i [] l z) in (
+      ap length a.is ∙ length-append old a.added ∙ length_push old a.added size i h.0 sized,
+      subst (λ (ss : List (List ℕ)). ArePlacesOf lower ss (pieces size (i + 1) new)) (sym (take_more upper i [] l ∙ ap (λ (t : List ℕ). take i upper ++ t ∷ []) (sym e)))
+          (subst (λ (ps : List (List ℕ)). ArePlacesOf lower (take i upper ++ s ∷ []) ps) (sym (ap (pieces size (i + 1)) a.is ∙ pieces_push size i old a.added h.0 sized))
+          (places_push lower (take i upper) (pieces size i old) s a.added h.1 a.places)),
+    )
+
+-- ---- the places of the faces of one simplex
+
+-- the list grows by the places of the first i faces of s
+pub record IsAdding (lower : List (List ℕ)) (s : List ℕ) (i : ℕ) (old new : List ℕ) : Type 0 where
+  pub added : List ℕ
+  pub is : new ≡ old ++ added
+  pub below : Each (λ x. x < length lower) added
+  pub places : map (simplex_at lower) added ≡ take i (faces s)
+
+pub adding_none : (lower : List (List ℕ)) (s old : List ℕ) → IsAdding lower s 0 old old
+adding_none lower s old = record { added = []; is = append_nil old; below = tt; places = refl }
+
+pub adding_more : (lower : List (List ℕ)) (s : List ℕ) (i k : ℕ) (old mid new : List ℕ) → i < length s → new ≡ mid ++ k ∷ [] → k < length lower → simplex_at lower k ≡ get_or (faces s) i []
+    → IsAdding lower s i old mid → IsAdding lower s (i + 1) old new
+adding_more lower s i k old mid new l n b e h =
+    let more = places_more lower s i k h.added (h.added ++ k ∷ []) l refl b e h.below h.places in
+    record { added = h.added ++ k ∷ []; is = n ∙ ap (λ (xs : List ℕ). xs ++ k ∷ []) h.is ∙ append_assoc old h.added (k ∷ []); below = more.0; places = more.1 }
+
+pub adding_all : (lower : List (List ℕ)) (s : List ℕ) (i : ℕ) (old new : List ℕ) → length s ≤ i → IsAdding lower s i old new → AddsPlaces lower s old new
+adding_all lower s i old new l h = record { added = h.added; is = h.is; places = record { below = h.below; places = h.places ∙ faces_all s i l } }
+
+-- a face in two parts
+pub face_joined : (s : List ℕ) (at : ℕ) → at < length s → take at s ++ take (length s - (at + 1)) (drop (at + 1) s) ≡ get_or (faces s) at []
+face_joined s at h = ap (λ (r : List ℕ). take at s ++ r) (rest_all (at + 1) s) ∙ face_made at s h

@@ -1,95 +1,84 @@
 -- The levels of an index, one after the other, and what they are together.
-use Rattle.std.proofs.Common.{◌≡◌, ℕ, zero, suc, ◌+◌, ◌-◌, sub-one, ◌^◌, ◌<◌, ◌≤◌, inl, inr, arith, refl, sym, ◌∙◌, ap, subst, List, [], ◌∷◌, ◌++◌, length, take, get_or, max, Bool, true, false, eqb, cond, map, Vec, Global}
+use Rattle.std.proofs.Common.{◌≡◌, ℕ, zero, suc, ◌+◌, ◌-◌, ◌^◌, ◌<◌, ◌≤◌, inl, inr, arith, refl, sym, ◌∙◌, ap, subst, List, [], ◌∷◌, ◌++◌, length, take, take_all, get_or, Bool, true, false, eqb, cond, map, sub-one}
 use Rattle.std.proofs.lemmas.Bool.{cases_eq, cases_lt}
 use Rattle.std.proofs.lemmas.Bool.Decides.{eqb_tells}
-use Rattle.std.proofs.lemmas.List.{length-map, take_more}
+use Rattle.std.proofs.lemmas.List.{length-map, map-append, take_more}
 use Rattle.std.specs.List.{filter}
 use Rattle.std.specs.List.Sorted.{IsStrictlySortedBy}
-use Rattle.complex_index.specs.declared.incidence.Coface.{Coface}
+use Rattle.complex_index.specs.declared.cofaces.Coface.{Coface}
 use Rattle.complex_index.specs.declared.levels.Level.{Level}
 use Rattle.linear_law.specs.Lists.{Each, Among, IsAscending}
 use Rattle.linear_law.specs.Listing.{ListsAll}
-use Rattle.linear_law.proofs.ListLemmas.{among_left, each_among, each_map, each_of_map}
+use Rattle.linear_law.proofs.ListLemmas.{each_among}
 use Rattle.simplicial_law.specs.Simplices.{IsInOrder, IsSimplex}
 use Rattle.simplicial_law.specs.Cochains.{faces}
 use Rattle.simplicial_law.specs.ListedSimplices.{IsClosed, of_degree, simplex_cmp, simplices, sublists}
 use Rattle.simplicial_law.proofs.Sublists.{of_map, sublist_first, sublist_of_rest, sublist_whole, sublist_with, sublists_cases}
-use Rattle.simplicial_law.proofs.ListedSimplices.{each_of, in_filter, length_of_test, listed_simplices_law, of_all, of_filter, of_size_sorted, simplices_closed, test_of_length}
-use Rattle.complex_index.specs.Incidence.{ArePlacesOf, simplex_at}
-use Rattle.complex_index.proofs.Searching.{among_place}
-use Rattle.complex_index.specs.Levels.{AreLevels, Fits, IsIndex, IsIndexOf, IsLargest, lists, level, cofaces_at}
-use Rattle.complex_index.proofs.FacePlaces.{each_push}
+use Rattle.simplicial_law.proofs.ListedSimplices.{each_of, in_filter, length_of_test, listed_simplices_law, of_all, of_degree_sorted, of_filter, simplices_closed, test_of_length}
+use Rattle.simplex_set.specs.Levels.{AreLevelsOf, IsLargest}
+use Rattle.complex_index.specs.Incidence.{ArePlacesOf}
+use Rattle.complex_index.specs.Levels.{AreLevels, Fits, IsIndex, IsIndexOf, IsIndexed, lists, level, cofaces_at, faces_at}
 
 -- ---- pushing a level
 
-lists_more : (ls : List Level) (l : Level) (n : ℕ) → n < length ls → level (lists (ls ++ l ∷ [])) n ≡ level (lists ls) n
-lists_more [] l n h = absurd (omega arith)
-lists_more (k ∷ ls) l zero h = refl
-lists_more (k ∷ ls) l (suc n) h = lists_more ls l n (omega arith)
+faces_more : (ls : List Level) (l : Level) (n : ℕ) → n < length ls → faces_at (ls ++ l ∷ []) n ≡ faces_at ls n
+faces_more [] l n h = absurd (omega arith)
+faces_more (k ∷ ls) l zero h = refl
+faces_more (k ∷ ls) l (suc n) h = faces_more ls l n (omega arith)
 
-lists_last : (ls : List Level) (l : Level) (n : ℕ) → n ≡ length ls → level (lists (ls ++ l ∷ [])) n ≡ l.simplices.items
-lists_last [] l zero h = refl
-lists_last [] l (suc n) h = absurd (omega arith)
-lists_last (k ∷ ls) l zero h = absurd (omega arith)
-lists_last (k ∷ ls) l (suc n) h = lists_last ls l n (omega arith)
+faces_last : (ls : List Level) (l : Level) (n : ℕ) → n ≡ length ls → faces_at (ls ++ l ∷ []) n ≡ l.faces
+faces_last [] l zero h = refl
+faces_last [] l (suc n) h = absurd (omega arith)
+faces_last (k ∷ ls) l zero h = absurd (omega arith)
+faces_last (k ∷ ls) l (suc n) h = faces_last ls l n (omega arith)
 
 cofaces_more : (ls : List Level) (l : Level) (n : ℕ) → n < length ls → cofaces_at (ls ++ l ∷ []) n ≡ cofaces_at ls n
 cofaces_more [] l n h = absurd (omega arith)
 cofaces_more (k ∷ ls) l zero h = refl
 cofaces_more (k ∷ ls) l (suc n) h = cofaces_more ls l n (omega arith)
 
-cofaces_last : (ls : List Level) (l : Level) (n : ℕ) → n ≡ length ls → cofaces_at (ls ++ l ∷ []) n ≡ l.cofaces.items
+cofaces_last : (ls : List Level) (l : Level) (n : ℕ) → n ≡ length ls → cofaces_at (ls ++ l ∷ []) n ≡ l.cofaces
 cofaces_last [] l zero h = refl
 cofaces_last [] l (suc n) h = absurd (omega arith)
 cofaces_last (k ∷ ls) l zero h = absurd (omega arith)
 cofaces_last (k ∷ ls) l (suc n) h = cofaces_last ls l n (omega arith)
 
-length_push : {X : Type 0} (xs : List X) (x : X) → length (xs ++ x ∷ []) ≡ length xs + 1
-length_push [] x = refl
-length_push (y ∷ ys) x = omega (arith, length_push ys x)
+length_push : (ls : List Level) (l : Level) → length (ls ++ l ∷ []) ≡ length ls + 1
+length_push [] l = refl
+length_push (k ∷ ls) l = omega (arith, length_push ls l)
 
-fits_same : {a b c d : List (List ℕ)} {h k : List (Vec Coface Global)} → a ≡ b → c ≡ d → h ≡ k → Fits a c h → Fits b d k
-fits_same p q s w = subst (λ (x : (List (List ℕ) × List (List ℕ)) × List (Vec Coface Global)). Fits x.0.0 x.0.1 x.1) (λ i. ((p i, q i), s i)) w
+length_lists : (ls : List Level) → length (lists ls) ≡ length ls
+length_lists ls = length-map ls (λ (l : Level). l.simplices)
 
-pub levels_push : (ks : List (List ℕ)) (ls : List Level) (l : Level) → AreLevels ks ls → l.simplices.items ≡ of_degree (length ls) ks
-    → ((n : ℕ) → n + 1 ≡ length ls → Fits (level (lists ls) n) l.simplices.items l.cofaces.items) → AreLevels ks (ls ++ l ∷ [])
-levels_push ks ls l h e f = record {
-  levels = λ n b. elim (cases_eq n (length ls)) [
-    | inl q ↦ lists_last ls l n q ∙ e ∙ ap (λ (m : ℕ). of_degree m ks) (sym q)
-    | inr d ↦ (let s : n < length ls = omega (arith, length_push ls l, d) in lists_more ls l n s ∙ h.levels n s)
+fits_same : (a c p q : List (List ℕ)) (h k : List (List Coface)) → p ≡ q → h ≡ k → Fits a c p h → Fits a c q k
+fits_same a c p q h k e f w = subst (λ (x : List (List ℕ) × List (List Coface)). Fits a c x.0 x.1) (λ i. (e i, f i)) w
+
+-- the first n levels
+pub record IsPartly (all : List (List (List ℕ))) (n : ℕ) (ls : List Level) : Type 0 where
+  pub len : length ls ≡ n
+  pub same : lists ls ≡ take n all
+  pub fits : (m : ℕ) → m + 1 < length ls → Fits (level all m) (level all (m + 1)) (faces_at ls (m + 1)) (cofaces_at ls (m + 1))
+
+pub partly_none : (all : List (List (List ℕ))) (ls : List Level) → ls ≡ [] → IsPartly all 0 ls
+partly_none all ls e = record { len = ap length e; same = ap lists e; fits = λ m h. absurd (omega (arith, ap length e)) }
+
+pub partly_more : (all : List (List (List ℕ))) (n : ℕ) (ls ns : List Level) (l : Level) → n < length all → IsPartly all n ls → ns ≡ ls ++ l ∷ [] → l.simplices ≡ level all n
+    → ((m : ℕ) → m + 1 ≡ n → Fits (level all m) (level all n) l.faces l.cofaces) → IsPartly all (n + 1) ns
+partly_more all n ls ns l b h q e f = subst (IsPartly all (n + 1)) (sym q) (record {
+  len = omega (arith, length_push ls l, h.len);
+  same = map-append (λ (k : Level). k.simplices) ls (l ∷ []) ∙ ap (λ (ks : List (List (List ℕ))). ks ++ l.simplices ∷ []) h.same ∙ ap (λ (k : List (List ℕ)). take n all ++ k ∷ []) e ∙ sym (take_more all n [] b);
+  fits = λ m k. elim (cases_eq (m + 1) n) [
+    | inl i ↦ fits_same (level all m) (level all (m + 1)) l.faces (faces_at (ls ++ l ∷ []) (m + 1)) l.cofaces (cofaces_at (ls ++ l ∷ []) (m + 1))
+        (sym (faces_last ls l (m + 1) (i ∙ sym h.len))) (sym (cofaces_last ls l (m + 1) (i ∙ sym h.len)))
+        (subst (λ (d : ℕ). Fits (level all m) (level all d) l.faces l.cofaces) (sym i) (f m i))
+    | inr d ↦ (let s : m + 1 < length ls = omega (arith, k, length_push ls l, h.len, d) in
+        fits_same (level all m) (level all (m + 1)) (faces_at ls (m + 1)) (faces_at (ls ++ l ∷ []) (m + 1)) (cofaces_at ls (m + 1)) (cofaces_at (ls ++ l ∷ []) (m + 1))
+        (sym (faces_more ls l (m + 1) s)) (sym (cofaces_more ls l (m + 1) s)) (h.fits m s))
   ];
-  fits = λ n b. elim (cases_eq (n + 1) (length ls)) [
-    | inl q ↦ (let s : n < length ls = omega arith in fits_same (sym (lists_more ls l n s)) (sym (lists_last ls l (n + 1) q)) (sym (cofaces_last ls l (n + 1) q)) (f n q))
-    | inr d ↦ (let s : n + 1 < length ls = omega (arith, length_push ls l, d) in
-        let t : n < length ls = omega arith in
-        fits_same (sym (lists_more ls l n t)) (sym (lists_more ls l (n + 1) s)) (sym (cofaces_more ls l (n + 1) s)) (h.fits n s))
-  ];
-}
+})
 
-pub levels_none : (ks : List (List ℕ)) → AreLevels ks []
-levels_none ks = record { levels = λ n h. absurd (omega arith); fits = λ n h. absurd (omega arith) }
-
--- ---- the largest
-
-pub largest_none : IsLargest [] 0
-largest_none = record { bound = tt; top = inl refl }
-
-among_last : {X : Type 0} (x : X) (xs : List X) → Among x (xs ++ x ∷ [])
-among_last x [] = inl refl
-among_last x (z ∷ xs) = inr (among_last x xs)
-
-pub largest_more : (ks : List (List ℕ)) (i n m : ℕ) (s : List ℕ) → i < length ks → s ≡ get_or ks i s → IsLargest (take i ks) n → m ≡ max n (length s) → IsLargest (take (i + 1) ks) m
-largest_more ks i n m s l e h q =
-    subst (λ (xs : List (List ℕ)). IsLargest xs m) (sym (take_more ks i s l ∙ ap (λ (t : List ℕ). take i ks ++ t ∷ []) (sym e))) (record {
-      bound = each_push (λ t. length t ≤ m) (take i ks) s (each_map (λ t b. omega (arith, q)) (take i ks) h.bound) (omega (arith, q));
-      top = elim (cases_lt n (length s)) [
-        | inl a ↦ inr (s, (among_last s (take i ks), omega (arith, q)))
-        | inr b ↦ elim h.top [
-          | inl z ↦ inl (omega (arith, q))
-          | inr k ↦ inr (k.0, (among_left k.0 (take i ks) (s ∷ []) k.1.0, k.1.1 ∙ omega (arith, q)))
-        ]
-      ];
-    })
+pub partly_all : (all : List (List (List ℕ))) (n : ℕ) (ls : List Level) → length all ≤ n → IsPartly all n ls → IsIndexed all ls
+partly_all all n ls l h = record { same = h.same ∙ take_all n all l; fits = h.fits }
 
 -- ---- the faces of the simplices of one degree are those of the degree below
 
@@ -139,24 +128,6 @@ length_filter p (x ∷ xs) = one (p x) (filter p xs) (length_filter p xs)
     one true ys h = omega arith
     one false ys h = omega arith
 
--- ---- as the code has them
-
-pub last_is : (ls : List Level) (i : ℕ) (l : Level) → i < length ls → l ≡ get_or ls i l → l.simplices.items ≡ level (lists ls) i
-last_is [] i l h e = absurd (omega arith)
-last_is (k ∷ ls) zero l h e = ap (λ (m : Level). m.simplices.items) e
-last_is (k ∷ ls) (suc i) l h e = last_is ls i l (omega arith) e
-
-pub few_of_degree : (ks xs : List (List ℕ)) (n : ℕ) → xs ≡ of_degree n ks → length ks < 2 ^ 32 → length xs < 2 ^ 32
-few_of_degree ks xs n e h = omega (arith, ap length e, length_filter (λ s. eqb (length s) (n + 1)) ks)
-
-pub sorted_of_degree : (ks xs : List (List ℕ)) (n : ℕ) → xs ≡ of_degree n ks → IsClosed ks → IsStrictlySortedBy simplex_cmp xs
-sorted_of_degree ks xs n e h = subst (λ (ys : List (List ℕ)). IsStrictlySortedBy simplex_cmp ys) (sym e) (of_size_sorted ks (n + 1) h.ordered)
-
-pub present_of_degree : (ks xs ys : List (List ℕ)) (n m : ℕ) → xs ≡ of_degree n ks → ys ≡ of_degree m ks → IsClosed ks → m ≡ n + 1 → Each (λ s. Each (λ t. Among t xs) (faces s)) ys
-present_of_degree ks xs ys n m e f h q =
-    subst (λ (zs : List (List ℕ)). Each (λ s. Each (λ t. Among t zs) (faces s)) ys) (sym e)
-    (subst (λ (zs : List (List ℕ)). Each (λ s. Each (λ t. Among t (of_degree n ks)) (faces s)) zs) (sym f) (faces_below ks n m h q))
-
 pub length_bound : (ks : List (List ℕ)) (n : ℕ) → Each (λ s. length s ≤ 16) ks → IsLargest ks n → n ≤ 16
 length_bound ks n h l = elim l.top [
   | inl z ↦ omega (arith, z)
@@ -172,7 +143,7 @@ places_length lower (s ∷ ss) (p ∷ ps) h = ap suc (places_length lower ss ps 
 pub few_places : (lower upper pss : List (List ℕ)) (n : ℕ) → ArePlacesOf lower upper pss → length upper < n → length pss < n
 few_places lower upper pss n h l = omega (arith, places_length lower upper pss h)
 
--- ---- making an index
+-- ---- the levels of a complex
 
 sublists_short : (f t : List ℕ) → Among t (sublists f) → length t ≤ length f
 sublists_short [] t m = elim m [ ]
@@ -204,17 +175,6 @@ level_past [] n h = refl
 level_past (l ∷ ls) zero h = absurd (omega arith)
 level_past (l ∷ ls) (suc n) h = level_past ls n (omega arith)
 
-length_lists : (ls : List Level) → length (lists ls) ≡ length ls
-length_lists ls = length-map ls (λ (l : Level). l.simplices.items)
-
-all_levels : (ks : List (List ℕ)) (ls : List Level) → AreLevels ks ls → IsLargest ks (length ls) → (n : ℕ) → level (lists ls) n ≡ of_degree n ks
-all_levels ks ls h l n = elim (cases_lt n (length ls)) [
-  | inl a ↦ h.levels n a
-  | inr b ↦ level_past (lists ls) n (omega (arith, length_lists ls)) ∙ sym (none_of_degree ks n (length ls) l.bound b)
-]
-
--- ---- the levels of a complex
-
 -- a list has a sublist of each size up to its own
 sublist_of_size : (s : List ℕ) (n : ℕ) → n < length s → (t : List ℕ) × (Among t (sublists s) × (length t ≡ n + 1))
 sublist_of_size [] n h = absurd (omega arith)
@@ -233,60 +193,95 @@ degree_inhabited ks n top c l h = elim l.top [
       some_among t.0 (of_degree n ks) (in_filter (λ u. eqb (length u) (n + 1)) ks t.0 (c.faces k.0 t.0 k.1.0 t.1.0) (test_of_length t.0 (n + 1) t.1.1)))
 ]
 
-pub index_is : (facets ks : List (List ℕ)) (ls : List Level) → Each IsAscending facets → ks ≡ simplices facets → AreLevels ks ls → IsLargest ks (length ls) → IsIndexOf facets (lists ls)
-index_is facets ks ls a e h l =
-    let by_degree : (n : ℕ) → level (lists ls) n ≡ of_degree n (simplices facets) = λ n. all_levels ks ls h l n ∙ ap (of_degree n) e in
+all_levels : (ks : List (List ℕ)) (ls : List (List (List ℕ))) → AreLevelsOf ks ls → (n : ℕ) → level ls n ≡ of_degree n ks
+all_levels ks ls h n = elim (cases_lt n (length ls)) [
+  | inl a ↦ h.levels n a
+  | inr b ↦ level_past ls n b ∙ sym (none_of_degree ks n (length ls) h.largest.bound b)
+]
+
+pub index_is : (facets : List (List ℕ)) (ls : List (List (List ℕ))) → Each IsAscending facets → AreLevelsOf (simplices facets) ls → IsIndexOf facets ls
+index_is facets ls a h =
+    let by_degree : (n : ℕ) → level ls n ≡ of_degree n (simplices facets) = all_levels (simplices facets) ls h in
     record {
       lists = λ n. subst (λ (xs : List (List ℕ)). ListsAll (IsSimplex facets n) xs) (sym (by_degree n)) (listed_simplices_law.of_one_degree facets n a);
       in_order = λ n. subst IsInOrder (sym (by_degree n)) (listed_simplices_law.degree_in_order facets n);
-      inhabited = λ n b.
-          let d = degree_inhabited (simplices facets) n (length ls) (simplices_closed facets) (subst (λ (xs : List (List ℕ)). IsLargest xs (length ls)) e l) (omega (arith, length_lists ls)) in
-          omega (arith, d, ap length (by_degree n));
+      inhabited = λ n b. omega (arith, degree_inhabited (simplices facets) n (length ls) (simplices_closed facets) h.largest b, ap length (by_degree n));
     }
+
+pub levels_are : (facets : List (List ℕ)) (ls : List (List (List ℕ))) → length (simplices facets) < 2 ^ 32 → AreLevelsOf (simplices facets) ls → AreLevels ls
+levels_are facets ls f h =
+    let by_degree : (n : ℕ) → level ls n ≡ of_degree n (simplices facets) = all_levels (simplices facets) ls h in
+    record {
+      ordered = λ n. subst (IsStrictlySortedBy simplex_cmp) (sym (by_degree n)) (of_degree_sorted facets n);
+      sizes = λ n. subst (Each (λ s. length s ≡ n + 1)) (sym (by_degree n))
+          (each_of (λ s. length s ≡ n + 1) (of_degree n (simplices facets)) (λ s m. length_of_test s (n + 1) (of_filter (λ t. eqb (length t) (n + 1)) (simplices facets) s m).1));
+      small = λ n. omega (arith, ap length (by_degree n), length_filter (λ s. eqb (length s) (n + 1)) (simplices facets), f);
+      present = λ n. subst (λ (xs : List (List ℕ)). Each (λ s. Each (λ t. Among t xs) (faces s)) (level ls (n + 1))) (sym (by_degree n))
+          (subst (Each (λ s. Each (λ t. Among t (of_degree n (simplices facets))) (faces s))) (sym (by_degree (n + 1))) (faces_below (simplices facets) n (n + 1) (simplices_closed facets) refl));
+    }
+
+pub index_made : (facets : List (List ℕ)) (all : List (List (List ℕ))) (ls : List Level) → Each IsAscending facets → Each (λ f. length f ≤ 16) facets → length (simplices facets) < 2 ^ 32
+    → AreLevelsOf (simplices facets) all → IsIndexed all ls → IsIndex ls
+index_made facets all ls a t f h i = record {
+  complex = record { facets = facets; index = subst (IsIndexOf facets) (sym i.same) (index_is facets all a h) };
+  levels = subst AreLevels (sym i.same) (levels_are facets all f h);
+  indexed = subst (λ (ks : List (List (List ℕ))). IsIndexed ks ls) (sym i.same) i;
+  few = omega (arith, length_bound (simplices facets) (length all) (simplices_short facets t) h.largest, ap length i.same, length_lists ls);
+}
+
+-- ---- as the code has them
 
 pub nothing_past : (ls : List Level) (n : ℕ) → length ls ≤ n → length (level (lists ls) n) ≡ 0
 nothing_past ls n h = ap length (level_past (lists ls) n (omega (arith, length_lists ls)))
 
-pub index_made : (facets ks : List (List ℕ)) (ls : List Level) → Each IsAscending facets → ks ≡ simplices facets → AreLevels ks ls → IsLargest ks (length ls) → IsClosed ks → length ks < 2 ^ 32 → Each (λ s. length s ≤ 16) ks → IsIndex ls
-index_made facets ks ls a e h l c s t = record {
-  complex = record { facets = facets; index = index_is facets ks ls a e h l };
-  ordered = λ n. sorted_of_degree ks (level (lists ls) n) n (all_levels ks ls h l n) c;
-  sizes = λ n u m. length_of_test u (n + 1) (of_filter (λ v. eqb (length v) (n + 1)) ks u (subst (λ (vs : List (List ℕ)). Among u vs) (all_levels ks ls h l n) m)).1;
-  fits = h.fits;
-  small = λ n. few_of_degree ks (level (lists ls) n) n (all_levels ks ls h l n) s;
-  few = omega (arith, length_bound ks (length ls) t l);
-}
+pub inside_is : (ls : List Level) (n k : ℕ) → k < length (level (lists ls) n) → n < length ls
+inside_is ls n k h = elim (cases_lt n (length ls)) [ inl l ↦ l | inr g ↦ absurd (omega (arith, h, nothing_past ls n g)) ]
 
-pub cofaces_is : (ls : List Level) (i : ℕ) (l : Level) → i < length ls → l ≡ get_or ls i l → l.cofaces.items ≡ cofaces_at ls i
+pub simplices_is : (ls : List Level) (i : ℕ) (l : Level) → i < length ls → l ≡ get_or ls i l → l.simplices ≡ level (lists ls) i
+simplices_is [] i l h e = absurd (omega arith)
+simplices_is (k ∷ ls) zero l h e = ap (λ (m : Level). m.simplices) e
+simplices_is (k ∷ ls) (suc i) l h e = simplices_is ls i l (omega arith) e
+
+pub faces_is : (ls : List Level) (i : ℕ) (l : Level) → i < length ls → l ≡ get_or ls i l → l.faces ≡ faces_at ls i
+faces_is [] i l h e = absurd (omega arith)
+faces_is (k ∷ ls) zero l h e = ap (λ (m : Level). m.faces) e
+faces_is (k ∷ ls) (suc i) l h e = faces_is ls i l (omega arith) e
+
+pub cofaces_is : (ls : List Level) (i : ℕ) (l : Level) → i < length ls → l ≡ get_or ls i l → l.cofaces ≡ cofaces_at ls i
 cofaces_is [] i l h e = absurd (omega arith)
-cofaces_is (k ∷ ls) zero l h e = ap (λ (m : Level). m.cofaces.items) e
+cofaces_is (k ∷ ls) zero l h e = ap (λ (m : Level). m.cofaces) e
 cofaces_is (k ∷ ls) (suc i) l h e = cofaces_is ls i l (omega arith) e
 
-pub count_cofaces : (ls : List Level) (n : ℕ) → IsIndex ls → n + 1 < length ls → length (cofaces_at ls (n + 1)) ≡ length (level (lists ls) n)
-count_cofaces ls n i h = (i.fits n h).len
+pub present_at : (ls : List (List (List ℕ))) (n : ℕ) (lower upper : List (List ℕ)) → AreLevels ls → 0 < n → lower ≡ level ls (n - 1) → upper ≡ level ls n → Each (λ s. Each (λ t. Among t lower) (faces s)) upper
+present_at ls zero lower upper a o e f = absurd (omega arith)
+present_at ls (suc m) lower upper a o e f =
+    let q : suc m ≡ m + 1 = omega arith in
+    let low : lower ≡ level ls m = e ∙ ap (level ls) (sub-one (suc m)) in
+    let up : upper ≡ level ls (m + 1) = f ∙ ap (level ls) q in
+    subst (λ (ks : List (List ℕ)). Each (λ s. Each (λ t. Among t ks) (faces s)) upper) (sym low) (subst (Each (λ s. Each (λ t. Among t (level ls m)) (faces s))) (sym up) (a.present m))
 
--- each face of an upper simplex is one of the lower ones
-pub places_present : (lower upper pss : List (List ℕ)) → ArePlacesOf lower upper pss → Each (λ s. Each (λ t. Among t lower) (faces s)) upper
-places_present lower [] pss h = tt
-places_present lower (s ∷ ss) [] h = absurd h
-places_present lower (s ∷ ss) (p ∷ ps) h = (
-  subst (Each (λ t. Among t lower)) h.0.places (each_of_map (λ t. Among t lower) (simplex_at lower) p (each_map (λ x b. among_place lower x [] b) p h.0.below)),
-  places_present lower ss ps h.1,
-)
+pub fits_at : (ls : List Level) (n : ℕ) → IsIndex ls → 0 < n → n < length ls → Fits (level (lists ls) (n - 1)) (level (lists ls) n) (faces_at ls n) (cofaces_at ls n)
+fits_at ls zero i o l = absurd (omega arith)
+fits_at ls (suc m) i o l =
+    let q : m + 1 ≡ suc m = omega arith in
+    subst (λ (d : ℕ). Fits (level (lists ls) d) (level (lists ls) (suc m)) (faces_at ls (suc m)) (cofaces_at ls (suc m))) (sym (sub-one (suc m)))
+    (subst (λ (d : ℕ). Fits (level (lists ls) m) (level (lists ls) d) (faces_at ls d) (cofaces_at ls d)) q (i.indexed.fits m (omega arith)))
 
--- two neighbouring levels, as the boundary reads them
-pub two_levels : (ls : List Level) (m : ℕ) (lower upper : List (List ℕ)) → IsIndex ls → 0 < m → m < length ls → lower ≡ level (lists ls) (m - 1) → upper ≡ level (lists ls) m
-    → IsStrictlySortedBy simplex_cmp lower × ((length lower < 2 ^ 32) × Each (λ s. Each (λ t. Among t lower) (faces s)) upper)
-two_levels ls zero lower upper i o l e f = absurd (omega arith)
-two_levels ls (suc n) lower upper i o l e f =
-    let q : n + 1 ≡ suc n = omega arith in
-    let low : lower ≡ level (lists ls) n = e ∙ ap (level (lists ls)) (sub-one (suc n)) in
-    let up : upper ≡ level (lists ls) (n + 1) = f ∙ ap (level (lists ls)) (sym q) in
-    let w = i.fits n (omega arith) in (
-      subst (IsStrictlySortedBy simplex_cmp) (sym low) (i.ordered n),
-      (
-        omega (arith, ap length low, i.small n),
-        subst (λ (ks : List (List ℕ)). Each (λ s. Each (λ t. Among t ks) (faces s)) upper) (sym low)
-            (subst (Each (λ s. Each (λ t. Among t (level (lists ls) n)) (faces s))) (sym up) (places_present (level (lists ls) n) (level (lists ls) (n + 1)) w.faces w.places)),
-      ),
-    )
+pub faces_count : (ls : List Level) (n : ℕ) → IsIndex ls → 0 < n → n < length ls → length (faces_at ls n) ≡ length (level (lists ls) n)
+faces_count ls n i o l = places_length (level (lists ls) (n - 1)) (level (lists ls) n) (faces_at ls n) (fits_at ls n i o l).places
+
+pub cofaces_count : (ls : List Level) (n : ℕ) → IsIndex ls → n + 1 < length ls → length (cofaces_at ls (n + 1)) ≡ length (level (lists ls) n)
+cofaces_count ls n i l = (i.indexed.fits n l).len
+
+-- a simplex stands in the level of its size
+pub sized_at : (ls : List Level) (n : ℕ) (s : List ℕ) → IsIndex ls → Among s (level (lists ls) n) → (length s ≡ n + 1) × (n < length ls)
+sized_at ls n s i m = (each_among (λ t. length t ≡ n + 1) s (level (lists ls) n) (i.levels.sizes n) m, inside_is ls n 0 (some_among s (level (lists ls) n) m))
+
+pub nowhere_else : (ls : List Level) (n : ℕ) (s : List ℕ) (l : List (List ℕ)) → IsIndex ls → l ≡ level (lists ls) (length s - 1) → (Among (s ++ []) l → ⊥) → Among s (level (lists ls) n) → ⊥
+nowhere_else ls n s l i e f m =
+    let size : n ≡ length s - 1 = omega (arith, (sized_at ls n s i m).0) in
+    f (subst (λ (t : List ℕ). Among t l) (nothing_behind s) (subst (Among s) (ap (level (lists ls)) size ∙ sym e) m))
+  where
+    nothing_behind : (xs : List ℕ) → xs ≡ xs ++ []
+    nothing_behind [] = refl
+    nothing_behind (x ∷ xs) = ap (λ ys. x ∷ ys) (nothing_behind xs)

@@ -1,4 +1,4 @@
-mod Searching
+mod Bounds
 mod FacePlaces
 mod LevelLemmas
 pub mod Alternating

@@ -18,8 +18,7 @@ use Rattle.simplicial_law.specs.Places.{IsCoboundaryRow, terms_of}
 use Rattle.simplicial_law.proofs.ListedSimplices.{each_of}
 use Rattle.sparse_rows.specs.Rows.{IsBelow, IsRow, value_in}
 use Rattle.complex_index.specs.Chains.{IsBoundaryOf, IsCoboundaryOf, boundary_coefficient, shrunk, spread}
-use Rattle.complex_index.specs.Incidence.{ArePlacesOf}
-use Rattle.complex_index.specs.Levels.{Fits, IsIndex, lists, level, cofaces_at}
+use Rattle.complex_index.specs.Levels.{Fits, IsIndex, lists, level, cofaces_at, faces_at}
 use Rattle.complex_index.proofs.Alternating.{boundary_is, coboundary_is, pair_value, shrunk_below, spread_below}
 use Rattle.complex_index.proofs.FacePlaces.{each_push}
 use Rattle.complex_index.proofs.LevelLemmas.{places_length}
@@ -55,31 +54,30 @@ values_of p k w row pairs s h = Congruent_trans (Congruent_of (s k)) (Congruent_
 pub coboundary_at : (p : ℕ) (ls : List Level) (n : ℕ) (low pairs row : List (ℕ × ℕ)) → 1 < p → IsIndex ls → n + 1 < length ls → IsBelow (length (level (lists ls) n)) low
     → pairs ≡ spread p (cofaces_at ls (n + 1)) low → ((k : ℕ) → value_in row k ≡ value_in pairs k % p) → IsRow p row → IsCoboundaryOf p (lists ls) n low row
 coboundary_at p ls n low pairs row h i l f e s r =
-    let w = i.fits n l in
+    let w = i.indexed.fits n l in
     record {
       inside = row_below p (length (level (lists ls) (n + 1))) row pairs r s
           (subst (IsBelow (length (level (lists ls) (n + 1)))) (sym e)
-          (spread_below p (length (level (lists ls) (n + 1))) w.faces (cofaces_at ls (n + 1)) low w.cofaces (omega (arith, places_length (level (lists ls) n) (level (lists ls) (n + 1)) w.faces w.places))));
+          (spread_below p (length (level (lists ls) (n + 1))) (faces_at ls (n + 1)) (cofaces_at ls (n + 1)) low w.cofaces (omega (arith, places_length (level (lists ls) n) (level (lists ls) (n + 1)) (faces_at ls (n + 1)) w.places))));
       values = λ k b. values_of p k (coboundary p (cochain_of (terms_of (level (lists ls) n) low)) (get_or (level (lists ls) (n + 1)) k [])) row pairs s
           (subst (λ (ts : List (ℕ × ℕ)). Congruent p (value_in ts k) (coboundary p (cochain_of (terms_of (level (lists ls) n) low)) (get_or (level (lists ls) (n + 1)) k []))) (sym e)
-          (coboundary_is p (level (lists ls) n) (level (lists ls) (n + 1)) w.faces (cofaces_at ls (n + 1)) low k h (i.ordered n) w.places w.cofaces f b));
+          (coboundary_is p (level (lists ls) n) (level (lists ls) (n + 1)) (faces_at ls (n + 1)) (cofaces_at ls (n + 1)) low k h (i.levels.ordered n) w.places w.cofaces f b));
     }
 
 pub boundary_at : (p : ℕ) (ls : List Level) (m : ℕ) (high pairs row : List (ℕ × ℕ)) → 1 < p → IsIndex ls → 0 < m → m < length ls → IsBelow (length (level (lists ls) m)) high
-    → ((pss : List (List ℕ)) → ArePlacesOf (level (lists ls) (m - 1)) (level (lists ls) m) pss → pairs ≡ shrunk p pss high) → ((k : ℕ) → value_in row k ≡ value_in pairs k % p) → IsRow p row → IsBoundaryOf p (lists ls) m high row
+    → pairs ≡ shrunk p (faces_at ls m) high → ((k : ℕ) → value_in row k ≡ value_in pairs k % p) → IsRow p row → IsBoundaryOf p (lists ls) m high row
 boundary_at p ls zero high pairs row h i o l f e s r = absurd (omega arith)
 boundary_at p ls (suc n) high pairs row h i o l f e s r =
     let q : n + 1 ≡ suc n = omega arith in
-    let w = subst (λ (m : ℕ). Fits (level (lists ls) n) (level (lists ls) m) (cofaces_at ls m)) q (i.fits n (omega arith)) in
-    let made_of : pairs ≡ shrunk p w.faces high = e w.faces (subst (λ (d : ℕ). ArePlacesOf (level (lists ls) d) (level (lists ls) (suc n)) w.faces) (sym (sub-one (suc n))) w.places) in
+    let w = subst (λ (m : ℕ). Fits (level (lists ls) n) (level (lists ls) m) (faces_at ls m) (cofaces_at ls m)) q (i.indexed.fits n (omega arith)) in
     let At : ℕ → Type 0 = λ d. IsBelow (length (level (lists ls) d)) row
     × ((k : ℕ) → k < length (level (lists ls) d) → Congruent p (value_in row k) (boundary_coefficient p (terms_of (level (lists ls) (suc n)) high) (get_or (level (lists ls) d) k []))) in
     let made : At (suc n - 1) = subst At (sym (sub-one (suc n))) (
       row_below p (length (level (lists ls) n)) row pairs r s
-          (subst (IsBelow (length (level (lists ls) n))) (sym made_of) (shrunk_below p (level (lists ls) n) (level (lists ls) (suc n)) w.faces high w.places)),
+          (subst (IsBelow (length (level (lists ls) n))) (sym e) (shrunk_below p (level (lists ls) n) (level (lists ls) (suc n)) (faces_at ls (suc n)) high w.places)),
       λ k b. values_of p k (boundary_coefficient p (terms_of (level (lists ls) (suc n)) high) (get_or (level (lists ls) n) k [])) row pairs s
-          (subst (λ (ts : List (ℕ × ℕ)). Congruent p (value_in ts k) (boundary_coefficient p (terms_of (level (lists ls) (suc n)) high) (get_or (level (lists ls) n) k []))) (sym made_of)
-          (boundary_is p (level (lists ls) n) (level (lists ls) (suc n)) w.faces high k h (i.ordered n) w.places f b)),
+          (subst (λ (ts : List (ℕ × ℕ)). Congruent p (value_in ts k) (boundary_coefficient p (terms_of (level (lists ls) (suc n)) high) (get_or (level (lists ls) n) k []))) (sym e)
+          (boundary_is p (level (lists ls) n) (level (lists ls) (suc n)) (faces_at ls (suc n)) high k h (i.levels.ordered n) w.places f b)),
     ) in
     record { inside = made.0; values = made.1 }
 

@@ -1,13 +1,11 @@
 -- Boundaries of chains, and the pairs of a place and a value that the code makes.
-use Rattle.std.specs.Prelude.{ℕ, ◌+◌, ◌-◌, ◌*◌, ◌%◌, ◌<◌, Bool, false, not, cond, List, [], ◌∷◌, ◌++◌, map, length, get_or, Vec}
-use Rattle.std.specs.declared.alloc.Global.{Global}
+use Rattle.std.specs.Prelude.{ℕ, ◌+◌, ◌-◌, ◌*◌, ◌%◌, ◌<◌, Bool, false, not, cond, List, [], ◌∷◌, ◌++◌, map, length, get_or}
 use Rattle.linear_law.specs.Congruence.{Congruent, negated, sum_over}
 use Rattle.simplicial_law.specs.Cochains.{Chain, boundary, coboundary, pairing, unit_cochain}
 use Rattle.simplicial_law.specs.CanonicalClasses.{cochain_of}
 use Rattle.simplicial_law.specs.Places.{terms_of}
 use Rattle.sparse_rows.specs.Rows.{IsBelow, value_in}
-use Rattle.complex_index.specs.declared.incidence.Coface.{Coface}
-use Rattle.complex_index.specs.Incidence.{list_at}
+use Rattle.complex_index.specs.declared.cofaces.Coface.{Coface}
 use Rattle.complex_index.specs.Levels.{level}
 
 -- the coefficient of the simplex t in the boundary of a chain
@@ -38,9 +36,9 @@ abbrev pub pair_of : ℕ → ℕ → Coface → ℕ × ℕ
 pair_of p a c = (c.place, signed_value p a c.odd)
 
 -- the pairs of a coboundary: for each pair of the row the simplices above
-abbrev pub spread : ℕ → List (Vec Coface Global) → List (ℕ × ℕ) → List (ℕ × ℕ)
+abbrev pub spread : ℕ → List (List Coface) → List (ℕ × ℕ) → List (ℕ × ℕ)
 spread p above [] = []
-spread p above (e ∷ es) = map (pair_of p e.1) (list_at above e.0) ++ spread p above es
+spread p above (e ∷ es) = map (pair_of p e.1) (get_or above e.0 []) ++ spread p above es
 
 abbrev pub signed_places : ℕ → ℕ → Bool → List ℕ → List (ℕ × ℕ)
 signed_places p a odd [] = []

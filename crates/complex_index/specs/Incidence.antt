@@ -1,7 +1,7 @@
 -- The faces of simplices, and the simplices above each, by their places in lists of simplices.
-use Rattle.std.specs.Prelude.{◌≡◌, ℕ, zero, suc, ◌<◌, ◌==◌, Bool, false, not, cond, List, [], ◌∷◌, ◌++◌, map, length, get_or, Vec}
+use Rattle.std.specs.Prelude.{◌≡◌, ℕ, zero, suc, ◌-◌, ◌<◌, ◌≤◌, ◌==◌, Bool, false, not, cond, List, [], ◌∷◌, ◌++◌, map, length, get_or, take, drop, Vec}
 use Rattle.std.specs.declared.alloc.Global.{Global}
-use Rattle.complex_index.specs.declared.incidence.Coface.{Coface}
+use Rattle.complex_index.specs.declared.cofaces.Coface.{Coface}
 use Rattle.linear_law.specs.Lists.{Each}
 use Rattle.simplicial_law.specs.Cochains.{faces}
 
@@ -13,6 +13,12 @@ simplex_at ks x = get_or ks x []
 pub record ArePlaces (lower : List (List ℕ)) (s : List ℕ) (ps : List ℕ) : Type 0 where
   pub below : Each (λ x. x < length lower) ps
   pub places : map (simplex_at lower) ps ≡ faces s
+
+-- the list grows by the places of the faces of s
+pub record AddsPlaces (lower : List (List ℕ)) (s old new : List ℕ) : Type 0 where
+  pub added : List ℕ
+  pub is : new ≡ old ++ added
+  pub places : ArePlaces lower s added
 
 -- each list has the places of the faces of the simplex at its place
 abbrev pub ArePlacesOf : List (List ℕ) → List (List ℕ) → List (List ℕ) → Type 0
@@ -31,6 +37,8 @@ abbrev pub above_at : ℕ → ℕ → List (List ℕ) → List Coface
 above_at x y [] = []
 above_at x y (ps ∷ pss) = marks x y false ps ++ above_at x (suc y) pss
 
+-- ---- lists of lists, as the code keeps them
+
 abbrev pub lists_of : {X : Type 0} → List (Vec X Global) → List (List X)
 lists_of {X} vs = map (λ (v : Vec X Global). v.items) vs
 
@@ -39,3 +47,15 @@ abbrev pub list_at : {X : Type 0} → List (Vec X Global) → ℕ → List X
 list_at [] x = []
 list_at (v ∷ vs) zero = v.items
 list_at (v ∷ vs) (suc x) = list_at vs x
+
+-- the parts of a list from each bound to the next
+abbrev pub parts : {X : Type 0} → List ℕ → List X → List (List X)
+parts [] xs = []
+parts (a ∷ []) xs = []
+parts (a ∷ (b ∷ bs)) xs = take (b - a) (drop a xs) ∷ parts (b ∷ bs) xs
+
+-- the bounds do not fall, and are n at most
+abbrev pub AreBounds : ℕ → List ℕ → Type 0
+AreBounds n [] = Unit {0}
+AreBounds n (a ∷ []) = a ≤ n
+AreBounds n (a ∷ (b ∷ bs)) = (a ≤ b) × AreBounds n (b ∷ bs)

@@ -1,16 +1,11 @@
-ghost use Rattle.std.specs.Prelude.{◌≡◌, ℕ, ◌<◌, ◌^◌, ◌++◌, List, false, map, length, IfOk, OnOk, IsTrue};
-ghost use Rattle.std.specs.List.Sorted.{IsStrictlySortedBy};
-ghost use Rattle.linear_law.specs.Lists.{Among, Each};
-ghost use Rattle.simplicial_law.specs.Cochains.{faces};
-ghost use Rattle.simplicial_law.specs.ListedSimplices.{simplex_cmp};
+ghost use Rattle.std.specs.Prelude.{◌≡◌, ◌++◌, false, map, length, IfOk, OnOk, IsTrue};
 ghost use Rattle.fp_field.specs.Served.{served};
 ghost use Rattle.sparse_rows.specs.Rows.{IsBelow};
-ghost use Rattle.complex_index.specs.Incidence.{ArePlacesOf};
 ghost use Rattle.complex_index.specs.Chains.{pair_of, shrunk, signed_places, signed_value as signed_value_is, spread};
 
-use crate::incidence::{Coface, places_of};
+use crate::cofaces::{Coface, Cofaces};
 use fp_field::Fp;
-use simplex_set::Simplex;
+use simplex_set::FlatLists;
 use std::alloc::{AllocError, Global};
 
 fn signed_value<const P: u32>(value: Fp<P>, odd: bool) -> Fp<P>
@@ -37,7 +32,7 @@ fn put_cofaces<const P: u32>(
 // The pairs of the coboundary of a row.
 pub(crate) fn coboundary_pairs<const P: u32>(
     alloc: Global,
-    above: &[Vec<Coface>],
+    above: &Cofaces,
     row: &[(u32, Fp<P>)],
 ) -> Result<Vec<(u32, Fp<P>)>, AllocError>
     requires prime { IsTrue (served P) }
@@ -46,7 +41,7 @@ pub(crate) fn coboundary_pairs<const P: u32>(
 {
     let mut found = Vec::new(alloc);
     for pair in row {
-        put_cofaces(&mut found, &above[pair.0 as usize], pair.1)?;
+        put_cofaces(&mut found, above.get(pair.0 as usize), pair.1)?;
     }
     Ok(found)
 }
@@ -67,24 +62,19 @@ fn put_faces<const P: u32>(
     Ok(())
 }
 
-// The pairs of the boundary of a row.
+// The pairs of the boundary of a row, from the places of the faces of each simplex.
 pub(crate) fn boundary_pairs<const P: u32>(
     alloc: Global,
-    lower: &[Simplex],
-    upper: &[Simplex],
+    faces: &FlatLists,
     row: &[(u32, Fp<P>)],
 ) -> Result<Vec<(u32, Fp<P>)>, AllocError>
     requires prime { IsTrue (served P) }
-    requires ordered { IsStrictlySortedBy simplex_cmp lower.now }
-    requires small { length lower.now < 2 ^ 32 }
-    requires present { Each (λ s. Each (λ t. Among t lower.now) (faces s)) upper.now }
-    requires inside { IsBelow (length upper.now) row.now }
-    ensures { IfOk result (λ v. (places : List (List ℕ)) → ArePlacesOf lower.now upper.now places → v.items ≡ shrunk P places row.now) }
+    requires inside { IsBelow (length faces.now) row.now }
+    ensures { IfOk result (λ v. v.items ≡ shrunk P faces.now row.now) }
 {
     let mut found = Vec::new(alloc);
     for pair in row {
-        let places = places_of(alloc, lower, &upper[pair.0 as usize])?;
-        put_faces(&mut found, &places, pair.1)?;
+        put_faces(&mut found, faces.get(pair.0 as usize), pair.1)?;
     }
     Ok(found)
 }

@@ -1,125 +1,60 @@
-ghost use Rattle.std.specs.Prelude.{◌≡◌, ℕ, ◌<◌, ◌^◌, ◌++◌, ◌∷◌, [], ◌==◌, cond, false, length, get_or, IfOk, OnOk};
+ghost use Rattle.std.specs.Prelude.{◌≡◌, ◌<◌, ◌^◌, [], length, get_or, IfOk, OnOk};
 ghost use Rattle.std.specs.List.Sorted.{IsStrictlySortedBy};
 ghost use Rattle.linear_law.specs.Lists.{Among, Each};
 ghost use Rattle.simplicial_law.specs.Cochains.{faces};
 ghost use Rattle.simplicial_law.specs.ListedSimplices.{simplex_cmp};
-ghost use Rattle.complex_index.specs.Incidence.{ArePlaces, ArePlacesOf, marks, above_at, list_at, lists_of};
+ghost use Rattle.complex_index.specs.Incidence.{AddsPlaces, ArePlacesOf};
 
-use crate::place::place_among;
-use simplex_set::Simplex;
+use simplex_set::FlatLists;
 use std::alloc::{AllocError, Global};
 
-// The place of a simplex one degree above, and whether the face is that without a vertex at an odd
-// place.
-#[derive(Clone, Copy, Debug)]
-pub(crate) struct Coface {
-    pub place: u32,
-    pub odd: bool,
-}
-
 // The place of the face without the vertex at `at`.
-fn place_of_face(
-    alloc: Global,
-    lower: &[Simplex],
-    simplex: &Simplex,
-    at: usize,
-) -> Result<usize, AllocError>
+fn place_of_face(lower: &FlatLists, simplex: &[u32], at: usize) -> usize
     requires ordered { IsStrictlySortedBy simplex_cmp lower.now }
     requires inside { at < length simplex.now }
     requires present { Among (get_or (faces simplex.now) at []) lower.now }
-    ensures { IfOk result (λ k. (k < length lower.now) × (get_or lower.now k [] ≡ get_or (faces simplex.now) at [])) }
+    ensures below { result < length lower.now }
+    ensures same { get_or lower.now result [] ≡ get_or (faces simplex.now) at [] }
 {
-    let face = simplex.face(alloc, at)?;
-    match place_among(lower, face.vertices()) {
-        Some(place) => Ok(place),
+    match lower.place_of(&simplex[..at], &simplex[at + 1..]) {
+        Some(place) => place,
         None => unreachable!(),
     }
 }
 
-// The places of the faces of a simplex.
-pub(crate) fn places_of(
-    alloc: Global,
-    lower: &[Simplex],
-    simplex: &Simplex,
-) -> Result<Vec<u32>, AllocError>
+// Appends the places of the faces of a simplex.
+fn put_places(
+    places: &mut Vec<u32>,
+    lower: &FlatLists,
+    simplex: &[u32],
+) -> Result<(), AllocError>
     requires ordered { IsStrictlySortedBy simplex_cmp lower.now }
     requires small { length lower.now < 2 ^ 32 }
     requires present { Each (λ t. Among t lower.now) (faces simplex.now) }
-    ensures { IfOk result (λ v. ArePlaces lower.now simplex.now v.items) }
+    ensures { OnOk result (AddsPlaces lower.now simplex.now places.old.items places.new.items) }
 {
-    let mut places = Vec::new(alloc);
-    for at in 0..simplex.vertices().len() {
-        let place = place_of_face(alloc, lower, simplex, at)?;
-        places.push(place as u32)?;
+    for at in 0..simplex.len() {
+        places.push(place_of_face(lower, simplex, at) as u32)?;
     }
-    Ok(places)
+    Ok(())
 }
 
 // The places of the faces of each simplex of a list.
 pub(crate) fn face_places(
     alloc: Global,
-    lower: &[Simplex],
-    upper: &[Simplex],
-) -> Result<Vec<Vec<u32>>, AllocError>
+    size: usize,
+    lower: &FlatLists,
+    upper: &FlatLists,
+) -> Result<FlatLists, AllocError>
     requires ordered { IsStrictlySortedBy simplex_cmp lower.now }
     requires small { length lower.now < 2 ^ 32 }
+    requires sized { Each (λ s. length s ≡ size) upper.now }
     requires present { Each (λ s. Each (λ t. Among t lower.now) (faces s)) upper.now }
-    ensures { IfOk result (λ v. ArePlacesOf lower.now upper.now (lists_of v.items)) }
+    ensures { IfOk result (λ l. ArePlacesOf lower.now upper.now l) }
 {
-    let mut all = Vec::new(alloc);
-    for simplex in upper {
-        all.push(places_of(alloc, lower, simplex)?)?;
+    let mut places = Vec::new(alloc);
+    for y in 0..upper.len() {
+        put_places(&mut places, lower, upper.get(y))?;
     }
-    Ok(all)
-}
-
-fn add_mark(above: &mut [Vec<Coface>], at: usize, coface: Coface) -> Result<(), AllocError>
-    requires { at < length above.old }
-    ensures { OnOk result ((x : ℕ) → list_at above.new x ≡ list_at above.old x ++ cond (at == x) (coface ∷ []) []) }
-{
-    let list = &mut above[at];
-    list.push(coface)?;
-    Ok(())
-}
-
-// Marks the faces of the simplex y.
-fn mark(above: &mut [Vec<Coface>], y: u32, places: &[u32]) -> Result<(), AllocError>
-    requires { Each (λ x. x < length above.old) places.now }
-    ensures { OnOk result ((x : ℕ) → list_at above.new x ≡ list_at above.old x ++ marks x y false places.now) }
-{
-    let mut odd = false;
-    for place in places {
-        add_mark(above, *place as usize, Coface { place: y, odd })?;
-        odd = !odd;
-    }
-    Ok(())
-}
-
-fn empty_lists(alloc: Global, count: usize) -> Result<Vec<Vec<Coface>>, AllocError>
-    ensures len { IfOk result (λ v. length v.items ≡ count) }
-    ensures empty { IfOk result (λ v. (x : ℕ) → list_at v.items x ≡ []) }
-{
-    let mut all = Vec::new(alloc);
-    for _ in 0..count {
-        all.push(Vec::new(alloc))?;
-    }
-    Ok(all)
-}
-
-// The simplices above each of `count` simplices.
-pub(crate) fn cofaces(
-    alloc: Global,
-    count: usize,
-    faces: &[Vec<u32>],
-) -> Result<Vec<Vec<Coface>>, AllocError>
-    requires few { length faces.now < 2 ^ 32 }
-    requires below { Each (λ ps. Each (λ x. x < count) ps) (lists_of faces.now) }
-    ensures len { IfOk result (λ v. length v.items ≡ count) }
-    ensures above { IfOk result (λ v. (x : ℕ) → list_at v.items x ≡ above_at x 0 (lists_of faces.now)) }
-{
-    let mut all = empty_lists(alloc, count)?;
-    for (y, places) in faces.iter().enumerate() {
-        mark(&mut all, y as u32, places)?;
-    }
-    Ok(all)
+    Ok(FlatLists::from_flat(size, upper.len(), places))
 }

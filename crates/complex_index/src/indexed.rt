@@ -6,13 +6,13 @@ ghost use Rattle.simplicial_law.specs.Places.{IsCoboundaryRow};
 ghost use Rattle.fp_field.specs.Served.{served};
 ghost use Rattle.sparse_rows.specs.Rows.{IsBelow, value_in};
 ghost use Rattle.complex_index.specs.Chains.{IsBoundaryOf, IsCoboundaryOf};
+ghost use Rattle.complex_index.specs.Incidence.{ArePlaces};
 ghost use Rattle.complex_index.specs.Levels.{IsComplexIndex, IsIndexOf, level};
 
 use crate::chains::{boundary_pairs, coboundary_pairs};
 use crate::levels::{Level, levels_of};
-use crate::place::place_among;
 use fp_field::Fp;
-use simplex_set::{Simplex, simplices_of};
+use simplex_set::Complex;
 use sparse_rows::Row;
 use std::alloc::{AllocError, Global};
 use std::marker::Model;
@@ -42,15 +42,14 @@ impl Model for Indexed {
 }
 
 impl Indexed {
-    /// All simplices of the complex with these facets.
-    pub fn of(alloc: Global, facets: &[Simplex]) -> Result<Indexed, AllocError>
-        requires ascending { Each IsAscending facets.now }
-        requires short { Each (λ f. length f ≤ 16) facets.now }
-        requires few { length (simplices facets.now) < 2 ^ 32 }
-        ensures { IfOk result (λ x. IsIndexOf facets.now x) }
+    /// All simplices of the complex, which has facets of at most 16 ascending vertices.
+    pub fn of(alloc: Global, complex: &Complex) -> Result<Indexed, AllocError>
+        requires ascending { Each IsAscending complex.now }
+        requires short { Each (λ f. length f ≤ 16) complex.now }
+        requires few { length (simplices complex.now) < 2 ^ 32 }
+        ensures { IfOk result (λ x. IsIndexOf complex.now x) }
     {
-        let all = simplices_of(alloc, facets)?;
-        let levels = levels_of(alloc, &all)?;
+        let levels = levels_of(alloc, complex.levels())?;
         Ok(Indexed { levels })
     }
 
@@ -58,6 +57,7 @@ impl Indexed {
     pub fn degrees(&self) -> u32
         ensures same { result ≡ length self.now }
         ensures complex { IsComplexIndex self.now }
+        ensures few { result ≤ 16 }
     {
         self.levels.len() as u32
     }
@@ -77,7 +77,7 @@ impl Indexed {
         requires { place < length (level self.now n) }
         ensures { result.now ≡ get_or (level self.now n) place [] }
     {
-        self.levels[n as usize].simplices[place as usize].vertices()
+        self.levels[n as usize].simplices.get(place as usize)
     }
 
     /// The place of the simplex with these vertices among those of its degree; `None` exactly where it
@@ -89,10 +89,20 @@ impl Indexed {
         if size == 0 || size > self.levels.len() {
             return None;
         }
-        match place_among(&self.levels[size - 1].simplices, vertices) {
+        match self.levels[size - 1].simplices.place_of(vertices, &[]) {
             Some(place) => Some(place as u32),
             None => None,
         }
+    }
+
+    /// The places of the faces of a simplex of degree `n` among those one degree below: of the face
+    /// without the first vertex, the second, and so on.
+    pub fn faces(&self, n: u32, place: u32) -> &[u32]
+        requires positive { 0 < n }
+        requires inside { place < length (level self.now n) }
+        ensures { ArePlaces (level self.now (n - 1)) (get_or (level self.now n) place []) result.now }
+    {
+        self.levels[n as usize].faces.get(place as usize)
     }
 
     // The row of the coboundary of a row.
@@ -129,9 +139,7 @@ impl Indexed {
         if degree as usize >= self.levels.len() {
             return Ok(Row::new(alloc));
         }
-        let lower = &self.levels[degree as usize - 1].simplices;
-        let upper = &self.levels[degree as usize].simplices;
-        let pairs = boundary_pairs(alloc, lower, upper, row)?;
+        let pairs = boundary_pairs(alloc, &self.levels[degree as usize].faces, row)?;
         Row::from_pairs(alloc, &pairs)
     }
 

@@ -2,10 +2,10 @@
 #![tactic(auto)]
 
 mod chains;
+mod cofaces;
 mod incidence;
 mod indexed;
 mod levels;
-mod place;
 
 pub use indexed::{Cochain, Indexed};
 

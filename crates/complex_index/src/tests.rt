@@ -2,20 +2,20 @@ ghost use Rattle.std.specs.Prelude.{◌≡◌, [], ◌∷◌, IfOk};
 
 use crate::{Cochain, Indexed};
 use fp_field::Fp;
-use simplex_set::Simplex;
+use simplex_set::{Complex, Simplex};
 use sparse_rows::Row;
 use std::alloc::{AllocError, Global};
 use std::test::Fail;
 
 // The edges of a triangle.
-fn circle(alloc: Global) -> Result<Vec<Simplex>, AllocError>
-    ensures { IfOk result (λ v. v.items ≡ (0 ∷ 1 ∷ []) ∷ (0 ∷ 2 ∷ []) ∷ (1 ∷ 2 ∷ []) ∷ []) }
+fn circle(alloc: Global) -> Result<Complex, AllocError>
+    ensures { IfOk result (λ c. c ≡ (0 ∷ 1 ∷ []) ∷ (0 ∷ 2 ∷ []) ∷ (1 ∷ 2 ∷ []) ∷ []) }
 {
     let mut facets = Vec::new(alloc);
     facets.push(Simplex::new(alloc, &[0, 1])?)?;
     facets.push(Simplex::new(alloc, &[0, 2])?)?;
     facets.push(Simplex::new(alloc, &[1, 2])?)?;
-    Ok(facets)
+    Complex::of(alloc, facets)
 }
 
 // The row of the edges from 0 to 1, from 1 to 2 and from 2 to 0.
@@ -31,16 +31,16 @@ fn way_around(alloc: Global) -> Result<Row<3>, AllocError>
 
 #[test]
 fn a_circle_has_coboundaries_and_boundaries(rt: HostRuntime) -> Result<(), Fail> {
-    let facets = circle(rt.alloc())?;
-    let circle = Indexed::of(rt.alloc(), &facets)?;
+    let circle = Indexed::of(rt.alloc(), &circle(rt.alloc())?)?;
     assert_eq!(rt; circle.degrees(), 2);
     assert_eq!(rt; circle.count(2), 0);
+    assert!(rt; circle.count(0) == 3);
+    assert!(rt; circle.count(1) == 3);
     assert_eq!(rt; circle.place_of(&[0, 2]), Some(1));
     assert_eq!(rt; circle.place_of(&[0, 1, 2]), None);
     assert_eq!(rt; circle.place_of(&[3]), None);
-    assert!(rt; circle.count(0) == 3);
-    assert!(rt; circle.count(1) == 3);
-
+    assert_eq!(rt; circle.simplex(1, 2), [1u32, 2].as_slice());
+    assert_eq!(rt; circle.faces(1, 2), [2u32, 1].as_slice());
     let mut row = Row::new(rt.alloc());
     row.push_last(1, Fp::<3>::new(1))?;
     let edges = circle.coboundary(rt.alloc(), &Cochain { degree: 0, row })?;

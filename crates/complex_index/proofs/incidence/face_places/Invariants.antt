@@ -1,6 +1,7 @@
-use Rattle.std.proofs.Common.{take}
-use Rattle.complex_index.specs.Incidence.{ArePlacesOf, lists_of}
+use Rattle.std.proofs.Common.{◌≡◌, ◌*◌, length, take}
+use Rattle.simplex_set.specs.Pieces.{pieces}
+use Rattle.complex_index.specs.Incidence.{ArePlacesOf}
 use Rattle.complex_index.proofs.incidence.face_places.Given as goal
 
-abbrev pub invariant-loop-simplex : goal.invariant-loop-simplex
-invariant-loop-simplex l = ArePlacesOf l.lower (take l.simplex-index l.upper) (lists_of l.all.items)
+abbrev pub invariant-loop-y : goal.invariant-loop-y
+invariant-loop-y l = (length l.places.items ≡ l.y * l.size) × ArePlacesOf l.lower (take l.y l.upper) (pieces l.size l.y l.places.items)

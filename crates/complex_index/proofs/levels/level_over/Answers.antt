@@ -1,15 +1,11 @@
-use Rattle.std.proofs.Common.{◌<◌, ◌^◌, ap, sym, length, arith, List, ℕ, subst, Vec, Global}
-use Rattle.std.proofs.lemmas.List.{length-map}
+use Rattle.std.proofs.Common.{◌<◌, arith, subst, sym, ℕ, List}
 use Rattle.linear_law.specs.Lists.{Each}
-use Rattle.complex_index.specs.Incidence.{lists_of}
-use Rattle.complex_index.proofs.LevelLemmas.{places_below, few_places}
+use Rattle.complex_index.proofs.LevelLemmas.{places_below, places_length}
 use Rattle.complex_index.proofs.levels.level_over.Goals as goal
 
-pub cofaces-requires-clause-few : goal.cofaces-requires-clause-few
-cofaces-requires-clause-few c =
-    omega (arith, few_places c.args.lower.now c.deref.result.now (lists_of c.in_ok-faces.faces.items) (2 ^ 32) c.in_ok-faces.ensures (omega (arith, ap length c.deref.ensures.value, c.requires.few)), length-map c.in_ok-faces.faces.items (λ (v : Vec ℕ Global). v.items), ap length c.deref-2.ensures.value)
+pub cofaces_of-requires-clause-few : goal.cofaces_of-requires-clause-few
+cofaces_of-requires-clause-few c = omega (arith, c.requires.few, places_length c.args.lower.now c.args.simplices.now c.in_ok-faces.faces c.in_ok-faces.ensures)
 
-pub cofaces-requires-clause-below : goal.cofaces-requires-clause-below
-cofaces-requires-clause-below c =
-    let h = places_below c.args.lower.now c.deref.result.now (lists_of c.in_ok-faces.faces.items) c.in_ok-faces.ensures in
-    subst (λ (vs : List (Vec ℕ Global)). Each (λ (ps : List ℕ). Each (λ (x : ℕ). x < length c.args.lower.now) ps) (lists_of vs)) (sym c.deref-2.ensures.value) h
+pub cofaces_of-requires-clause-below : goal.cofaces_of-requires-clause-below
+cofaces_of-requires-clause-below c =
+    subst (λ (n : ℕ). Each (λ (ps : List ℕ). Each (λ (x : ℕ). x < n) ps) c.in_ok-faces.faces) (sym c.len.ensures) (places_below c.args.lower.now c.args.simplices.now c.in_ok-faces.faces c.in_ok-faces.ensures)

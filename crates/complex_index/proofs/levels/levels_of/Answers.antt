@@ -1,20 +1,13 @@
-use Rattle.std.proofs.Common.{◌≡◌, ◌∙◌, ◌+◌, ap, sym, length, arith, List, ℕ, subst}
-use Rattle.complex_index.specs.declared.levels.Level.{Level}
-use Rattle.complex_index.specs.Levels.{AreLevels, Fits, level, lists}
-use Rattle.simplicial_law.specs.ListedSimplices.{of_degree}
-use Rattle.complex_index.proofs.LevelLemmas.{length_bound, levels_push}
+use Rattle.std.proofs.Common.{arith}
+use Rattle.complex_index.proofs.LevelLemmas.{partly_all, partly_more, partly_none}
 use Rattle.complex_index.proofs.levels.levels_of.Goals as goal
 
-pub next_level-requires-clause-room : goal.next_level-requires-clause-room
-next_level-requires-clause-room c = omega (arith, length_bound c.args.all.now c.largest-top.result c.requires.short c.largest-top.ensures, ap length c.deref.ensures.value, c.loop.invariant.len)
+pub loop-n-init : goal.loop-n-init
+loop-n-init c = partly_none c.args.all.now c.new-levels.result.items c.new-levels.ensures.items
 
-pub loop-preserved : goal.loop-preserved
-loop-preserved c =
-    let now : c.deref.result.now ≡ c.loop.levels.items = c.deref.ensures.value in
-    record {
-      len = omega (arith, c.in_ok-push.ensures.len, c.loop.invariant.len);
-      levels = subst (λ (ls : List Level). AreLevels c.args.all.now ls) (sym c.in_ok-push.ensures.items)
-          (levels_push c.args.all.now c.loop.levels.items c.in_ok-next.next c.loop.invariant.levels
-          (c.in_ok-next.ensures.same ∙ ap (λ (ls : List Level). of_degree (length ls) c.args.all.now) now)
-          (subst (λ (ls : List Level). (n : ℕ) → n + 1 ≡ length ls → Fits (level (lists ls) n) c.in_ok-next.next.simplices.items c.in_ok-next.next.cofaces.items) now c.in_ok-next.ensures.fits));
-    }
+pub loop-n-preserved : goal.loop-n-preserved
+loop-n-preserved c =
+    partly_more c.args.all.now c.loop-n.n c.loop-n.levels.items c.push.new.self.items c.in_ok-level_at.field-0 (omega arith) c.loop-n.invariant c.in_ok-push.ensures.items c.in_ok-level_at.ensures.same c.in_ok-level_at.ensures.fits
+
+pub returns : goal.returns
+returns c = partly_all c.args.all.now c.loop-n.n c.loop-n.levels.items c.loop-n-test.false c.loop-n.invariant

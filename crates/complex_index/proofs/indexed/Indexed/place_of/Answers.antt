@@ -1,18 +1,31 @@
-use Rattle.std.proofs.Common.{◌≡◌, ◌∙◌, ◌-◌, ap, sym, subst, length, arith, List, ℕ}
+use Rattle.std.proofs.Common.{◌≡◌, ◌-◌, ap, sym, subst, length, arith, List, ℕ}
 use Rattle.std.specs.List.Sorted.{IsStrictlySortedBy}
+use Rattle.linear_law.specs.Lists.{Among}
 use Rattle.simplicial_law.specs.ListedSimplices.{simplex_cmp}
-use Rattle.complex_index.specs.Levels.{level, lists}
-use Rattle.complex_index.proofs.LevelLemmas.{last_is}
+use Rattle.complex_index.specs.Levels.{level}
+use Rattle.complex_index.proofs.LevelLemmas.{nowhere_else, simplices_is, sized_at}
 use Rattle.complex_index.proofs.indexed.Indexed.place_of.Goals as goal
+use Rattle.complex_index.proofs.indexed.Indexed.place_of.Goals.{then-size-eq0-via-then-size-eq0, then-size-eq0-via-else-size-eq0+then-size-len}
 
-pub place_among-requires : goal.place_among-requires
-place_among-requires c =
-    let n : ℕ = length c.args.vertices.now - 1 in
-    let e : c.deref.result.now ≡ level (lists c.self.inside.levels.items) n = c.deref.ensures.value ∙ last_is c.self.inside.levels.items n c.index.result.now (omega arith) c.index.ensures in
-    subst (λ (ks : List (List ℕ)). IsStrictlySortedBy simplex_cmp ks) (sym e) (c.self.invariant.ordered n)
+pub returns-then-size-eq0 : goal.returns-then-size-eq0
+returns-then-size-eq0 c = λ n m.
+    let k = sized_at c.self.inside.levels.items n c.args.vertices.now c.self.invariant (subst (λ (ls : List (List (List ℕ))). Among c.args.vertices.now (level ls n)) (sym c.self.view_is) m) in
+    elim c.then-size-eq0.branch [
+      | then-size-eq0-via-then-size-eq0 w ↦ absurd (omega (arith, k.0, w.if-size-eq0.true))
+      | then-size-eq0-via-else-size-eq0+then-size-len w ↦ absurd (omega (arith, k.0, k.1, w.if-size-len.true, w.len.ensures))
+    ]
+
+pub place_of-requires : goal.place_of-requires
+place_of-requires c =
+    subst (IsStrictlySortedBy simplex_cmp) (sym (simplices_is c.self.inside.levels.items (length c.args.vertices.now - 1) c.index.result.now (omega arith) c.index.ensures))
+    (c.self.invariant.levels.ordered (length c.args.vertices.now - 1))
 
 pub overflow_cast-result : goal.overflow_cast-result
 overflow_cast-result c =
-    let n : ℕ = length c.args.vertices.now - 1 in
-    let e : c.deref.result.now ≡ level (lists c.self.inside.levels.items) n = c.deref.ensures.value ∙ last_is c.self.inside.levels.items n c.index.result.now (omega arith) c.index.ensures in
-    omega (arith, ap length e, c.in-Some.ensures.0, c.self.invariant.small n)
+    omega (arith, ap length (simplices_is c.self.inside.levels.items (length c.args.vertices.now - 1) c.index.result.now (omega arith) c.index.ensures), c.in-Some.ensures.0, c.self.invariant.levels.small (length c.args.vertices.now - 1))
+
+pub returns-in-None : goal.returns-in-None
+returns-in-None c = λ n m.
+    nowhere_else c.self.inside.levels.items n c.args.vertices.now c.index.result.now.simplices c.self.invariant
+    (simplices_is c.self.inside.levels.items (length c.args.vertices.now - 1) c.index.result.now (omega arith) c.index.ensures) c.in-None.ensures
+    (subst (λ (ls : List (List (List ℕ))). Among c.args.vertices.now (level ls n)) (sym c.self.view_is) m)

@@ -1,6 +1,0 @@
-use Rattle.std.proofs.Common.{◌≡◌, ◌++◌, ℕ, length, drop}
-use Rattle.complex_index.specs.Incidence.{above_at, lists_of, list_at}
-use Rattle.complex_index.proofs.incidence.cofaces.Given as goal
-
-abbrev pub invariant-loop-y : goal.invariant-loop-y
-invariant-loop-y l = record { len : length l.all.items ≡ l.count; above : (x : ℕ) → list_at l.all.items x ++ above_at x l.y (lists_of (drop l.y l.faces)) ≡ above_at x 0 (lists_of l.faces) }

@@ -1,6 +1,0 @@
-use Rattle.std.proofs.Common.{take}
-use Rattle.complex_index.specs.Levels.{IsLargest}
-use Rattle.complex_index.proofs.levels.largest.Given as goal
-
-abbrev pub invariant-loop-simplex : goal.invariant-loop-simplex
-invariant-loop-simplex l = IsLargest (take l.simplex-index l.all) l.most
