@@ -2,6 +2,7 @@ pub mod Steps
 pub mod LineLemmas
 pub mod RepeatLemmas
 pub mod FacetLemmas
+pub mod VertexLemmas
 pub mod NameLemmas
 pub mod MapLemmas
 pub mod JobLemmas

@@ -1,5 +1,5 @@
 -- The vertices of complexes, and where a map sends them.
-use Rattle.std.proofs.Common.{◌≡◌, ◌∙◌, ◌+◌, ◌<◌, ◌≤◌, ◌&&◌, ◌||◌, List, [], ◌∷◌, ◌++◌, ℕ, suc, Bool, true, false, cond, refl, sym, ap, subst, arith, length, map, take, drop, get_or, add-one, drop-cons, append-nil, append_assoc, nat_eq}
+use Rattle.std.proofs.Common.{◌≡◌, ◌∙◌, ◌+◌, ◌<◌, ◌≤◌, ◌&&◌, ◌||◌, not, List, [], ◌∷◌, ◌++◌, ℕ, suc, Bool, true, false, cond, refl, sym, ap, subst, arith, length, map, take, drop, get_or, add-one, drop-cons, append-nil, append_assoc, nat_eq}
 use Rattle.std.specs.Prelude.{Ok, Err, Some, None, nat_le, is_some, unwrap_or}
 use Rattle.std.specs.declared.option.Option.{Option}
 use Rattle.std.specs.List.{list_all, list_any}
@@ -7,66 +7,18 @@ use Rattle.std.specs.Map.{lookup}
 use Rattle.std.proofs.lemmas.List.{drop_all, map-append, take_more}
 use Rattle.std.proofs.lemmas.List.Folds.{list_all-append, list_any-append}
 use Rattle.std.proofs.lemmas.Bool.{and_from, and_parts, eqb-true, leb-true, le-leb, lt-leb}
-use Rattle.indexmap.specs.IndexSet.{insert_key}
 use Rattle.simplicial_law.specs.Simplices.{subsets}
 use Rattle.complex_file.specs.declared.block.Sent.{Sent}
 use Rattle.complex_file.specs.declared.fault.LineFault.{LineFault}
 use Rattle.complex_file.specs.declared.fault.LineFault.TheVariants as fault
 use Rattle.complex_file.specs.declared.kind.InputKind.{InputKind}
+use Rattle.complex_file.specs.declared.kind.InputKind.TheVariants.{VertexSentTwice, VertexUnknown}
 use Rattle.complex_file.specs.Reading.{Fails}
 use Rattle.complex_file.proofs.Steps.{fault_free, fault_found, later_fault, later_none}
-use Rattle.complex_file.specs.Complexes.{has_vertex}
+use Rattle.complex_file.specs.Sends.{sends_in}
 use Rattle.complex_file.specs.Maps.{end_fault, first_send_fault, image, is_sent, is_vertex, keeps_edge, map_fault, send_fault, with_send}
 
--- ---- sets of vertices
-
-or_one : (a b : Bool) → a || (b || false) ≡ a || b
-or_one true b = refl
-or_one false true = refl
-or_one false false = refl
-
-or_twice : (a b c d : Bool) → a ≡ (b || c) → (a || d) ≡ (b || (c || d))
-or_twice a true c d e = rw e refl
-or_twice a false c d e = rw e refl
-
-or_known : (a b : Bool) → (b ≡ true → a ≡ true) → a ≡ (a || b)
-or_known true b h = refl
-or_known false true h = h refl
-or_known false false h = refl
-
-inserted_step : (b : Bool) (ks : List ℕ) (k v : ℕ) → list_any (nat_eq k) ks ≡ b → has_vertex (cond b ks (ks ++ k ∷ [])) v ≡ (has_vertex ks v || nat_eq v k)
-inserted_step true ks k v e = or_known (has_vertex ks v) (nat_eq v k) (λ same. subst (λ (w : ℕ). has_vertex ks w ≡ true) (sym (eqb-true v k same)) e)
-inserted_step false ks k v e = list_any-append (nat_eq v) ks (k ∷ []) ∙ or_one (has_vertex ks v) (nat_eq v k)
-
-vertex_inserted : (ks : List ℕ) (k v : ℕ) → has_vertex (insert_key nat_eq ks k) v ≡ (has_vertex ks v || nat_eq v k)
-vertex_inserted ks k v = inserted_step (list_any (nat_eq k) ks) ks k v refl
-
--- a facet's vertices go in one by one
-pub vertex_more : (facet ks more old : List ℕ) (i x : ℕ) → i < length facet → x ≡ get_or facet i x → more ≡ insert_key nat_eq ks x
-    → ((v : ℕ) → has_vertex ks v ≡ (has_vertex old v || has_vertex (take i facet) v)) → (v : ℕ) → has_vertex more v ≡ (has_vertex old v || has_vertex (take (i + 1) facet) v)
-vertex_more facet ks more old i x below is added so_far v =
-    ap (λ (m : List ℕ). has_vertex m v) added ∙ vertex_inserted ks x v
-    ∙ or_twice (has_vertex ks v) (has_vertex old v) (has_vertex (take i facet) v) (nat_eq v x) (so_far v)
-    ∙ ap (λ (b : Bool). has_vertex old v || b) (sym (take_vertex facet i x v below is))
-  where
-    take_vertex : (facet : List ℕ) (i x v : ℕ) → i < length facet → x ≡ get_or facet i x → has_vertex (take (i + 1) facet) v ≡ (has_vertex (take i facet) v || nat_eq v x)
-    take_vertex facet i x v below is =
-        ap (λ (f : List ℕ). has_vertex f v) (take_more facet i x below ∙ ap (λ (y : ℕ). take i facet ++ y ∷ []) (sym is))
-        ∙ list_any-append (nat_eq v) (take i facet) (x ∷ []) ∙ or_one (has_vertex (take i facet) v) (nat_eq v x)
-
--- the facets of a complex one by one
-pub facet_vertices : (facets : List (List ℕ)) (ks more facet given : List ℕ) (i : ℕ) → i < length facets → facet ≡ get_or facets i facet → given ≡ facet
-    → ((v : ℕ) → has_vertex more v ≡ (has_vertex ks v || has_vertex given v)) → ((v : ℕ) → has_vertex ks v ≡ is_vertex (take i facets) v)
-    → (v : ℕ) → has_vertex more v ≡ is_vertex (take (i + 1) facets) v
-facet_vertices facets ks more facet given i below is same added so_far v =
-    added v ∙ (λ j. so_far v j || has_vertex (same j) v)
-    ∙ sym (ap (λ (fs : List (List ℕ)). is_vertex fs v) (take_more facets i facet below ∙ ap (λ (f : List ℕ). take i facets ++ f ∷ []) (sym is))
-    ∙ list_any-append (λ f. has_vertex f v) (take i facets) (facet ∷ []) ∙ or_one (is_vertex (take i facets) v) (has_vertex facet v))
-
 -- ---- sends
-
-abbrev pub sends_in : List (ℕ × ℕ) → List Sent
-sends_in es = map (λ (e : ℕ × ℕ). record { from = e.0; to = e.1 }) es
 
 pub sent_by_lookup : (es : List (ℕ × ℕ)) (v : ℕ) → is_some (lookup (nat_eq v) es) ≡ is_sent (sends_in es) v
 sent_by_lookup [] v = refl
@@ -91,20 +43,27 @@ absent_entry es v h = none_is (lookup (nat_eq v) es) (sent_by_lookup es v ∙ h)
     none_is None e = refl
     none_is (Some x) e = absurd cc
 
-pub absent_before : (es : List (ℕ × ℕ)) (v : ℕ) (d : Bool) → d ≡ is_sent (sends_in es) v → d ≡ false → lookup (nat_eq v) es ≡ None
-absent_before es v d is not_yet = absent_entry es v (sym is ∙ not_yet)
+-- a send without a fault is of a vertex that is not sent
+free_fresh : (from to : List (List ℕ)) (before : List Sent) (s : Sent) → send_fault from to before s ≡ None → is_sent before s.from ≡ false
+free_fresh from to before s h = fresh_step (not (is_vertex from s.from && is_vertex to s.to)) (is_sent before s.from) h
+  where
+    fresh_step : (a b : Bool) → cond a (Some VertexUnknown) (cond b (Some VertexSentTwice) None) ≡ None → b ≡ false
+    fresh_step true b h = absurd cc
+    fresh_step false true h = absurd cc
+    fresh_step false false h = refl
 
--- a send of a vertex that was not sent, between vertices that are there
-pub send_added : (from to : List (List ℕ)) (sources targets : List ℕ) (es new : List (ℕ × ℕ)) (s : Sent) (a b d : Bool)
-    → ((v : ℕ) → has_vertex sources v ≡ is_vertex from v) → ((v : ℕ) → has_vertex targets v ≡ is_vertex to v)
-    → a ≡ has_vertex sources s.from → a ≡ true → b ≡ has_vertex targets s.to → b ≡ true → d ≡ is_sent (sends_in es) s.from → d ≡ false
-    → new ≡ es ++ (s.from, s.to) ∷ [] → with_send from to (sends_in es) s ≡ Ok (sends_in new)
-send_added from to sources targets es new s a b d hs ht ais at bis bt dis df added =
-    let there : is_vertex from s.from ≡ true = sym (hs s.from) ∙ sym ais ∙ at in
-    let image_there : is_vertex to s.to ≡ true = sym (ht s.to) ∙ sym bis ∙ bt in
-    let fresh : is_sent (sends_in es) s.from ≡ false = sym dis ∙ df in
-    let longer : sends_in new ≡ sends_in es ++ s ∷ [] = ap sends_in added ∙ map-append (λ (e : ℕ × ℕ). record { from = e.0; to = e.1 }) es ((s.from, s.to) ∷ []) in
-    let free : send_fault from to (sends_in es) s ≡ None = rw (there, image_there, fresh) refl in
+pub not_yet : (from to : List (List ℕ)) (es : List (ℕ × ℕ)) (before : List Sent) (s : Sent) (o : Option InputKind) → sends_in es ≡ before
+    → o ≡ send_fault from to before s → o ≡ None → lookup (nat_eq s.from) es ≡ None
+not_yet from to es before s o seen is none =
+    absent_entry es s.from (ap (λ (b : List Sent). is_sent b s.from) seen ∙ free_fresh from to before s (sym is ∙ none))
+
+-- a send without a fault goes behind the others
+pub send_added : (from to : List (List ℕ)) (es new : List (ℕ × ℕ)) (before : List Sent) (s : Sent) (o : Option InputKind) → sends_in es ≡ before
+    → o ≡ send_fault from to before s → o ≡ None → new ≡ es ++ (s.from, s.to) ∷ [] → with_send from to before s ≡ Ok (sends_in new)
+send_added from to es new before s o seen is none added =
+    let longer : sends_in new ≡ before ++ s ∷ [] =
+    ap sends_in added ∙ map-append (λ (e : ℕ × ℕ). record { from = e.0; to = e.1 }) es ((s.from, s.to) ∷ []) ∙ ap (λ (b : List Sent). b ++ s ∷ []) seen in
+    let free : send_fault from to before s ≡ None = sym is ∙ none in
     rw (free, longer) refl
 
 -- ---- order

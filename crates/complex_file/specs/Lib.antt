@@ -5,8 +5,7 @@ pub mod Maps
 pub mod Jobs
 pub mod Input
 pub mod Kinds
-pub mod OpenMaps
-pub mod Named
+pub mod Sends
 pub mod Reading
 pub mod Views
 pub mod Written

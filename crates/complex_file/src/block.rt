@@ -1,7 +1,7 @@
 ghost use Rattle.std.specs.Prelude.{◌≡◌, IfOk};
 
 use comch_io::Listed;
-use simplex_set::Simplex;
+use simplex_set::Complex;
 use std::alloc::{AllocError, Global};
 use std::marker::Model;
 
@@ -37,11 +37,12 @@ impl Name {
     }
 }
 
-/// A complex, given by its facets in the order of the file. Its simplices are the non-empty subsets of the facets.
+/// A complex, given by its facets in the order of the file. Its simplices, the non-empty subsets of the facets, are kept
+/// with them.
 #[derive(Debug, Drop)]
 pub struct ComplexBlock {
     pub name: Name,
-    pub facets: Listed<Simplex>,
+    pub facets: Complex,
 }
 
 /// One vertex of a map's source, and the vertex of its target to which it is sent.

@@ -65,7 +65,7 @@ pub fn complex_fault(alloc: Global, block: &ComplexBlock) -> Result<Option<Block
     ensures { IfOk result (λ r. r ≡ complex_fault block.now.facets) }
 {
     let mut complex = OpenComplex::new(alloc);
-    for (at, facet) in block.facets.as_slice().iter().enumerate() {
+    for (at, facet) in block.facets.facets().iter().enumerate() {
         let copy = Simplex::new(alloc, facet.vertices())?;
         match with_facet(alloc, complex, copy) {
             Ok(more) => complex = more,

@@ -1,12 +1,13 @@
 ghost use Rattle.std.specs.Prelude.{◌≡◌, ◌<◌, ◌≤◌, ◌^◌, ◌+◌, length};
 ghost use Rattle.complex_file.specs.Input.{after_line, after_words, at_end, at_line, at_start, input_of, lines_spell, place_after};
 ghost use Rattle.complex_file.specs.Reading.{Gives, GivesInput};
-ghost use Rattle.complex_file.specs.Views.{content, place_seen, spelled_by, texts};
+ghost use Rattle.complex_file.specs.Views.{content, place_seen, texts};
 
+use crate::blocks::Blocks;
 use crate::fault::LineFault;
-use crate::found::{Found, Place};
 use crate::line::{is_skipped, line_of};
-use crate::place::after;
+use crate::place::Place;
+use crate::step::after;
 use crate::text::{is_text, lines_of, words_of};
 use crate::{InputKind, Job, JobRefused};
 use std::alloc::Global;
@@ -15,12 +16,8 @@ use std::alloc::Global;
 const LIMIT: usize = 1_048_576;
 
 // What a line with these words makes of a place.
-fn after_words<'a>(
-    alloc: Global,
-    place: Place<'a>,
-    words: &[&'a [u8]],
-) -> Result<Place<'a>, LineFault>
-    ensures { Gives place_seen result (after_words (place_seen place.entry) (texts words.entry.now)) }
+fn after_words(alloc: Global, place: Place, words: &[&[u8]]) -> Result<Place, LineFault>
+    ensures { Gives place_seen result (after_words (place_seen place) (texts words.now)) }
 {
     if is_skipped(words) {
         return Ok(place);
@@ -31,8 +28,8 @@ fn after_words<'a>(
 
 // What a line makes of a place.
 #[tactic(auto, unfolding(crate::specs::Input::after_line))]
-fn after_line<'a>(alloc: Global, place: Place<'a>, line: &'a [u8]) -> Result<Place<'a>, LineFault>
-    ensures { Gives place_seen result (after_line (place_seen place.entry) line.now) }
+fn after_line(alloc: Global, place: Place, line: &[u8]) -> Result<Place, LineFault>
+    ensures { Gives place_seen result (after_line (place_seen place) line.now) }
 {
     if !is_text(line) {
         return Err(LineFault::Kind(InputKind::NotText));
@@ -42,9 +39,9 @@ fn after_line<'a>(alloc: Global, place: Place<'a>, line: &'a [u8]) -> Result<Pla
 }
 
 // The place behind all the lines.
-fn place_after<'a>(alloc: Global, lines: &[&'a [u8]]) -> Result<Place<'a>, JobRefused>
+fn place_after(alloc: Global, lines: &[&[u8]]) -> Result<Place, JobRefused>
     requires { length lines.now < 2 ^ 63 }
-    ensures { GivesInput place_seen result (place_after 1 at_start (texts lines.entry.now)) }
+    ensures { GivesInput place_seen result (place_after 1 at_start (texts lines.now)) }
 {
     let mut place = Place::AtStart;
     let mut number = 0u64;
@@ -62,11 +59,11 @@ fn place_after<'a>(alloc: Global, lines: &[&'a [u8]]) -> Result<Place<'a>, JobRe
 }
 
 // The blocks, where the last one has its end.
-fn at_end<'a>(place: Place<'a>, line: u64) -> Result<Found<'a>, JobRefused>
-    ensures { GivesInput spelled_by result (at_line line (at_end (place_seen place.entry))) }
+fn at_end(place: Place, line: u64) -> Result<Blocks, JobRefused>
+    ensures { GivesInput (λ b. b) result (at_line line (at_end (place_seen place))) }
 {
     match place {
-        Place::Between(found) => Ok(found),
+        Place::Between(blocks) => Ok(blocks),
         _ => Err(JobRefused::InputRefused {
             kind: InputKind::Unfinished,
             line,
@@ -75,8 +72,8 @@ fn at_end<'a>(place: Place<'a>, line: u64) -> Result<Found<'a>, JobRefused>
 }
 
 // The blocks that the lines spell.
-fn read_lines<'a>(alloc: Global, bytes: &'a [u8]) -> Result<Found<'a>, JobRefused>
-    ensures { GivesInput spelled_by result (lines_spell bytes.now) }
+fn read_lines(alloc: Global, bytes: &[u8]) -> Result<Blocks, JobRefused>
+    ensures { GivesInput (λ b. b) result (lines_spell bytes.now) }
 {
     let lines = match lines_of(alloc, bytes) {
         Ok(lines) => lines,
@@ -88,8 +85,8 @@ fn read_lines<'a>(alloc: Global, bytes: &'a [u8]) -> Result<Found<'a>, JobRefuse
 
 // The blocks that the bytes spell.
 #[tactic(auto, unfolding(crate::specs::Input::input_of))]
-fn read_input<'a>(alloc: Global, bytes: &'a [u8]) -> Result<Found<'a>, JobRefused>
-    ensures { GivesInput spelled_by result (input_of bytes.now) }
+fn read_input(alloc: Global, bytes: &[u8]) -> Result<Blocks, JobRefused>
+    ensures { GivesInput (λ b. b) result (input_of bytes.now) }
 {
     if bytes.len() > LIMIT {
         return Err(JobRefused::InputRefused {
@@ -104,12 +101,10 @@ fn read_input<'a>(alloc: Global, bytes: &'a [u8]) -> Result<Found<'a>, JobRefuse
 pub fn read_job(alloc: Global, bytes: &[u8]) -> Result<Job, JobRefused>
     ensures { GivesInput content result (input_of bytes.now) }
 {
-    let Found {
+    let Blocks {
         prime,
         complexes,
         maps,
-        complex_names: _,
-        map_names: _,
     } = read_input(alloc, bytes)?;
     Ok(Job {
         prime,

@@ -2,17 +2,18 @@
 #![tactic(auto)]
 
 mod block;
+mod blocks;
 mod complexes;
 mod fault;
-mod found;
 mod input;
 mod job;
 mod kind;
 mod laws;
 mod line;
 mod maps;
-mod open_map;
 mod place;
+mod sends;
+mod step;
 mod text;
 
 pub use block::{ComplexBlock, MapBlock, Name, Sent};
@@ -23,7 +24,8 @@ pub use job::Job;
 pub use kind::InputKind;
 pub use laws::{spelled_job, written_job};
 pub use maps::map_fault;
-pub use simplex_set::Simplex;
+pub use simplex_set::{Complex, Simplex};
+pub use text::is_name;
 
 #[cfg(test)]
 mod tests;

@@ -2,7 +2,7 @@ ghost use Rattle.std.specs.Prelude.{◌≡◌, IfOk};
 ghost use Rattle.complex_file.specs.Maps.{map_fault};
 
 use crate::fault::LineFault;
-use crate::open_map::OpenMap;
+use crate::sends::Sends;
 use crate::{BlockFault, ComplexBlock, MapBlock};
 use std::alloc::{AllocError, Global};
 
@@ -17,10 +17,10 @@ pub fn map_fault(
 ) -> Result<Option<BlockFault>, AllocError>
     ensures { IfOk result (λ r. r ≡ map_fault from.now.facets to.now.facets map.now.sends) }
 {
-    let mut open = OpenMap::new(alloc, from.facets.as_slice(), to.facets.as_slice())?;
+    let mut sends = Sends::new(alloc);
     for (at, sent) in map.sends.as_slice().iter().enumerate() {
-        match open.with_send(*sent) {
-            Ok(more) => open = more,
+        match sends.with_send(&from.facets, &to.facets, *sent) {
+            Ok(more) => sends = more,
             Err(LineFault::Memory) => return Err(AllocError),
             Err(LineFault::Kind(kind)) => {
                 return Ok(Some(BlockFault {
@@ -30,7 +30,7 @@ pub fn map_fault(
             }
         }
     }
-    match open.end_fault(alloc, from.facets.as_slice(), to.facets.as_slice())? {
+    match sends.end_fault(alloc, &from.facets, &to.facets)? {
         Some(kind) => Ok(Some(BlockFault {
             kind,
             at: map.sends.len() as u64,

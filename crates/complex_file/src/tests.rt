@@ -1,16 +1,28 @@
 use crate::{
-    BlockFault, ComplexBlock, InputKind, Job, JobRefused, Name, Sent, Simplex, complex_fault,
-    map_fault, read_job,
+    BlockFault, Complex, ComplexBlock, InputKind, Job, JobRefused, MapBlock, Name, Sent, Simplex,
+    complex_fault, map_fault, read_job,
 };
 use comch_io::Listed;
 use std::alloc::{AllocError, Global};
 use std::process::Abort;
 use std::test::Fail;
 
-// The number of the kind and the line of the first fault; zeros for a job.
+// The prime, the facets of each complex, and the complexes and the sends of each map.
+fn spelled(alloc: Global, job: &Job) -> Result<String, AllocError> {
+    let mut text = format!(in alloc; "{}", job.prime)?;
+    for block in job.complexes.as_slice() {
+        text = format!(in alloc; "{text} {:?}", block.facets.facets())?;
+    }
+    for map in job.maps.as_slice() {
+        text = format!(in alloc; "{text} {} {} {:?}", map.from, map.to, map.sends.as_slice())?;
+    }
+    Ok(text)
+}
+
+// What a job spells, or the number of the kind and the line of the first fault.
 fn answer(alloc: Global, bytes: &[u8]) -> Result<String, AllocError> {
     match read_job(alloc, bytes) {
-        Ok(_) => String::from_str(alloc, "0 0"),
+        Ok(job) => spelled(alloc, &job),
         Err(JobRefused::OutOfMemory) => Err(AllocError),
         Err(JobRefused::InputRefused { kind, line }) => {
             format!(in alloc; "{} {line}", kind.number())
@@ -59,7 +71,7 @@ bogus \x7f
 comch 1
 prime 2
 facet x
-= 0 0
+= 2 [Simplex { vertices: [0] }]
 # a point\r
 comch 1\r
 prime 2\r
@@ -67,6 +79,15 @@ prime 2\r
  complex\tpt\r
 facet 000\r
 end\r
+= 3 [Simplex { vertices: [2, 7] }, Simplex { vertices: [7] }] []
+comch 1
+prime 3
+complex e
+facet 7 2
+facet 7
+end
+complex none
+end
 ";
 
 const OPEN: &str = "\
@@ -237,7 +258,7 @@ send 0 2
 send 1 2
 send 2 3
 end
-= 0 0
+= 2 [Simplex { vertices: [0, 1, 2] }] [Simplex { vertices: [3] }, Simplex { vertices: [2] }] 0 1 [Sent { from: 2, to: 3 }, Sent { from: 0, to: 3 }, Sent { from: 1, to: 3 }]
 map f e t
 send 2 3
 send 0 3
@@ -260,14 +281,10 @@ fn the_first_fault_decides(rt: HostRuntime) -> Result<(), Fail> {
     let alloc = rt.alloc();
     try_rows(&rt, alloc, "", HEADS)?;
     try_rows(&rt, alloc, OPEN, FACETS)?;
+    try_rows(&rt, alloc, WIDE, LARGE)?;
     try_rows(&rt, alloc, EIGHT_COMPLEXES, NINTH_COMPLEX)?;
     try_rows(&rt, alloc, EIGHT_MAPS, NINTH_MAP)?;
     try_rows(&rt, alloc, BLOCKS, MAPS)
-}
-
-#[test]
-fn the_limit_of_simplices_comes_last(rt: HostRuntime) -> Result<(), Fail> {
-    try_rows(&rt, rt.alloc(), WIDE, LARGE)
 }
 
 #[test]
@@ -278,35 +295,6 @@ fn a_long_text_is_refused_unread(rt: HostRuntime) -> Result<(), Fail> {
     Ok(())
 }
 
-// A job keeps the order of the file, and its blocks have no fault of their own.
-#[test]
-fn a_job_keeps_its_blocks(rt: HostRuntime) -> Result<(), Fail> {
-    let alloc = rt.alloc();
-    let text = "comch 1\nprime 3\ncomplex e\nfacet 7 2\nend\nmap f e e\nsend 7 7\nsend 2 2\nend";
-    let Ok(
-        Job {
-            prime,
-            complexes,
-            maps,
-        },
-    ) = read_job(alloc, text.as_bytes())
-    else {
-        assert!(rt; false);
-        return Ok(());
-    };
-    assert_eq!(rt; (prime, complexes.len(), maps.len()), (3, 1, 1));
-    let edge = complexes.get(0).ok_or("no complex")?;
-    let map = maps.get(0).ok_or("no map")?;
-    for facet in edge.facets.as_slice() {
-        assert_eq!(rt; facet.vertices(), [2, 7].as_slice());
-    }
-    let wanted = [Sent { from: 7, to: 7 }, Sent { from: 2, to: 2 }];
-    assert_eq!(rt; map.sends.as_slice(), wanted.as_slice());
-    assert_eq!(rt; complex_fault(alloc, edge)?, None);
-    assert_eq!(rt; map_fault(alloc, map, edge, edge)?, None);
-    Ok(())
-}
-
 #[test]
 fn a_block_of_its_own_has_its_fault(rt: HostRuntime) -> Result<(), Fail> {
     let alloc = rt.alloc();
@@ -314,13 +302,36 @@ fn a_block_of_its_own_has_its_fault(rt: HostRuntime) -> Result<(), Fail> {
     let facet = Simplex::new(alloc, vertices.as_slice())?;
     let block = ComplexBlock {
         name: Name::new(alloc, b"a")?,
-        facets: Listed::from(vec![in alloc; facet]?),
+        facets: Complex::of(alloc, vec![in alloc; facet]?)?,
     };
     let wanted = BlockFault {
         kind: InputKind::FacetTooWide,
         at: 0,
     };
-    assert_eq!(rt; block.name.bytes(), b"a".as_slice());
     assert_eq!(rt; complex_fault(alloc, &block)?, Some(wanted));
+    Ok(())
+}
+
+// The two ends of an edge change places.
+#[test]
+fn a_map_of_its_own_has_its_fault(rt: HostRuntime) -> Result<(), Fail> {
+    let alloc = rt.alloc();
+    let facet = Simplex::new(alloc, &[0, 1])?;
+    let edge = ComplexBlock {
+        name: Name::new(alloc, b"e")?,
+        facets: Complex::of(alloc, vec![in alloc; facet]?)?,
+    };
+    let sends = vec![in alloc; Sent { from: 0, to: 1 }, Sent { from: 1, to: 0 }]?;
+    let map = MapBlock {
+        name: Name::new(alloc, b"f")?,
+        from: 0,
+        to: 0,
+        sends: Listed::from(sends),
+    };
+    let wanted = BlockFault {
+        kind: InputKind::NotOrderPreserving,
+        at: 2,
+    };
+    assert_eq!(rt; map_fault(alloc, &map, &edge, &edge)?, Some(wanted));
     Ok(())
 }

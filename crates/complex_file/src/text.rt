@@ -1,4 +1,4 @@
-ghost use Rattle.std.specs.Prelude.{◌≡◌, ◌<◌, ◌^◌, map, IfOk, IfSome};
+ghost use Rattle.std.specs.Prelude.{◌≡◌, ◌&&◌, nat_le, IfOk};
 ghost use Rattle.std.specs.List.{list_all, slice_split};
 ghost use Rattle.complex_file.specs.Text.{begins_with_letter, is_allowed, is_blank, is_digit, is_letter, is_name, is_name_byte, lines, number, words};
 ghost use Rattle.complex_file.specs.Views.{texts};
@@ -11,28 +11,34 @@ fn is_blank(b: u8) -> bool
     b == 9 || b == 13 || b == 32
 }
 
+fn is_between(low: u8, b: u8, high: u8) -> bool
+    ensures { result ≡ (nat_le low b && nat_le b high) }
+{
+    low <= b && b <= high
+}
+
 fn is_allowed(b: u8) -> bool
     ensures { result ≡ is_allowed b }
 {
-    b == 9 || b == 10 || b == 13 || (32 <= b && b <= 126)
+    b == 9 || b == 10 || b == 13 || is_between(32, b, 126)
 }
 
 fn is_letter(b: u8) -> bool
     ensures { result ≡ is_letter b }
 {
-    (65 <= b && b <= 90) || (97 <= b && b <= 122)
+    is_between(b'A', b, b'Z') || is_between(b'a', b, b'z')
 }
 
 fn is_digit(b: u8) -> bool
     ensures { result ≡ is_digit b }
 {
-    48 <= b && b <= 57
+    is_between(b'0', b, b'9')
 }
 
 fn is_name_byte(b: u8) -> bool
     ensures { result ≡ is_name_byte b }
 {
-    is_letter(b) || is_digit(b) || b == 95 || b == 45
+    is_letter(b) || is_digit(b) || b == b'_' || b == b'-'
 }
 
 pub fn is_text(line: &[u8]) -> bool
@@ -99,6 +105,7 @@ fn are_name_bytes(word: &[u8]) -> bool
     word.iter().all(|b| is_name_byte(*b))
 }
 
+/// Whether the word is a name: 1 to 32 letters, digits, `_` and `-` that begin with a letter.
 pub fn is_name(word: &[u8]) -> bool
     ensures { result ≡ is_name word.now }
 {

@@ -3,9 +3,9 @@ use Rattle.std.proofs.lemmas.List.{length-map}
 use Rattle.std.specs.Prelude.{count_by}
 use Rattle.std.proofs.lemmas.List.Splits.{length-slice_split}
 use Rattle.complex_file.specs.Text.{is_line_end, lines}
-use Rattle.complex_file.specs.Input.{at_end, at_line, at_start, place_after}
+use Rattle.complex_file.specs.Input.{Spelled, at_end, at_line, at_start, place_after}
 use Rattle.complex_file.specs.Reading.{GivesInput}
-use Rattle.complex_file.specs.Views.{spelled_by, place_seen, texts}
+use Rattle.complex_file.specs.Views.{place_seen, texts}
 use Rattle.complex_file.proofs.input.read_lines.Goals as goal
 
 pub returns : goal.returns
@@ -15,4 +15,4 @@ returns c =
     let read : place_after 1 at_start (lines c.args.bytes.now) ≡ Ok (place_seen c.in_ok-place.place) = ap (place_after 1 at_start) (sym same) ∙ c.in_ok-place.ensures in
     let count : c.len.result ≡ count_by is_line_end c.args.bytes.now + 1 =
     c.len.ensures ∙ sym c.deref.ensures.len ∙ sym (length-map c.deref.result.now (λ (w : Bor (List ℕ)). w.now)) ∙ ap (length {A = List ℕ}) same ∙ length-slice_split is_line_end c.args.bytes.now in
-    rw read (subst (λ (n : ℕ). GivesInput spelled_by c.at_end.result (at_line n (at_end (place_seen c.in_ok-place.place)))) count c.at_end.ensures)
+    rw read (subst (λ (n : ℕ). GivesInput (λ (s : Spelled). s) c.at_end.result (at_line n (at_end (place_seen c.in_ok-place.place)))) count c.at_end.ensures)

@@ -1,8 +1,0 @@
--- The facets so far have simplices as their images.
-use Rattle.std.proofs.Common.{◌≡◌, drop}
-use Rattle.complex_file.specs.Maps.{keeps_simplices}
-use Rattle.complex_file.specs.OpenMaps.{sends_seen}
-use Rattle.complex_file.proofs.open_map.OpenMap.keeps_simplices.Given as goal
-
-abbrev pub invariant-loop-facet : goal.invariant-loop-facet
-invariant-loop-facet l = keeps_simplices l.from l.to (sends_seen l.self) ≡ keeps_simplices (drop l.facet-index l.from) l.to (sends_seen l.self)

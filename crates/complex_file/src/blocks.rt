@@ -1,0 +1,127 @@
+ghost use Rattle.std.specs.Prelude.{◌≡◌, ◌<◌, [], length, IfOk, IfSome};
+ghost use Rattle.std.specs.List.{list_any};
+ghost use Rattle.std.specs.Str.{bytes_eq};
+ghost use Rattle.complex_file.specs.Input.{with_complex, with_map};
+ghost use Rattle.complex_file.specs.Jobs.{block_names, facets_at, has_name, place_of_name};
+
+use crate::{ComplexBlock, MapBlock};
+use comch_io::Listed;
+use simplex_set::Complex;
+use std::alloc::{AllocError, Global};
+use std::marker::Model;
+
+/// The blocks that were read, at most eight of each kind. Contracts see what their lines spell.
+#[derive(Drop)]
+pub struct Blocks {
+    pub prime: u32,
+    pub complexes: Listed<ComplexBlock>,
+    pub maps: Listed<MapBlock>,
+}
+
+impl Model for Blocks {
+    ghost use Rattle.std.specs.Prelude.{◌≤◌, length};
+    ghost use Rattle.complex_file.specs.Input.{Spelled};
+
+    ghost Value = { Spelled };
+
+    ghost view = { λ b. record { prime = b.prime; complexes = b.complexes; maps = b.maps } };
+
+    ghost invariant = { λ b. length b.complexes ≤ 8 };
+}
+
+fn is_complex_name(complexes: &[ComplexBlock], name: &[u8]) -> bool
+    ensures { result ≡ list_any (λ c. bytes_eq name.now c.name) complexes.now }
+{
+    complexes.iter().any(|c| name == c.name.bytes())
+}
+
+fn is_map_name(maps: &[MapBlock], name: &[u8]) -> bool
+    ensures { result ≡ list_any (λ m. bytes_eq name.now m.name) maps.now }
+{
+    maps.iter().any(|m| name == m.name.bytes())
+}
+
+fn place_in(complexes: &[ComplexBlock], name: &[u8]) -> Option<usize>
+    ensures place { result ≡ place_of_name complexes.now name.now }
+    ensures there { IfSome result (λ k. k < length complexes.now) }
+{
+    complexes.iter().position(|c| name == c.name.bytes())
+}
+
+impl Blocks {
+    /// No blocks yet.
+    pub fn new(alloc: Global, prime: u32) -> Blocks
+        ensures { result ≡ record { prime = prime; complexes = []; maps = [] } }
+    {
+        Blocks {
+            prime,
+            complexes: Listed::new(alloc),
+            maps: Listed::new(alloc),
+        }
+    }
+
+    /// Whether a block has this name.
+    pub fn has_name(&self, name: &[u8]) -> bool
+        ensures { result ≡ has_name (block_names self.now.complexes self.now.maps) name.now }
+    {
+        is_complex_name(self.complexes.as_slice(), name) || is_map_name(self.maps.as_slice(), name)
+    }
+
+    /// The place of the complex with this name.
+    pub fn place_of_name(&self, name: &[u8]) -> Option<u32>
+        ensures place { result ≡ place_of_name self.now.complexes name.now }
+        ensures there { IfSome result (λ k. k < length self.now.complexes) }
+    {
+        match place_in(self.complexes.as_slice(), name) {
+            Some(place) => Some(place as u32),
+            None => None,
+        }
+    }
+
+    /// The complex at a place.
+    pub fn complex_at(&self, place: u32) -> &Complex
+        requires { place < length self.now.complexes }
+        ensures { result.now ≡ facets_at self.now.complexes place }
+    {
+        &self.complexes.as_slice()[place as usize].facets
+    }
+
+    /// The blocks with one more complex.
+    pub fn with_complex(self, block: ComplexBlock) -> Result<Blocks, AllocError>
+        requires room { length self.complexes < 8 }
+        ensures { IfOk result (λ b. b ≡ with_complex self block) }
+    {
+        let Blocks {
+            prime,
+            mut complexes,
+            maps,
+        } = self;
+        match complexes.push(block) {
+            Ok(()) => Ok(Blocks {
+                prime,
+                complexes,
+                maps,
+            }),
+            Err(_) => Err(AllocError),
+        }
+    }
+
+    /// The blocks with one more map.
+    pub fn with_map(self, block: MapBlock) -> Result<Blocks, AllocError>
+        ensures { IfOk result (λ b. b ≡ with_map self block) }
+    {
+        let Blocks {
+            prime,
+            complexes,
+            mut maps,
+        } = self;
+        match maps.push(block) {
+            Ok(()) => Ok(Blocks {
+                prime,
+                complexes,
+                maps,
+            }),
+            Err(_) => Err(AllocError),
+        }
+    }
+}
