@@ -18,7 +18,7 @@ fn part_over<const P: u32>(alloc: Global, block: &ComplexBlock) -> Result<Comple
     requires complex { CanBeIndexed block.now.facets }
     ensures { IfOk result (λ part. IsBasisPart P block.now part) }
 {
-    let index = Indexed::of(alloc, block.facets.as_slice())?;
+    let index = Indexed::of(alloc, &block.facets)?;
     let classes = classes_of::<P>(alloc, &index)?;
     let degrees = degree_parts(alloc, &index, classes.as_slice())?;
     let name = Name::new(alloc, block.name.bytes())?;

@@ -26,6 +26,3 @@ pub use laws::{spelled_job, written_job};
 pub use maps::map_fault;
 pub use simplex_set::{Complex, Simplex};
 pub use text::is_name;
-
-#[cfg(test)]
-mod tests;

@@ -1,8 +1,8 @@
-use crate::{
+use comch_io::Listed;
+use complex_file::{
     BlockFault, Complex, ComplexBlock, InputKind, Job, JobRefused, MapBlock, Name, Sent, Simplex,
     complex_fault, map_fault, read_job,
 };
-use comch_io::Listed;
 use std::alloc::{AllocError, Global};
 use std::process::Abort;
 use std::test::Fail;
