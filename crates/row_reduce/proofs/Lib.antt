@@ -7,3 +7,4 @@ pub mod SolvedLemmas
 pub mod EchelonLemmas
 pub mod SpaceLemmas
 pub mod KernelLemmas
+pub mod TriangularLemmas

@@ -3,3 +3,4 @@ pub mod Walk
 pub mod Expansion
 pub mod Echelon
 pub mod Space
+pub mod Triangular

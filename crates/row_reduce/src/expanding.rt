@@ -6,6 +6,7 @@ ghost use Rattle.row_reduce.specs.Stored.{EntryFits, IsClear, IsDense};
 ghost use Rattle.sparse_rows.specs.Rows.{IsBelow};
 ghost use Rattle.row_reduce.specs.Walk.{AreNumbered, IsSolved, SkipsFit};
 ghost use Rattle.row_reduce.specs.Expansion.{AreOlder, Expanding, HistoryFits, IsExpanded, IsVectorOf, IsVectorOfClass};
+ghost use Rattle.row_reduce.specs.Triangular.{IsSolvedStored};
 
 use crate::reducing::add_row;
 use crate::walking::{walk_rows, zero_values};
@@ -134,6 +135,25 @@ pub fn kernel_and_leads<const P: u32>(
     requires skips { SkipsFit P width rows.now skip.now }
     ensures { IfOk result (λ r. IsSolved P width rows.now skip.now r.0.items r.1.items) }
 {
+    let (kernel, owner, _stored) = kernel_and_stored(alloc, rows, width, skip)?;
+    Ok((kernel, owner))
+}
+
+/// The kernel and the leads of the rows, as of `kernel_and_leads`, and the rows that the walk has stored:
+/// triangular rows of the span, one for each lead.
+pub fn kernel_and_stored<const P: u32>(
+    alloc: Global,
+    rows: &[Row<P>],
+    width: usize,
+    skip: &[u32],
+) -> Result<(Vec<Row<P>>, Vec<u32>, Vec<Stored<P>>), AllocError>
+    requires prime { IsTrue (served P) }
+    requires few { length rows.now < 2 ^ 32 }
+    requires narrow { width ≤ 2 ^ 32 }
+    requires within { Each (IsBelow width) rows.now }
+    requires skips { SkipsFit P width rows.now skip.now }
+    ensures { IfOk result (λ r. IsSolvedStored P width rows.now skip.now r.0.items r.1.items r.2.items) }
+{
     let Walk {
         classes,
         stored,
@@ -141,5 +161,5 @@ pub fn kernel_and_leads<const P: u32>(
     } = walk_rows(alloc, rows, width, skip)?;
     let mut kernel = vectors(alloc, stored.as_slice(), classes.as_slice())?;
     kernel.reverse();
-    Ok((kernel, owner))
+    Ok((kernel, owner, stored))
 }

@@ -8,7 +8,7 @@ mod space;
 mod walking;
 
 pub use echelon::kernel_and_echelon;
-pub use expanding::kernel_and_leads;
+pub use expanding::{kernel_and_leads, kernel_and_stored};
 use fp_field::Fp;
 pub use space::{Space, kernel};
 use sparse_rows::Row;

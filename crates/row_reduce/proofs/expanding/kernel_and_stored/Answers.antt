@@ -3,10 +3,11 @@ use Rattle.std.specs.List.{AllZip}
 use Rattle.linear_law.specs.Lists.{Each}
 use Rattle.row_reduce.specs.declared.Class.{Class}
 use Rattle.row_reduce.specs.declared.Stored.{Stored}
-use Rattle.row_reduce.specs.Walk.{IsSolved}
+use Rattle.row_reduce.specs.Triangular.{IsSolvedStored}
 use Rattle.row_reduce.specs.Expansion.{AreOlder, HistoryFits, IsVectorOfClass}
-use Rattle.row_reduce.proofs.SolvedLemmas.{histories_fit, older, solved}
-use Rattle.row_reduce.proofs.expanding.kernel_and_leads.Goals as goal
+use Rattle.row_reduce.proofs.SolvedLemmas.{histories_fit, older}
+use Rattle.row_reduce.proofs.TriangularLemmas.{solved_stored}
+use Rattle.row_reduce.proofs.expanding.kernel_and_stored.Goals as goal
 
 pub vectors-requires : goal.vectors-requires
 vectors-requires g c =
@@ -27,5 +28,5 @@ returns g c =
     let all : AllZip (IsVectorOfClass p w.stored.items) w.classes.items found =
     subst (λ (cs : List (Class p)). AllZip (IsVectorOfClass p w.stored.items) cs found) c.as_slice-2.ensures.value
     (subst (λ (ss : List (Stored p)). AllZip (IsVectorOfClass p ss) c.as_slice-2.result.now found) c.as_slice.ensures.value c.in_ok-kernel.ensures) in
-    subst (λ (rs : List (List (ℕ × ℕ))). IsSolved p c.args.width c.args.rows.now c.args.skip.now rs w.owner.items) (sym c.reverse.ensures.items)
-    (solved p c.args.width c.args.rows.now c.args.skip.now w.classes.items w.stored.items w.owner.items c.in_ok-classes.ensures found all)
+    subst (λ (rs : List (List (ℕ × ℕ))). IsSolvedStored p c.args.width c.args.rows.now c.args.skip.now rs w.owner.items w.stored.items) (sym c.reverse.ensures.items)
+    (solved_stored p c.args.width c.args.rows.now c.args.skip.now w.classes.items w.stored.items w.owner.items c.in_ok-classes.ensures found all)
