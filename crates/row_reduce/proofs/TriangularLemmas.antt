@@ -5,7 +5,7 @@ use Rattle.linear_law.specs.Lists.{Among, IsApart}
 use Rattle.linear_law.specs.Elimination.{ImageVector, IsImage}
 use Rattle.linear_law.specs.ReducedBases.{AgreesOn}
 use Rattle.linear_law.specs.Triangular.{image_place}
-use Rattle.linear_law.proofs.AlikeLemmas.{each_from_index}
+use Rattle.linear_law.proofs.ListLemmas.{each_from_index}
 use Rattle.linear_law.proofs.CongruenceLemmas.{Congruent_sym}
 use Rattle.row_reduce.specs.declared.Class.{Class}
 use Rattle.row_reduce.specs.declared.Stored.{Stored}
