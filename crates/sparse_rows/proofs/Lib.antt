@@ -1,3 +1,4 @@
 pub mod RowLemmas
 pub mod MergeLemmas
 pub mod SearchLemmas
+pub mod SortLemmas

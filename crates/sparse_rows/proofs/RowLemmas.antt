@@ -87,41 +87,6 @@ pairing_more p row other i pair sum at product is b s a m =
     ∙ ap (λ (x : ℕ × ℕ). (pairing (take i row) other + x.1 * value_in other x.0) % p) is
     ∙ ap (λ x. x % p) (sym (sum_take (λ (e : ℕ × ℕ). e.1 * value_in other e.0) row i pair b))
 
--- one pair
-pub value_in-pair : (p position value k : ℕ) → value < p → value_in ((position, value) ∷ []) k ≡ (value * unit_vector position k) % p
-value_in-pair p position value k b = elim (cases_eq k position) [
-  | inl e ↦
-      let u : unit_vector position k ≡ 1 = ap (unit_vector position) e ∙ unit_one 0 position in
-      rw u (omega (arith, mod-eq_of_lt {n = value * 1} {m = p} (omega arith)))
-  | inr n ↦
-      let u : unit_vector position k ≡ 0 = unit_other position k n in
-      rw u (omega (arith, mod-eq_of_lt {n = value * 0} {m = p} (omega arith)))
-]
-
-pub value_in-zero_pair : (p value position k : ℕ) → value ≡ 0 → value_in [] k ≡ (value * unit_vector position k) % p
-value_in-zero_pair p value position k e = sym (ap (λ x. x % p) (ap (λ x. x * unit_vector position k) e ∙ zero_times (unit_vector position k)) ∙ zero-mod p)
-  where
-    zero_times : (n : ℕ) → 0 * n ≡ 0
-    zero_times n = omega arith
-
-pub value_in-halves : (pairs : List (ℕ × ℕ)) (half k : ℕ) → value_in pairs k ≡ value_in (take half pairs) k + value_in (drop half pairs) k
-value_in-halves [] zero k = refl
-value_in-halves [] (suc half) k = refl
-value_in-halves (e ∷ es) zero k = omega arith
-value_in-halves (e ∷ es) (suc half) k = omega (arith, value_in-halves es half k)
-
--- all that is left
-pub tail : (half : ℕ) (pairs : List (ℕ × ℕ)) → take (length pairs - half) (drop half pairs) ≡ drop half pairs
-tail half pairs = take_all (length pairs - half) (drop half pairs) (omega (arith, length-drop half pairs))
-
--- the sum of two sums
-pub halves_sum : (p k half : ℕ) (pairs row rest : List (ℕ × ℕ)) (one sum : ℕ) → 1 < p → one ≡ 1 % p → value_in row k ≡ value_in (take half pairs) k % p
-    → value_in rest k ≡ value_in (drop half pairs) k % p → sum ≡ (value_in row k + one * value_in rest k) % p → sum ≡ value_in pairs k % p
-halves_sum p k half pairs row rest one sum large o a b s =
-    let unit : one ≡ 1 = o ∙ mod-eq_of_lt large in
-    let c : value_in row k + one * value_in rest k ≡ value_in (take half pairs) k % p + value_in (drop half pairs) k % p = rw unit (omega (arith, a, b)) in
-    s ∙ ap (λ x. x % p) c ∙ sym (add-mod (value_in (take half pairs) k) (value_in (drop half pairs) k) p) ∙ ap (λ x. x % p) (sym (value_in-halves pairs half k))
-
 each_by_index : (P : ℕ × ℕ → Type 0) (row : List (ℕ × ℕ)) → ((i : ℕ) → i < length row → P (get_or row i (0, 0))) → Each P row
 each_by_index P [] h = tt
 each_by_index P (e ∷ es) h = (h 0 (omega arith), each_by_index P es (λ i b. h (suc i) (omega arith)))
@@ -139,12 +104,3 @@ below_of_sum p pairs row h s bound below = each_by_index (λ e. e.0 < bound) row
 
     away : (k : ℕ) → bound ≤ k → (e : ℕ × ℕ) → e.0 < bound → e.0 ≢ k
     away k m e l q = absurd (omega arith)
-
-pub below_of_pair : {E : Type 0} (p : ℕ) (pairs : List (ℕ × ℕ)) (d e : ℕ × ℕ) (r : Result (List (ℕ × ℕ)) E) → length pairs ≡ 1
-    → IfOk r (λ row. (k : ℕ) → value_in row k ≡ ((get_or pairs 0 d).1 * unit_vector (get_or pairs 0 e).0 k) % p) → IfOk r (λ row. IsRow p row)
-    → IfOk r (λ row. (bound : ℕ) → IsBelow bound pairs → IsBelow bound row)
-below_of_pair p [] d e r l s h = absurd (omega arith)
-below_of_pair p (x ∷ y ∷ ys) d e r l s h = absurd (omega arith)
-below_of_pair p (x ∷ []) d e (Err f) l s h = tt
-below_of_pair p (x ∷ []) d e (Ok row) l s h =
-    below_of_sum p (x ∷ []) row h (λ k. let same : x.1 * unit_vector x.0 k ≡ value_in (x ∷ []) k = omega arith in s k ∙ ap (λ n. n % p) same)

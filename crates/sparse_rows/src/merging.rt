@@ -1,5 +1,6 @@
-//! One row plus a multiple of another, in one pass over both.
+//! One row plus a multiple of another, in one pass over both, and the sum of ascending pairs.
 ghost use Rattle.std.specs.Prelude.{◌≡◌, ℕ, ◌+◌, ◌*◌, ◌%◌, ◌<◌, ◌≤◌, ◌⊎◌, length, IfOk, OnOk, IsTrue};
+ghost use Rattle.std.specs.List.Sorted.{IsNonDecreasingBy};
 ghost use Rattle.linear_law.specs.Listing.{unit_vector};
 ghost use Rattle.fp_field.specs.Served.{served};
 ghost use Rattle.sparse_rows.specs.Rows.{IsBelow, IsRow, value_in};
@@ -92,5 +93,48 @@ pub(crate) fn merged<const P: u32>(
         i = next;
         j = after;
     }
+    Ok(out)
+}
+
+/// Puts the sum of one position, if the next position is another one, and gives the sum to go on with.
+fn pass<const P: u32>(
+    out: &mut Vec<(u32, Fp<P>)>,
+    position: u32,
+    sum: Fp<P>,
+    next: u32,
+) -> Result<Fp<P>, AllocError>
+    requires prime { IsTrue (served P) }
+    requires row { IsRow P out.old.items }
+    requires below { IsBelow position out.old.items }
+    requires ascends { position ≤ next }
+    ensures row { OnOk result (IsRow P out.new.items) }
+    ensures below { OnOk result (IsBelow next out.new.items) }
+    ensures sum { IfOk result (λ r. (y : ℕ) → value_in out.new.items y + r * unit_vector next y ≡ value_in out.old.items y + sum.entry * unit_vector position y) }
+{
+    if position == next {
+        return Ok(sum);
+    }
+    put(out, position, sum)?;
+    Ok(Fp::new(0))
+}
+
+/// The sum of pairs whose positions never descend.
+pub(crate) fn summed<const P: u32>(
+    alloc: Global,
+    pairs: &[(u32, Fp<P>)],
+) -> Result<Vec<(u32, Fp<P>)>, AllocError>
+    requires prime { IsTrue (served P) }
+    requires ascends { IsNonDecreasingBy (λ e. e.0) pairs.now }
+    ensures row { IfOk result (λ r. IsRow P r.items) }
+    ensures sum { IfOk result (λ r. (y : ℕ) → value_in r.items y ≡ value_in pairs.now y % P) }
+{
+    let mut out = Vec::new(alloc);
+    let mut position = 0;
+    let mut sum = Fp::new(0);
+    for pair in pairs {
+        sum = pass(&mut out, position, sum, pair.0)?.add(pair.1);
+        position = pair.0;
+    }
+    put(&mut out, position, sum)?;
     Ok(out)
 }

@@ -3,7 +3,7 @@ ghost use Rattle.linear_law.specs.Listing.{unit_vector};
 ghost use Rattle.fp_field.specs.Served.{served};
 ghost use Rattle.sparse_rows.specs.Rows.{IsBelow, IsFirst, IsRow, pairing, value_in};
 
-use crate::merging::merged;
+use crate::merging::{merged, summed};
 use fp_field::Fp;
 use std::alloc::{AllocError, Global};
 use std::marker::Model;
@@ -32,48 +32,32 @@ impl<const P: u32> Row<P> {
         }
     }
 
-    /// The sum of the pairs, in any order. Ascending pairs take linear time.
+    /// The sum of the pairs, in any order. Ascending pairs with no zeros take linear time.
     pub fn from_pairs(alloc: Global, pairs: &[(u32, Fp<P>)]) -> Result<Row<P>, AllocError>
         requires { IsTrue (served P) }
         ensures sum { IfOk result (λ r. (k : ℕ) → value_in r k ≡ value_in pairs.now k % P) }
         ensures row { IfOk result (λ r. IsRow P r) }
         ensures below { IfOk result (λ r. (bound : ℕ) → IsBelow bound pairs.now → IsBelow bound r) }
     {
-        if pairs.is_empty() {
-            return Ok(Row::new(alloc));
-        }
-        if pairs.len() == 1 {
-            return Row::of_pair(alloc, pairs[0].0, pairs[0].1);
-        }
         if is_row(pairs) {
             return Ok(Row {
                 pairs: pairs.to_vec(alloc)?,
             });
         }
-        let half = pairs.len() / 2;
-        let mut row = Row::from_pairs(alloc, &pairs[..half])?;
-        let rest = Row::from_pairs(alloc, &pairs[half..])?;
-        row.add_scaled(&rest, Fp::new(1))?;
-        let _ = &row.pairs;
-        Ok(row)
-    }
-
-    /// The row of one pair.
-    fn of_pair(alloc: Global, position: u32, value: Fp<P>) -> Result<Row<P>, AllocError>
-        ensures value { IfOk result (λ r. (k : ℕ) → value_in r k ≡ (value.entry * unit_vector position k) % P) }
-        ensures row { IfOk result (λ r. IsRow P r) }
-    {
-        let mut row = Row::new(alloc);
-        if !value.is_zero() {
-            row.push_last(position, value)?;
-        }
-        let _ = &row.pairs;
-        Ok(row)
+        let mut sorted = pairs.to_vec(alloc)?;
+        sorted.sort_by_key(
+            |pair: &(u32, Fp<P>)| -> u32
+                ensures { result ≡ pair.now.0 }
+            { pair.0 },
+        )?;
+        let pairs = summed(alloc, sorted.as_slice())?;
+        Ok(Row { pairs })
     }
 
     /// An equal row.
     pub fn copy(&self) -> Result<Row<P>, AllocError>
-        ensures { IfOk result (λ r. r ≡ self.now) }
+        ensures same { IfOk result (λ r. r ≡ self.now) }
+        ensures row { IfOk result (λ r. IsRow P r) }
     {
         Ok(Row {
             pairs: self.pairs.as_slice().to_vec(*self.pairs.allocator())?,
@@ -84,6 +68,7 @@ impl<const P: u32> Row<P> {
     pub fn add_scaled(&mut self, other: &Row<P>, by: Fp<P>) -> Result<(), AllocError>
         requires { IsTrue (served P) }
         ensures sum { OnOk result ((k : ℕ) → value_in self.new k ≡ (value_in self.old k + by.entry * value_in other.now k) % P) }
+        ensures row { OnOk result (IsRow P self.new) }
         ensures unchanged { OnErr result (self.new ≡ self.old) }
     {
         let alloc = *self.pairs.allocator();
