@@ -51,9 +51,9 @@ cleared_more {p} part done given base i d y now next is b h step =
     Congruent_from (Congruent_add step h) (omega (arith, more))
 
 -- a history of older rows is one of all rows
-pub history_wide : (p : ℕ) (images : List (Stored p)) (k : ℕ) (s : Stored p) → AreOlder p images → k < length images → s ≡ get_or images k s → Each (EntryFits p (length images)) s.history.items
+pub history_wide : (p : ℕ) (images : List (Stored p)) (k : ℕ) (s : Stored p) → AreOlder p images → k < length images → s ≡ get_or images k s → Each (EntryFits p (length images)) s.history
 history_wide p images k s older b is =
-    subst (λ (t : Stored p). Each (EntryFits p (length images)) t.history.items) (sym is) (entry_wider p k (length images) (omega arith) (get_or images k s).history.items (older.each k s b))
+    subst (λ (t : Stored p). Each (EntryFits p (length images)) t.history) (sym is) (entry_wider p k (length images) (omega arith) (get_or images k s).history (older.each k s b))
 
 -- a linear map of a sum
 pub linear_sum : {D : Type 0} (p count width : ℕ) (L : (ℕ → ℕ) → ℕ → ℕ) (linear : IsLinear p count (λ y. y < width) L) (k : D → ℕ) (comb row : D → ℕ → ℕ) (ds : List D)
@@ -118,9 +118,9 @@ module _ (p width : ℕ) (field : IsField p) (rows : List (List (ℕ × ℕ))) (
     start_is : (x : ℕ) → Congruent p (value_in made.start x) (source x)
     unfolding source
     start_is x =
-        let mine : IsFrom p k reached.sources s.source s.history.items source =
-        subst (λ (t : Stored p). IsFrom p k reached.sources t.source t.history.items (get_or reached.sources k (λ x. 0))) (sym is) (reached.sources_are.from k s (λ x. 0) inside) in
-        Congruent_sym (made.vector.expanded.is reached.sources source reached.sources_are (from_wider p k (length stored) reached.sources s.source s.history.items source (omega arith) mine) x)
+        let mine : IsFrom p k reached.sources s.source s.history source =
+        subst (λ (t : Stored p). IsFrom p k reached.sources t.source t.history (get_or reached.sources k (λ x. 0))) (sym is) (reached.sources_are.from k s (λ x. 0) inside) in
+        Congruent_sym (made.vector.expanded.is reached.sources source reached.sources_are (from_wider p k (length stored) reached.sources s.source s.history source (omega arith) mine) x)
 
     -- the values as sums over the list in order
     row_is : (y : ℕ) → Congruent p (value_in e.row y) (factor * (given y + sum_over (λ (d : EchelonRow p). negated p (given d.pivot) * row_of d y) done))
@@ -131,7 +131,7 @@ module _ (p width : ℕ) (field : IsField p) (rows : List (List (ℕ × ℕ))) (
     unfolding given factor done
     combination_is x = Congruent_trans (made.combination x) (Congruent_of (ap (λ n. negated p s.factor * (value_in made.start x + n)) (sym (sum_reverse (λ (d : EchelonRow p). negated p (made.given d.pivot) * combination_of d x) forward))))
 
-    row_zero : (y : ℕ) → Congruent p (value_in s.row.items y) 0 → Each (λ (d : EchelonRow p). Congruent p (row_of d y) 0) done → Congruent p (value_in e.row y) 0
+    row_zero : (y : ℕ) → Congruent p (value_in s.row y) 0 → Each (λ (d : EchelonRow p). Congruent p (row_of d y) 0) done → Congruent p (value_in e.row y) 0
     unfolding given
     row_zero y z each =
         let none = sum_vanishes p pivot_of row_of (λ (d : EchelonRow p). negated p (given d.pivot)) y done each in
@@ -158,8 +158,8 @@ module _ (p width : ℕ) (field : IsField p) (rows : List (List (ℕ × ℕ))) (
     unfolding given factor
     one =
         let none = sum_vanishes p pivot_of row_of (λ (d : EchelonRow p). negated p (given d.pivot)) e.pivot done (before_done e.pivot (omega arith)) in
-        let lead : Congruent p (value_in s.row.items e.pivot * s.factor + 1) 0 =
-        subst (λ y. Congruent p (value_in s.row.items y * s.factor + 1) 0) (sym made.pivot) fits.factor in
+        let lead : Congruent p (value_in s.row e.pivot * s.factor + 1) 0 =
+        subst (λ y. Congruent p (value_in s.row y * s.factor + 1) 0) (sym made.pivot) fits.factor in
         let product : Congruent p (given e.pivot * s.factor + 1) 0 =
         Congruent_trans (Congruent_add (Congruent_mul (made.given_is e.pivot) (Congruent_refl s.factor)) (Congruent_refl 1)) lead in
         let unit : Congruent p (negated p s.factor * given e.pivot) 1 =
@@ -211,7 +211,7 @@ module _ (p width : ℕ) (field : IsField p) (rows : List (List (ℕ × ℕ))) (
       rows_are = made.rows_are;
       starts = record { before = starts };
       wide = λ y b.
-          row_zero y (Congruent_of (value_in-none s.row.items y (each_map {Q = λ (f : ℕ × ℕ). f.0 ≢ y} (λ f g q. absurd (let c = g.inside in omega arith)) s.row.items fits.entries)))
+          row_zero y (Congruent_of (value_in-none s.row y (each_map {Q = λ (f : ℕ × ℕ). f.0 ≢ y} (λ f g q. absurd (let c = g.inside in omega arith)) s.row fits.entries)))
           (each_map {Q = λ (d : EchelonRow p). Congruent p (row_of d y) 0} (λ d g. g.wide y b) (reverse forward) h.each);
       from = gives;
       apart =

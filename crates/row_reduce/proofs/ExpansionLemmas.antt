@@ -90,7 +90,7 @@ weighted_clear (suc k) ws fs d x h = let e = h.zero k in rw e (omega (arith, wei
 -- ---- the weight of the k-th row moves
 
 pub expand_step : (p : ℕ) (images : List (Stored p)) (place : ℕ) (history : List (ℕ × ℕ)) (old new : List ℕ) (out : List (ℕ × ℕ)) (k w : ℕ) (i : Stored p) → k < length images → w ≡ get_or old k 0
-    → ((s : Stored p) → i ≡ get_or images k s) → IsDense p new → ((j : ℕ) → Congruent p (get_or new j 0) (get_or old j 0 + w * value_in i.history.items j))
+    → ((s : Stored p) → i ≡ get_or images k s) → IsDense p new → ((j : ℕ) → Congruent p (get_or new j 0) (get_or old j 0 + w * value_in i.history j))
     → Expanding p images place history old out (k + 1) → Expanding p images place history new (out ++ ((i.source, w) ∷ [])) k
 expand_step p images place history old new out k w i inside w_is is dense added h = record {
   dense = dense;
@@ -99,10 +99,10 @@ expand_step p images place history old new out k w i inside w_is is dense added 
       let before : Congruent p (v x) (value_in out x + (weighted k old sources d x + w * get_or sources k d x)) =
       subst (λ n. Congruent p (v x) (value_in out x + (weighted k old sources d x + n * get_or sources k d x))) (sym w_is)
       (subst (λ n. Congruent p (v x) (value_in out x + weighted n old sources d x)) q (h.sum sources v d from mine x)) in
-      let mine_k : IsFrom p k sources i.source i.history.items (get_or sources k d) =
-      subst (λ (j : Stored p). IsFrom p k sources j.source j.history.items (get_or sources k d)) (sym (is i)) (from.from k i d inside) in
-      let moved = weighted_add p k w old new sources d i.history.items x added in
-      let all = spread_all p k sources d i.history.items x mine_k.fits in
+      let mine_k : IsFrom p k sources i.source i.history (get_or sources k d) =
+      subst (λ (j : Stored p). IsFrom p k sources j.source j.history (get_or sources k d)) (sym (is i)) (from.from k i d inside) in
+      let moved = weighted_add p k w old new sources d i.history x added in
+      let all = spread_all p k sources d i.history x mine_k.fits in
       let more : value_in (out ++ ((i.source, w) ∷ [])) x ≡ value_in out x + w * unit_vector i.source x =
       sum_append (λ (e : ℕ × ℕ). entry_at e x) out ((i.source, w) ∷ []) ∙ omega arith in
       Congruent_from

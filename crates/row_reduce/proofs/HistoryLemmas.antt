@@ -79,14 +79,14 @@ from_wider p k n fs source hs v b h = record { fits = entry_wider p k n b hs h.f
 
 -- what a history adds goes to what its rows add
 pub added_gives : (p count width : ℕ) (L : (ℕ → ℕ) → ℕ → ℕ) (linear : IsLinear p count (λ y. y < width) L) (images : List (Stored p)) (fs : List (ℕ → ℕ)) (s : Stored p) (d : ℕ → ℕ) (k : ℕ)
-    → ((j : ℕ) → j < k → AgreesOn p (λ y. y < width) (L (get_or fs j d)) (value_in (get_or images j s).row.items))
+    → ((j : ℕ) → j < k → AgreesOn p (λ y. y < width) (L (get_or fs j d)) (value_in (get_or images j s).row))
     → (hs : List (ℕ × ℕ)) → Each (EntryFits p k) hs → (v w : ℕ → ℕ) → AgreesOn p (λ y. y < width) (L v) w
     → AgreesOn p (λ y. y < width) (L (λ x. v x + added_from fs d hs x)) (λ y. w y + added_row images s hs y)
 added_gives p count width L linear images fs s d k g [] h v w e =
     record { at = λ y on. Congruent_trans ((linear.alike (λ x. v x + 0) v (record { at = λ x _. Congruent_of (omega arith) })).at y on) (Congruent_from (e.at y on) (omega arith)) }
 added_gives p count width L linear images fs s d k g (j ∷ hs) h v w e =
     let f = get_or fs j.0 d in
-    let r = value_in (get_or images j.0 s).row.items in
+    let r = value_in (get_or images j.0 s).row in
     let first : AgreesOn p (λ y. y < width) (L (λ x. v x + j.1 * f x)) (λ y. w y + j.1 * r y) =
     record { at = λ y on. Congruent_trans ((linear.plus j.1 v f).at y on) (Congruent_add (e.at y on) (Congruent_scale j.1 ((g j.0 h.0.inside).at y on))) } in
     let next = added_gives p count width L linear images fs s d k g hs h.1 (λ x. v x + j.1 * f x) (λ y. w y + j.1 * r y) first in

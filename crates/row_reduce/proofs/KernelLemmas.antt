@@ -13,6 +13,7 @@ use Rattle.linear_law.specs.Triangular.{StartsAt, kernel_place}
 use Rattle.linear_law.proofs.CongruenceLemmas.{Congruent_add, Congruent_from, Congruent_mul, Congruent_of, Congruent_refl, Congruent_scale, Congruent_sym, Congruent_trans}
 use Rattle.linear_law.proofs.ListLemmas.{each_get_or, each_map, each_unmap, each_zip, each_alike, each_from_index, length_alike, zip_from_index}
 use Rattle.linear_law.proofs.PivotLemmas.{one-nonzero}
+use Rattle.linear_law.proofs.RowCombinations.{unit_other}
 use Rattle.linear_law.proofs.WalkedSpaces.{classes_span}
 use Rattle.sparse_rows.specs.Rows.{IsBelow, IsFirst, IsRow, value_in}
 use Rattle.sparse_rows.proofs.RowLemmas.{value_in-small}
@@ -22,7 +23,7 @@ use Rattle.row_reduce.specs.Walk.{IsSolved, combined, owned_in}
 use Rattle.row_reduce.specs.Echelon.{combination_of, pivot_of, row_of}
 use Rattle.row_reduce.specs.Space.{AreOwnRows, Everywhere, IsKernelOf}
 use Rattle.row_reduce.proofs.StepLemmas.{combined_linear, combined_row}
-use Rattle.row_reduce.proofs.SpaceLemmas.{combined_beyond, lead_inside, make_echelon}
+use Rattle.row_reduce.proofs.SpaceLemmas.{below_of_zero, combined_beyond, lead_inside, make_echelon}
 
 -- a vector of the kernel and the echelon row that has it
 record IsSameVector (p : ℕ) (k : KernelVector) (e : EchelonRow p) : Type 0 where
@@ -163,6 +164,12 @@ module _ (p width : ℕ) (field : IsField p) (rows : List (List (ℕ × ℕ))) (
   kernel_space = record {
     is_echelon = make_echelon p field given echelon
         (each_from_index (λ (e : EchelonRow p). IsRow p e.row × IsRow p e.combination) echelon (λ k d b. (own.each k d (let e = own.all in omega arith)).rows_are))
+        (each_from_index (λ (e : EchelonRow p). IsBelow (length given) e.combination) echelon
+        (λ k d b.
+        let inside : k < length given = let e = own.all in omega arith in
+        let o = own.each k d inside in
+        below_of_zero p (length given) (get_or echelon k d).combination o.rows_are.1
+        (λ x c. Congruent_trans (o.combination x) (Congruent_of (unit_other k x (λ e. absurd (omega arith)))))))
         (subst IsAscending (places_across p solved.kernel echelon same_vectors) solved.walked.kernel_ascends)
         (reduced_across p solved.kernel echelon same_vectors solved.walked.kernel_reduced)
         (each_alike (IsSameVector p) (λ (k : KernelVector). StartsAt p k.place k.vector) (λ (e : EchelonRow p). StartsAt p e.pivot (row_of e))
@@ -170,6 +177,7 @@ module _ (p width : ℕ) (field : IsField p) (rows : List (List (ℕ × ℕ))) (
         (each_from_index (λ (e : EchelonRow p). (y : ℕ) → Congruent p (combined given (combination_of e) y) (row_of e y)) echelon (λ k d b. own_combination k d (let e = own.all in omega arith)))
         listed;
     own = own;
+    inside = solved.inside;
     relations = relations;
     whole = λ v z.
         let c : ℕ → ℕ = λ i. v ((get_or solved.kernel i (record { place = 0; vector = λ x. 0 })).place) in

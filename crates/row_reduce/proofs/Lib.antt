@@ -1,4 +1,5 @@
 pub mod SumLemmas
+pub mod EntryLemmas
 pub mod HistoryLemmas
 pub mod StoredLemmas
 pub mod StepLemmas

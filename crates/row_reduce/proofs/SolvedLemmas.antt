@@ -1,5 +1,5 @@
 -- What a walk of all rows has found: the kernel as rows, and the leads.
-use Rattle.std.proofs.Common.{◌≡◌, ℕ, zero, suc, ◌-◌, ◌<◌, ◌≤◌, ◌⊎◌, List, [], ◌∷◌, reverse, map, length, get_or, arith, subst, inl, inr}
+use Rattle.std.proofs.Common.{◌≡◌, ℕ, zero, suc, ◌-◌, ◌<◌, ◌≤◌, ◌⊎◌, List, [], ◌∷◌, reverse, map, length, get_or, arith, refl, subst, inl, inr}
 use Rattle.std.proofs.lemmas.List.{append-nil}
 use Rattle.std.specs.List.{AllZip}
 use Rattle.linear_law.specs.Congruence.{Congruent}
@@ -13,8 +13,6 @@ use Rattle.row_reduce.specs.declared.Class.{Class}
 use Rattle.row_reduce.specs.declared.Stored.{Stored}
 use Rattle.row_reduce.specs.Stored.{stored_place}
 use Rattle.row_reduce.specs.Walk.{IsFrom, IsSolved, Reached, image_of, images_of, kernel_of, owned_in}
-use Rattle.row_reduce.specs.declared.EchelonRow.{EchelonRow}
-use Rattle.row_reduce.specs.Echelon.{AreEchelon, IsSolvedWhole}
 use Rattle.row_reduce.specs.Expansion.{AreOlder, HistoryFits, IsVectorOfClass}
 use Rattle.row_reduce.proofs.ExpansionLemmas.{zip_reversed}
 use Rattle.row_reduce.proofs.HistoryLemmas.{among_images}
@@ -44,7 +42,7 @@ module _ (p width : ℕ) (rows : List (List (ℕ × ℕ))) (skip : List ℕ) (cl
 
   pub histories_fit : Each (HistoryFits p (length stored)) classes
   histories_fit =
-      zip_left_each (λ (c : Class p) v. IsFrom p (length stored) reached.sources c.place c.history.items v) (HistoryFits p (length stored))
+      zip_left_each (λ (c : Class p) v. IsFrom p (length stored) reached.sources c.place c.history v) (HistoryFits p (length stored))
       (λ c v h. h.fits) classes reached.vectors reached.vectors_are
 
   record IsSolution (k : KernelVector) (r : List (ℕ × ℕ)) : Type 0 where
@@ -57,7 +55,7 @@ module _ (p width : ℕ) (rows : List (List (ℕ × ℕ))) (skip : List ℕ) (cl
       let kernel = kernel_of classes reached.vectors [] in
       let all : AllZip IsSolution kernel (reverse found) =
       subst (AllZip IsSolution kernel) (append-nil (reverse found))
-      (zip_reversed (λ (c : Class p) v. IsFrom p (length stored) reached.sources c.place c.history.items v) (IsVectorOfClass p stored) IsSolution
+      (zip_reversed (λ (c : Class p) v. IsFrom p (length stored) reached.sources c.place c.history v) (IsVectorOfClass p stored) IsSolution
       (λ c v r mine is. record {
         vector = λ x. Congruent_sym (is.expanded.is reached.sources v reached.sources_are mine x);
         is_row = is.is_row;
@@ -97,7 +95,6 @@ module _ (p width : ℕ) (rows : List (List (ℕ × ℕ))) (skip : List ℕ) (cl
       among_there [] k y b e = absurd (omega arith)
       among_there (s ∷ ss) k y b e = among_at (s ∷ ss) k y s b (e s)
 
-  pub solved_whole : (found : List (List (ℕ × ℕ))) (echelon : List (EchelonRow p)) → AllZip (IsVectorOfClass p stored) classes found → AreEchelon p width rows skip (kernel_of classes reached.vectors []) owner 0 echelon
-      → IsSolvedWhole p width rows skip (reverse found) owner echelon
+  pub solved_kernel : (found : List (List (ℕ × ℕ))) (h : AllZip (IsVectorOfClass p stored) classes found) → (solved found h).kernel ≡ kernel_of classes reached.vectors []
   unfolding solved
-  solved_whole found echelon h e = record { solved = solved found h; reduced = e }
+  solved_kernel found h = refl

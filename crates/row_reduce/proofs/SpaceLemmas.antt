@@ -1,5 +1,5 @@
 -- The reduced echelon list of a span, with no bound on the places.
-use Rattle.std.proofs.Common.{◌≡◌, ℕ, suc, ◌+◌, ◌*◌, ◌-◌, ◌%◌, ◌<◌, ◌≤◌, ◌≢◌, List, [], ◌∷◌, ◌++◌, map, take, length, get_or, arith, refl, sym, ◌∙◌, ap, subst, inl, inr}
+use Rattle.std.proofs.Common.{◌≡◌, ℕ, suc, ◌+◌, ◌*◌, ◌-◌, ◌%◌, ◌<◌, ◌≤◌, ◌≢◌, List, [], ◌∷◌, ◌++◌, map, take, length, get_or, arith, refl, sym, ◌∙◌, ap, subst, inl, inr, mod-eq_of_lt}
 use Rattle.std.proofs.lemmas.Bool.{cases_lt}
 use Rattle.std.proofs.lemmas.List.{take_more}
 use native.Mathlib.Nat.{zero-mod}
@@ -10,13 +10,13 @@ use Rattle.linear_law.specs.ReducedBases.{AgreesOn, IsReduced}
 use Rattle.linear_law.specs.Pivots.{IsCanonical, IsLead, IsPivot}
 use Rattle.linear_law.specs.Triangular.{StartsAt}
 use Rattle.linear_law.proofs.CongruenceLemmas.{Congruent_add, Congruent_from, Congruent_of, Congruent_refl, Congruent_scale, Congruent_sym, Congruent_trans, add-negated}
-use Rattle.linear_law.proofs.ListLemmas.{each_among, each_map, each_push, each_unmap, each_zip}
+use Rattle.linear_law.proofs.ListLemmas.{each_among, each_from_index, each_get_or, each_map, each_push, each_unmap, each_zip}
 use Rattle.linear_law.proofs.LeadLemmas.{nonzero_alike}
 use Rattle.linear_law.proofs.PivotLemmas.{one-nonzero, reduced_apart, reduced_one}
-use Rattle.linear_law.proofs.ReducedLemmas.{sum_picks}
+use Rattle.linear_law.proofs.ReducedLemmas.{sum_picks, sum_vanishes}
 use Rattle.linear_law.proofs.TriangularBases.{each_of_index, found}
 use Rattle.sparse_rows.specs.Rows.{IsBelow, IsRow, value_in}
-use Rattle.sparse_rows.proofs.RowLemmas.{value_in-none}
+use Rattle.sparse_rows.proofs.RowLemmas.{value_in-at, value_in-none}
 use Rattle.row_reduce.specs.declared.EchelonRow.{EchelonRow}
 use Rattle.row_reduce.specs.Walk.{combined}
 use Rattle.row_reduce.specs.Echelon.{IsEchelonRow, IsSolvedWhole, cleared, combination_of, pivot_of, row_of}
@@ -39,12 +39,26 @@ lead_inside p width rows v t h n = elim (cases_lt t width) [
   | inr b ↦ absurd (n (ap (λ m. m % p) (combined_beyond 0 width rows v t h b) ∙ zero-mod p))
 ]
 
+-- a row that is zero from a bound on has no position there
+pub below_of_zero : (p bound : ℕ) (row : List (ℕ × ℕ)) → IsRow p row → ((x : ℕ) → bound ≤ x → Congruent p (value_in row x) 0) → IsBelow bound row
+below_of_zero p bound row h z = each_from_index (λ (e : ℕ × ℕ). e.0 < bound) row (λ i d b. elim (cases_lt (get_or row i d).0 bound) [
+  | inl l ↦ l
+  | inr m ↦
+      let at : value_in row (get_or row i d).0 ≡ (get_or row i d).1 = value_in-at row i d h.ascends b in
+      let v : ((get_or row i d).1 ≢ 0) × ((get_or row i d).1 < p) = each_get_or (λ (e : ℕ × ℕ). (e.1 ≢ 0) × (e.1 < p)) row i d b h.values in
+      absurd (v.0 (sym (mod-eq_of_lt v.1) ∙ ap (λ n. n % p) (sym at) ∙ (z (get_or row i d).0 m).same ∙ zero-mod p))
+])
+
+-- what names rows below a bound is zero from there on
+pub zero_of_below : (p bound : ℕ) (row : List (ℕ × ℕ)) (x : ℕ) → IsBelow bound row → bound ≤ x → Congruent p (value_in row x) 0
+zero_of_below p bound row x h b = Congruent_of (value_in-none row x (each_map {Q = λ (f : ℕ × ℕ). f.0 ≢ x} (λ f c q. absurd (omega arith)) row h))
+
 module _ (p : ℕ) (field : IsField p) (given : List (List (ℕ × ℕ))) (echelon : List (EchelonRow p)) where
   -- an echelon list from its parts
-  pub make_echelon : Each (λ (e : EchelonRow p). IsRow p e.row × IsRow p e.combination) echelon → IsAscending (map pivot_of echelon) → IsReduced p pivot_of row_of echelon
+  pub make_echelon : Each (λ (e : EchelonRow p). IsRow p e.row × IsRow p e.combination) echelon → Each (λ (e : EchelonRow p). IsBelow (length given) e.combination) echelon → IsAscending (map pivot_of echelon) → IsReduced p pivot_of row_of echelon
       → Each (λ (e : EchelonRow p). StartsAt p e.pivot (row_of e)) echelon → Each (λ (e : EchelonRow p). (y : ℕ) → Congruent p (combined given (combination_of e) y) (row_of e y)) echelon
       → ((v : ℕ → ℕ) (t : ℕ) → IsLead p Everywhere (λ a b. a < b) (combined given v) t → Among t (map pivot_of echelon)) → IsEchelonOf p given echelon
-  make_echelon rows_are ascends reduced starts from whole =
+  make_echelon rows_are inside ascends reduced starts from whole =
       let M = IsSpannedBy p given in
       let member : (e : EchelonRow p) → Among e echelon → M (row_of e) = λ e m. record {
         source = combination_of e;
@@ -67,6 +81,7 @@ module _ (p : ℕ) (field : IsField p) (given : List (List (ℕ × ℕ))) (echel
       }) in
       record {
         rows_are = rows_are;
+        inside = inside;
         ascends = ascends;
         pivots = λ t. (
           listed t,
@@ -100,13 +115,18 @@ module _ (p : ℕ) (field : IsField p) (given : List (List (ℕ × ℕ))) (echel
     reduced_of es a.1 h.1,
   )
 
-  pub divided : (row rest sum combination : List (ℕ × ℕ)) (by : ℕ) → IsEchelonOf p given echelon → Congruent p by (p - 1)
+  pub divided : (row rest sum combination : List (ℕ × ℕ)) (by : ℕ) → IsEchelonOf p given echelon → IsRow p rest → IsRow p combination → Congruent p by (p - 1)
       → ((y : ℕ) → Congruent p (value_in rest y) (cleared row_of echelon (value_in row) (value_in row) y))
       → ((x : ℕ) → Congruent p (value_in sum x) (cleared combination_of echelon (value_in row) (λ x. 0) x))
       → ((x : ℕ) → Congruent p (value_in combination x) (by * value_in sum x)) → IsRemainder p given echelon row rest combination
-  divided row rest sum combination by h by_is rest_is sum_is combination_is =
+  divided row rest sum combination by h rest_row combination_row by_is rest_is sum_is combination_is =
       let k : EchelonRow p → ℕ = λ d. negated p (value_in row d.pivot) in
       record {
+        rows_are = (rest_row, combination_row);
+        inside = below_of_zero p (length given) combination combination_row (λ x b.
+            let none = sum_vanishes p pivot_of combination_of k x echelon
+            (each_map {Q = λ (e : EchelonRow p). Congruent p (combination_of e x) 0} (λ e g. zero_of_below p (length given) e.combination x g b) echelon h.inside) in
+            Congruent_from (Congruent_add (combination_is x) (Congruent_scale by (Congruent_add (sum_is x) none))) (omega arith));
         zero =
             each_map {Q = λ (e : EchelonRow p). Congruent p (value_in rest e.pivot) 0}
             (λ e picked. Congruent_from (Congruent_add (Congruent_trans (rest_is e.pivot) (Congruent_add (Congruent_refl (value_in row e.pivot)) picked)) (add-negated p (value_in row e.pivot) field.large)) (omega arith))
@@ -150,6 +170,7 @@ wider old new row b h = each_map {Q = λ (f : ℕ × ℕ). f.0 < new} (λ f c. o
 pub echelon_none : (p : ℕ) → IsEchelonOf p [] []
 echelon_none p = record {
   rows_are = tt;
+  inside = tt;
   ascends = tt;
   pivots = λ t. (λ h. h.lead.nonzero ((h.member.same.at t tt).same ∙ zero-mod p), λ m. elim m [ ]);
   canonical = tt;
@@ -163,7 +184,8 @@ echelon_whole p width field rows skip solutions owner echelon below h =
     let r = h.reduced in
     let Row : EchelonRow p → Type 0 = IsEchelonRow p width rows skip h.solved.kernel in
     make_echelon p field rows echelon
-    (each_map {P = Row} {Q = λ (e : EchelonRow p). IsRow p e.row × IsRow p e.combination} (λ e g. g.rows_are) echelon r.each) r.ascends r.reduced
+    (each_map {P = Row} {Q = λ (e : EchelonRow p). IsRow p e.row × IsRow p e.combination} (λ e g. g.rows_are) echelon r.each)
+    (each_map {P = Row} {Q = λ (e : EchelonRow p). IsBelow (length rows) e.combination} (λ e g. below_of_zero p (length rows) e.combination g.rows_are.1 g.short) echelon r.each) r.ascends r.reduced
     (each_map {P = Row} {Q = λ (e : EchelonRow p). StartsAt p e.pivot (row_of e)} (λ e g. g.starts) echelon r.each)
     (each_map {P = Row} {Q = λ (e : EchelonRow p). (y : ℕ) → Congruent p (combined rows (combination_of e) y) (row_of e y)}
     (λ e g y. elim (cases_lt y width) [

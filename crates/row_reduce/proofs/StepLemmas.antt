@@ -109,13 +109,13 @@ module _ (p width : ℕ) (field : IsField p) (rows : List (List (ℕ × ℕ))) (
         record { at = λ y on. Congruent_trans (g.at y on) (Congruent_sym (Congruent_trans (done.row s y) (Congruent_add (load.is_row y) (Congruent_refl (added_row images s history y))))) }
 
     -- ---- nothing is left: one more class
-    pub step_class : (c : Class p) → c.place ≡ low → c.history.items ≡ history → width ≤ t → Reached p width rows skipped low (kernel ++ (c ∷ [])) images owner
+    pub step_class : (c : Class p) → c.place ≡ low → c.history ≡ history → width ≤ t → Reached p width rows skipped low (kernel ++ (c ∷ [])) images owner
     step_class c at is all =
         let w = keep_it p (length rows) width field (combined rows) (combined_linear p width rows) skipped low (kernel_of kernel reached.vectors []) (images_of images reached.sources [])
         reached.walked inside source source_low source_starts source_skips source_apart (λ y. get_or left y 0) source_gives
         (record { at = λ y on. Congruent_of (done.before y (omega arith)) }) in
         let q : kernel_of (kernel ++ (c ∷ [])) (reached.vectors ++ (source ∷ [])) [] ≡ record { place = low; vector = source } ∷ kernel_of kernel reached.vectors [] =
-        kernel_push kernel reached.vectors [] c source (length_alike (λ (b : Class p) v. IsFrom p (length images) reached.sources b.place b.history.items v) kernel reached.vectors reached.vectors_are)
+        kernel_push kernel reached.vectors [] c source (length_alike (λ (b : Class p) v. IsFrom p (length images) reached.sources b.place b.history v) kernel reached.vectors reached.vectors_are)
         ∙ ap (λ n. record { place = n; vector = source } ∷ kernel_of kernel reached.vectors []) at in
         record {
           few = let b = reached.few in omega arith;
@@ -126,8 +126,8 @@ module _ (p width : ℕ) (field : IsField p) (rows : List (List (ℕ × ℕ))) (
           sources_length = reached.sources_length;
           sources_are = reached.sources_are;
           vectors = reached.vectors ++ (source ∷ []);
-          vectors_are = zip_push (λ (b : Class p) v. IsFrom p (length images) reached.sources b.place b.history.items v) kernel reached.vectors c source reached.vectors_are
-              (subst (λ n. IsFrom p (length images) reached.sources n c.history.items source) (sym at)
+          vectors_are = zip_push (λ (b : Class p) v. IsFrom p (length images) reached.sources b.place b.history v) kernel reached.vectors c source reached.vectors_are
+              (subst (λ n. IsFrom p (length images) reached.sources n c.history source) (sym at)
               (subst (λ (hs : List (ℕ × ℕ)). IsFrom p (length images) reached.sources low hs source) (sym is) source_is));
           walked = subst (λ (ks : List KernelVector). Walked p (length rows) width (combined rows) skipped low ks (images_of images reached.sources [])) (sym q) w;
         }
@@ -137,12 +137,12 @@ module _ (p width : ℕ) (field : IsField p) (rows : List (List (ℕ × ℕ))) (
       → Reached p width rows skipped low kernel (images ++ (i ∷ [])) owner'
   step_stored i empty owner' full stored b owns =
       let w = add_it p (length rows) width field (combined rows) (combined_linear p width rows) skipped low (kernel_of kernel reached.vectors []) (images_of images reached.sources [])
-      reached.walked inside source (source_low i) (source_starts i) (source_skips i) (source_apart i) (value_in i.row.items)
+      reached.walked inside source (source_low i) (source_starts i) (source_skips i) (source_apart i) (value_in i.row)
       (record { at = λ y on. Congruent_trans ((source_gives i).at y on) (Congruent_sym (stored.row y)) })
       t lead fresh in
-      let q : images_of (images ++ (i ∷ [])) (reached.sources ++ (source ∷ [])) [] ≡ record { place = t; from = source; row = value_in i.row.items } ∷ images_of images reached.sources [] =
+      let q : images_of (images ++ (i ∷ [])) (reached.sources ++ (source ∷ [])) [] ≡ record { place = t; from = source; row = value_in i.row } ∷ images_of images reached.sources [] =
       images_push images reached.sources [] i source reached.sources_length
-      ∙ ap (λ n. record { place = n; from = source; row = value_in i.row.items } ∷ images_of images reached.sources []) stored.place in
+      ∙ ap (λ n. record { place = n; from = source; row = value_in i.row } ∷ images_of images reached.sources []) stored.place in
       let long : length (images ++ (i ∷ [])) ≡ length images + 1 = length_push images i in
       record {
         few = let b = reached.few in omega arith;
@@ -154,20 +154,20 @@ module _ (p width : ℕ) (field : IsField p) (rows : List (List (ℕ × ℕ))) (
         sources_are = record {
           from = λ k s f c. elim (cases_eq k (length images)) [
             | inl e ↦
-                let P : ℕ → Type 0 = λ n. IsFrom p n (reached.sources ++ (source ∷ [])) (get_or (images ++ (i ∷ [])) n s).source (get_or (images ++ (i ∷ [])) n s).history.items (get_or (reached.sources ++ (source ∷ [])) n f) in
+                let P : ℕ → Type 0 = λ n. IsFrom p n (reached.sources ++ (source ∷ [])) (get_or (images ++ (i ∷ [])) n s).source (get_or (images ++ (i ∷ [])) n s).history (get_or (reached.sources ++ (source ∷ [])) n f) in
                 subst P (sym e) (newest s f)
             | inr n ↦
                 let d : k < length images = omega arith in
-                let old = from_more p k reached.sources source (get_or images k s).source (get_or images k s).history.items (get_or reached.sources k f) (let e = reached.sources_length in omega arith) (reached.sources_are.from k s f d) in
-                subst (λ (g : ℕ → ℕ). IsFrom p k (reached.sources ++ (source ∷ [])) (get_or (images ++ (i ∷ [])) k s).source (get_or (images ++ (i ∷ [])) k s).history.items g)
+                let old = from_more p k reached.sources source (get_or images k s).source (get_or images k s).history (get_or reached.sources k f) (let e = reached.sources_length in omega arith) (reached.sources_are.from k s f d) in
+                subst (λ (g : ℕ → ℕ). IsFrom p k (reached.sources ++ (source ∷ [])) (get_or (images ++ (i ∷ [])) k s).source (get_or (images ++ (i ∷ [])) k s).history g)
                 (sym (get_before reached.sources source k f (let e = reached.sources_length in omega arith)))
-                (subst (λ (j : Stored p). IsFrom p k (reached.sources ++ (source ∷ [])) j.source j.history.items (get_or reached.sources k f)) (sym (get_before images i k s d)) old)
+                (subst (λ (j : Stored p). IsFrom p k (reached.sources ++ (source ∷ [])) j.source j.history (get_or reached.sources k f)) (sym (get_before images i k s d)) old)
           ];
         };
         vectors = reached.vectors;
-        vectors_are = zip_change (λ (c : Class p) v. IsFrom p (length images) reached.sources c.place c.history.items v) (λ (c : Class p) v. IsFrom p (length (images ++ (i ∷ []))) (reached.sources ++ (source ∷ [])) c.place c.history.items v)
-            (λ c v h. from_wider p (length images) (length (images ++ (i ∷ []))) (reached.sources ++ (source ∷ [])) c.place c.history.items v (omega arith)
-            (from_more p (length images) reached.sources source c.place c.history.items v (let e = reached.sources_length in omega arith) h))
+        vectors_are = zip_change (λ (c : Class p) v. IsFrom p (length images) reached.sources c.place c.history v) (λ (c : Class p) v. IsFrom p (length (images ++ (i ∷ []))) (reached.sources ++ (source ∷ [])) c.place c.history v)
+            (λ c v h. from_wider p (length images) (length (images ++ (i ∷ []))) (reached.sources ++ (source ∷ [])) c.place c.history v (omega arith)
+            (from_more p (length images) reached.sources source c.place c.history v (let e = reached.sources_length in omega arith) h))
             kernel reached.vectors reached.vectors_are;
         walked = subst (λ (is : List (ImageVector ℕ)). Walked p (length rows) width (combined rows) skipped low (kernel_of kernel reached.vectors []) is) (sym q) w;
       }
@@ -175,26 +175,26 @@ module _ (p width : ℕ) (field : IsField p) (rows : List (List (ℕ × ℕ))) (
       small_nonzero : (n : ℕ) → 0 < n → n < p → n % p ≢ 0
       small_nonzero n z u e = let k : n % p ≡ n = mod-eq_of_lt u in absurd (omega arith)
 
-      lead : LeadsAt p width (value_in i.row.items) t
+      lead : LeadsAt p width (value_in i.row) t
       lead = record {
         on = b;
-        nonzero = nonzero_alike p (value_in i.row.items t) (get_or left t 0) (stored.row t) (small_nonzero (get_or left t 0) (done.stop b).0 (done.dense.small t (omega arith)));
+        nonzero = nonzero_alike p (value_in i.row t) (get_or left t 0) (stored.row t) (small_nonzero (get_or left t 0) (done.stop b).0 (done.dense.small t (omega arith)));
         least = λ y on c. Congruent_trans (stored.row y) (Congruent_of (done.before y c));
       }
 
       fresh : Among t (map image_place (images_of images reached.sources [])) → ⊥
       fresh m = elim (among_images images reached.sources [] t m) [ inl a ↦ reached.owns.none t b (done.stop b).1 a | inr n ↦ elim n [ ] ]
 
-      newest : (s : Stored p) (f : ℕ → ℕ) → IsFrom p (length images) (reached.sources ++ (source ∷ [])) (get_or (images ++ (i ∷ [])) (length images) s).source (get_or (images ++ (i ∷ [])) (length images) s).history.items (get_or (reached.sources ++ (source ∷ [])) (length images) f)
+      newest : (s : Stored p) (f : ℕ → ℕ) → IsFrom p (length images) (reached.sources ++ (source ∷ [])) (get_or (images ++ (i ∷ [])) (length images) s).source (get_or (images ++ (i ∷ [])) (length images) s).history (get_or (reached.sources ++ (source ∷ [])) (length images) f)
       newest s f =
           let here : get_or (reached.sources ++ (source ∷ [])) (length images) f ≡ source =
           subst (λ n. get_or (reached.sources ++ (source ∷ [])) n f ≡ source) reached.sources_length (get_last reached.sources source f) in
-          let mine : IsFrom p (length images) (reached.sources ++ (source ∷ [])) i.source i.history.items source =
-          subst (λ n. IsFrom p (length images) (reached.sources ++ (source ∷ [])) n i.history.items source) (sym stored.source_is)
+          let mine : IsFrom p (length images) (reached.sources ++ (source ∷ [])) i.source i.history source =
+          subst (λ n. IsFrom p (length images) (reached.sources ++ (source ∷ [])) n i.history source) (sym stored.source_is)
           (subst (λ (hs : List (ℕ × ℕ)). IsFrom p (length images) (reached.sources ++ (source ∷ [])) low hs source) (sym stored.history_is)
           (from_more p (length images) reached.sources source low history source (let e = reached.sources_length in omega arith) source_is)) in
-          subst (λ (g : ℕ → ℕ). IsFrom p (length images) (reached.sources ++ (source ∷ [])) (get_or (images ++ (i ∷ [])) (length images) s).source (get_or (images ++ (i ∷ [])) (length images) s).history.items g) (sym here)
-          (subst (λ (j : Stored p). IsFrom p (length images) (reached.sources ++ (source ∷ [])) j.source j.history.items source) (sym (get_last images i s)) mine)
+          subst (λ (g : ℕ → ℕ). IsFrom p (length images) (reached.sources ++ (source ∷ [])) (get_or (images ++ (i ∷ [])) (length images) s).source (get_or (images ++ (i ∷ [])) (length images) s).history g) (sym here)
+          (subst (λ (j : Stored p). IsFrom p (length images) (reached.sources ++ (source ∷ [])) j.source j.history source) (sym (get_last images i s)) mine)
 
 -- ---- a place that is skipped, and the start
 

@@ -73,8 +73,8 @@ taken_all p old sum rest at full b h = record {
   row = λ y. Congruent_of (elim (cases_lt y at) [ inl c ↦ h.moved y c | inr c ↦ h.nothing y c ∙ sym (past_end old y (omega arith)) ]);
 }
 
-pub stored_from : (p : ℕ) (old new : List ℕ) (t inv : ℕ) (i : Stored p) → IsRest p old new i.row.items → t < length old → ((y : ℕ) → y < t → get_or old y 0 ≡ 0)
-    → Congruent p (get_or old t 0 * inv) 1 → i.factor < p → Congruent p (i.factor + inv) 0 → i.place ≡ t → IsStoredFrom p old new t i.source i.history.items i
+pub stored_from : (p : ℕ) (old new : List ℕ) (t inv : ℕ) (i : Stored p) → IsRest p old new i.row → t < length old → ((y : ℕ) → y < t → get_or old y 0 ≡ 0)
+    → Congruent p (get_or old t 0 * inv) 1 → i.factor < p → Congruent p (i.factor + inv) 0 → i.place ≡ t → IsStoredFrom p old new t i.source i.history i
 stored_from p old new t inv i rest inside before product small cancels at = record {
   clear = rest.clear;
   fits = record {
@@ -83,7 +83,7 @@ stored_from p old new t inv i rest inside before product small cancels at = reco
     small = small;
     factor =
         let v = get_or old t 0 in
-        let e : Congruent p (value_in i.row.items i.place) v = Congruent_trans (Congruent_of (ap (value_in i.row.items) at)) (rest.row t) in
+        let e : Congruent p (value_in i.row i.place) v = Congruent_trans (Congruent_of (ap (value_in i.row) at)) (rest.row t) in
         Congruent_from (Congruent_add (Congruent_mul e (Congruent_refl i.factor)) (Congruent_add (Congruent_scale v cancels) (Congruent_sym product))) (omega arith);
     leads = λ y b. Congruent_trans (rest.row y) (Congruent_of (before y (omega arith)));
   };

@@ -95,7 +95,7 @@ exact_zero p row y dense h =
 -- what the factor of a row does at its lead and before
 pub cancel_before : (p width by : ℕ) (old new : List ℕ) (image : Stored p) → StoredFits p width image → IsDense p new → by ≡ (get_or old image.place 0 * image.factor) % p
     → ((y : ℕ) → y < image.place → get_or old y 0 ≡ 0)
-    → ((y : ℕ) → Congruent p (get_or new y 0) (get_or old y 0 + by * value_in image.row.items y))
+    → ((y : ℕ) → Congruent p (get_or new y 0) (get_or old y 0 + by * value_in image.row y))
     → (y : ℕ) → y < image.place + 1 → get_or new y 0 ≡ 0
 cancel_before p width by old new image fits dense by_is before step y b =
     exact_zero p new y dense
@@ -105,7 +105,7 @@ cancel_before p width by old new image fits dense by_is before step y b =
           let q : image.place ≡ y = omega arith in
           let P : ℕ → Type 0 = λ z. Congruent p (get_or new z 0) 0 in
           let v = get_or old image.place 0 in
-          let w = value_in image.row.items image.place in
+          let w = value_in image.row image.place in
           let m : Congruent p (by * w) ((v * image.factor) * w) = Congruent_mul (Congruent_trans (Congruent_of by_is) (Congruent_mod p (v * image.factor))) (Congruent_refl w) in
           subst P q (Congruent_from (Congruent_add (step image.place) (Congruent_add m (Congruent_scale v fits.factor))) (omega arith))
     ])
@@ -119,17 +119,17 @@ stored_fits p width images k i is b h = subst (StoredFits p width) (sym is) (eac
 
 -- one more row is added
 pub push_added : (p : ℕ) (images : List (Stored p)) (d i : Stored p) (history : List (ℕ × ℕ)) (k by old now new y : ℕ) → i ≡ get_or images k i → k < length images
-    → Congruent p now (old + added_row images d history y) → Congruent p new (now + by * value_in i.row.items y)
+    → Congruent p now (old + added_row images d history y) → Congruent p new (now + by * value_in i.row y)
     → Congruent p new (old + added_row images d (history ++ ((k, by) ∷ [])) y)
 push_added p images d i history k by old now new y is b h s =
-    let e = sum_append (λ (h : ℕ × ℕ). h.1 * value_in (get_or images h.0 d).row.items y) history ((k, by) ∷ []) in
-    let q : by * value_in (get_or images k d).row.items y ≡ by * value_in i.row.items y =
-    ap (λ (j : Stored p). by * value_in j.row.items y) (get_or_default images k d i b ∙ sym is) in
+    let e = sum_append (λ (h : ℕ × ℕ). h.1 * value_in (get_or images h.0 d).row y) history ((k, by) ∷ []) in
+    let q : by * value_in (get_or images k d).row y ≡ by * value_in i.row y =
+    ap (λ (j : Stored p). by * value_in j.row y) (get_or_default images k d i b ∙ sym is) in
     Congruent_from (Congruent_add s h) (omega (arith, e, q))
 
 pub reducing_step : (p : ℕ) (images : List (Stored p)) (old sum new : List ℕ) (history : List (ℕ × ℕ)) (at k by : ℕ) (i : Stored p) → i ≡ get_or images k i → k < length images → i.place ≡ at
     → Reducing p images old sum history at → IsDense p new → by < p → ((y : ℕ) → y < i.place + 1 → get_or new y 0 ≡ 0)
-    → ((y : ℕ) → Congruent p (get_or new y 0) (get_or sum y 0 + by * value_in i.row.items y))
+    → ((y : ℕ) → Congruent p (get_or new y 0) (get_or sum y 0 + by * value_in i.row y))
     → Reducing p images old new (history ++ ((k, by) ∷ [])) (at + 1)
 reducing_step p images old sum new history at k by i is b q h dense small before step = record {
   dense = dense;

@@ -10,6 +10,7 @@ use Rattle.row_reduce.specs.declared.Stored.{Stored}
 use Rattle.row_reduce.specs.declared.EchelonRow.{EchelonRow}
 use Rattle.row_reduce.specs.Walk.{IsSolved, combined, owned_in}
 use Rattle.row_reduce.specs.Expansion.{IsVectorOf}
+use Rattle.row_reduce.specs.Triangular.{IsSolvedStored}
 
 abbrev pub pivot_of : {p : ℕ} → EchelonRow p → ℕ
 pivot_of e = e.pivot
@@ -29,9 +30,9 @@ pub record IsMadeFrom (p : ℕ) (images : List (Stored p)) (s : Stored p) (done 
   pub pivot : e.pivot ≡ s.place
   pub rows_are : IsRow p e.row × IsRow p e.combination
   pub start : List (ℕ × ℕ)
-  pub vector : IsVectorOf p images s.source s.history.items start
+  pub vector : IsVectorOf p images s.source s.history start
   pub given : ℕ → ℕ
-  pub given_is : (y : ℕ) → Congruent p (given y) (value_in s.row.items y)
+  pub given_is : (y : ℕ) → Congruent p (given y) (value_in s.row y)
   pub row : (y : ℕ) → Congruent p (value_in e.row y) (negated p s.factor * cleared row_of done given given y)
   pub combination : (x : ℕ) → Congruent p (value_in e.combination x) (negated p s.factor * cleared combination_of done given (value_in start) x)
 
@@ -60,3 +61,7 @@ pub record AreEchelon (p width : ℕ) (rows : List (List (ℕ × ℕ))) (skip : 
 pub record IsSolvedWhole (p width : ℕ) (rows : List (List (ℕ × ℕ))) (skip : List ℕ) (solutions : List (List (ℕ × ℕ))) (owner : List ℕ) (echelon : List (EchelonRow p)) : Type 0 where
   pub solved : IsSolved p width rows skip solutions owner
   pub reduced : AreEchelon p width rows skip solved.kernel owner 0 echelon
+
+-- whatever rows were walked to store these, the list is the echelon of their span
+pub record IsEchelonFrom (p : ℕ) (stored : List (Stored p)) (owner : List ℕ) (echelon : List (EchelonRow p)) : Type 0 where
+  pub from : (width : ℕ) (rows : List (List (ℕ × ℕ))) (skip : List ℕ) (solutions : List (List (ℕ × ℕ))) → IsSolvedStored p width rows skip solutions owner stored → IsSolvedWhole p width rows skip solutions owner echelon

@@ -26,7 +26,7 @@ pub record IsExpanded (p : ℕ) (images : List (Stored p)) (place : ℕ) (histor
 
 -- the history names rows below k
 abbrev pub HistoryFits : (p k : ℕ) → Class p → Type 0
-HistoryFits p k class = Each (EntryFits p k) class.history.items
+HistoryFits p k class = Each (EntryFits p k) class.history
 
 -- `row` is the vector behind what the given row at `place` and the history have become
 pub record IsVectorOf (p : ℕ) (images : List (Stored p)) (place : ℕ) (history : List (ℕ × ℕ)) (row : List (ℕ × ℕ)) : Type 0 where
@@ -35,8 +35,8 @@ pub record IsVectorOf (p : ℕ) (images : List (Stored p)) (place : ℕ) (histor
   pub below : (count : ℕ) → AreNumbered count images → place < count → IsBelow count row
 
 abbrev pub IsVectorOfClass : (p : ℕ) → List (Stored p) → Class p → List (ℕ × ℕ) → Type 0
-IsVectorOfClass p images class row = IsVectorOf p images class.place class.history.items row
+IsVectorOfClass p images class row = IsVectorOf p images class.place class.history row
 
 -- each history names older rows
 pub record AreOlder (p : ℕ) (images : List (Stored p)) : Type 0 where
-  pub each : (k : ℕ) (s : Stored p) → k < length images → Each (EntryFits p k) (slice_index_or images k s).history.items
+  pub each : (k : ℕ) (s : Stored p) → k < length images → Each (EntryFits p k) (slice_index_or images k s).history

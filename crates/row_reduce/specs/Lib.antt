@@ -1,6 +1,7 @@
+pub mod Entries
 pub mod Stored
 pub mod Walk
 pub mod Expansion
+pub mod Triangular
 pub mod Echelon
 pub mod Space
-pub mod Triangular

@@ -5,7 +5,7 @@ use Rattle.linear_law.specs.Lists.{Among, Each, IsAscending}
 use Rattle.linear_law.specs.Listing.{unit_vector}
 use Rattle.linear_law.specs.Elimination.{IsImage}
 use Rattle.linear_law.specs.Pivots.{IsCanonical, IsPivot}
-use Rattle.sparse_rows.specs.Rows.{IsFirst, IsRow, value_in}
+use Rattle.sparse_rows.specs.Rows.{IsBelow, IsFirst, IsRow, value_in}
 use Rattle.row_reduce.specs.declared.EchelonRow.{EchelonRow}
 use Rattle.row_reduce.specs.Walk.{combined}
 use Rattle.row_reduce.specs.Echelon.{combination_of, pivot_of, row_of}
@@ -24,16 +24,19 @@ abbrev pub IsSpannedBy : ℕ → List (List (ℕ × ℕ)) → (ℕ → ℕ) → 
 IsSpannedBy p given w = IsImage p Everywhere (combined given) w
 
 -- The one reduced echelon list of the span: its pivots are the least places of the nonzero members, in
--- order, each row is the canonical member of its pivot, and its combination of given rows gives it.
+-- order, each row is the canonical member of its pivot, and its combination, which names given rows alone, gives it.
 pub record IsEchelonOf (p : ℕ) (given : List (List (ℕ × ℕ))) (echelon : List (EchelonRow p)) : Type 0 where
   pub rows_are : Each (λ (e : EchelonRow p). IsRow p e.row × IsRow p e.combination) echelon
+  pub inside : Each (λ (e : EchelonRow p). IsBelow (length given) e.combination) echelon
   pub ascends : IsAscending (map pivot_of echelon)
   pub pivots : (t : ℕ) → IsPivot p Everywhere (λ a b. a < b) (IsSpannedBy p given) t ↔ Among t (map pivot_of echelon)
   pub canonical : Each (λ (e : EchelonRow p). IsCanonical p Everywhere (λ a b. a < b) (IsSpannedBy p given) e.pivot (row_of e)) echelon
   pub from : Each (λ (e : EchelonRow p). (y : ℕ) → Congruent p (combined given (combination_of e) y) (row_of e y)) echelon
 
--- `row` is the sum of `rest`, which is 0 at each pivot, and a combination of given rows
+-- `row` is the sum of `rest`, which is 0 at each pivot, and a combination, which names given rows alone
 pub record IsRemainder (p : ℕ) (given : List (List (ℕ × ℕ))) (echelon : List (EchelonRow p)) (row rest combination : List (ℕ × ℕ)) : Type 0 where
+  pub rows_are : IsRow p rest × IsRow p combination
+  pub inside : IsBelow (length given) combination
   pub zero : Each (λ (e : EchelonRow p). Congruent p (value_in rest e.pivot) 0) echelon
   pub sum : (y : ℕ) → Congruent p (value_in row y) (value_in rest y + combined given (value_in combination) y)
 
@@ -49,9 +52,11 @@ pub record AreOwnRows (p : ℕ) (given : List (List (ℕ × ℕ))) (echelon : Li
   pub all : length echelon ≡ length given
   pub each : (k : ℕ) (d : EchelonRow p) → k < length given → IsOwnRow p k (slice_index_or given k []) (slice_index_or echelon k d)
 
--- The space of all combinations of the rows that are zero: its given rows are its echelon rows, in order.
+-- The space of all combinations of the rows that are zero: its given rows, which name rows alone, are its
+-- echelon rows, in order.
 pub record IsKernelOf (p : ℕ) (rows given : List (List (ℕ × ℕ))) (echelon : List (EchelonRow p)) : Type 0 where
   pub is_echelon : IsEchelonOf p given echelon
   pub own : AreOwnRows p given echelon
+  pub inside : Each (IsBelow (length rows)) given
   pub relations : Each (λ r. (y : ℕ) → Congruent p (combined rows (value_in r) y) 0) given
   pub whole : (v : ℕ → ℕ) → ((y : ℕ) → Congruent p (combined rows v y) 0) → IsImage p (λ x. x < length rows) (combined given) v

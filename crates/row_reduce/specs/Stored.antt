@@ -21,10 +21,10 @@ pub record EntryFits (p width : ℕ) (e : ℕ × ℕ) : Type 0 where
 -- a row with its lead, and the factor that takes the value there to -1
 pub record StoredFits (p width : ℕ) (i : Stored p) : Type 0 where
   pub inside : i.place < width
-  pub entries : Each (EntryFits p width) i.row.items
+  pub entries : Each (EntryFits p width) i.row
   pub small : i.factor < p
-  pub factor : Congruent p (value_in i.row.items i.place * i.factor + 1) 0
-  pub leads : (y : ℕ) → y < i.place → Congruent p (value_in i.row.items y) 0
+  pub factor : Congruent p (value_in i.row i.place * i.factor + 1) 0
+  pub leads : (y : ℕ) → y < i.place → Congruent p (value_in i.row y) 0
 
 abbrev pub stored_place : {p : ℕ} → Stored p → ℕ
 stored_place i = i.place
@@ -37,7 +37,7 @@ pub record Owns {p : ℕ} (width : ℕ) (images : List (Stored p)) (owner : List
 
 -- what the rows that a history names add
 abbrev pub added_row : {p : ℕ} → List (Stored p) → Stored p → List (ℕ × ℕ) → ℕ → ℕ
-added_row images d history y = sum_over (λ h. h.1 * value_in (slice_index_or images h.0 d).row.items y) history
+added_row images d history y = sum_over (λ h. h.1 * value_in (slice_index_or images h.0 d).row y) history
 
 -- the sum is the row, and starts at `start`
 pub record IsLoaded (p : ℕ) (row : List (ℕ × ℕ)) (sum : List ℕ) (start : ℕ) : Type 0 where
@@ -67,5 +67,5 @@ pub record IsStoredFrom (p : ℕ) (old new : List ℕ) (t source : ℕ) (history
   pub fits : StoredFits p (length old) i
   pub place : i.place ≡ t
   pub source_is : i.source ≡ source
-  pub history_is : i.history.items ≡ history
-  pub row : (y : ℕ) → Congruent p (value_in i.row.items y) (slice_index old y)
+  pub history_is : i.history ≡ history
+  pub row : (y : ℕ) → Congruent p (value_in i.row y) (slice_index old y)

@@ -26,7 +26,7 @@ pub record IsFrom (p k : ℕ) (sources : List (ℕ → ℕ)) (source : ℕ) (his
   pub sum : (d : ℕ → ℕ) (x : ℕ) → Congruent p (from x) (unit_vector source x + added_from sources d history x)
 
 abbrev pub image_of : {p : ℕ} → Stored p → (ℕ → ℕ) → ImageVector ℕ
-image_of s from = record { place = s.place; from = from; row = value_in s.row.items }
+image_of s from = record { place = s.place; from = from; row = value_in s.row }
 
 -- stored rows with the vectors behind them, the newest first
 abbrev pub images_of : {p : ℕ} → List (Stored p) → List (ℕ → ℕ) → List (ImageVector ℕ) → List (ImageVector ℕ)
@@ -46,7 +46,7 @@ AreNumbered count images = Each (λ s. s.source < count) images
 
 -- the combinations behind the stored rows
 pub record AreSources (p : ℕ) (images : List (Stored p)) (sources : List (ℕ → ℕ)) : Type 0 where
-  pub from : (k : ℕ) (s : Stored p) (f : ℕ → ℕ) → k < length images → IsFrom p k sources (slice_index_or images k s).source (slice_index_or images k s).history.items (slice_index_or sources k f)
+  pub from : (k : ℕ) (s : Stored p) (f : ℕ → ℕ) → k < length images → IsFrom p k sources (slice_index_or images k s).source (slice_index_or images k s).history (slice_index_or sources k f)
 
 -- The rows from `low` on are walked. `sources` are the vectors behind the stored rows, `vectors` those behind the classes.
 pub record Reached (p width : ℕ) (rows : List (List (ℕ × ℕ))) (skipped : ℕ → Type 0) (low : ℕ) (kernel : List (Class p)) (images : List (Stored p)) (owner : List ℕ) : Type 0 where
@@ -58,7 +58,7 @@ pub record Reached (p width : ℕ) (rows : List (List (ℕ × ℕ))) (skipped : 
   pub sources_length : length sources ≡ length images
   pub sources_are : AreSources p images sources
   pub vectors : List (ℕ → ℕ)
-  pub vectors_are : AllZip (λ (c : Class p) v. IsFrom p (length images) sources c.place c.history.items v) kernel vectors
+  pub vectors_are : AllZip (λ (c : Class p) v. IsFrom p (length images) sources c.place c.history v) kernel vectors
   pub walked : Walked p (length rows) width (combined rows) skipped low (kernel_of kernel vectors []) (images_of images sources [])
 
 -- the places with a number that is not 0

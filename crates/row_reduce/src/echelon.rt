@@ -7,11 +7,11 @@ ghost use Rattle.row_reduce.specs.declared.Class.{Class};
 ghost use Rattle.row_reduce.specs.Stored.{EntryFits, Owns};
 ghost use Rattle.row_reduce.specs.Walk.{Reached, SkipsFit, kernel_of, owned_in};
 ghost use Rattle.row_reduce.specs.Expansion.{AreOlder};
-ghost use Rattle.row_reduce.specs.Echelon.{AreEchelon, IsMadeFrom, IsSolvedWhole, cleared, combination_of, row_of};
+ghost use Rattle.row_reduce.specs.Triangular.{AreTriangular};
+ghost use Rattle.row_reduce.specs.Echelon.{AreEchelon, IsEchelonFrom, IsMadeFrom, IsSolvedWhole, cleared, combination_of, row_of};
 
-use crate::expanding::{expand, vectors};
-use crate::walking::walk_rows;
-use crate::{EchelonRow, Solution, Stored, Walk};
+use crate::expanding::{expand, kernel_and_stored};
+use crate::{EchelonRow, Solution, Stored};
 use fp_field::Fp;
 use sparse_rows::Row;
 use std::alloc::{AllocError, Global};
@@ -24,6 +24,7 @@ fn clear_one<const P: u32>(
     combination: &mut Row<P>,
 ) -> Result<(), AllocError>
     requires { IsTrue (served P) }
+    ensures is_row { OnOk result (IsRow P row.old → IsRow P row.new) }
     ensures row { OnOk result ((y : ℕ) → Congruent P (value_in row.new y) (value_in row.old y + negated P (value_in given.now reduced.now.pivot) * value_in reduced.now.row y)) }
     ensures combination { OnOk result ((x : ℕ) → Congruent P (value_in combination.new x) (value_in combination.old x + negated P (value_in given.now reduced.now.pivot) * value_in reduced.now.combination x)) }
 {
@@ -44,6 +45,7 @@ pub fn clear<const P: u32>(
     combination: &mut Row<P>,
 ) -> Result<(), AllocError>
     requires { IsTrue (served P) }
+    ensures is_row { OnOk result (IsRow P row.old → IsRow P row.new) }
     ensures row { OnOk result ((y : ℕ) → Congruent P (value_in row.new y) (cleared row_of done.now (value_in given.now) (value_in row.old) y)) }
     ensures combination { OnOk result ((x : ℕ) → Congruent P (value_in combination.new x) (cleared combination_of done.now (value_in given.now) (value_in combination.old) x)) }
 {
@@ -61,7 +63,6 @@ pub fn multiple<const P: u32>(alloc: Global, row: &Row<P>, by: Fp<P>) -> Result<
 {
     let mut product = Row::new(alloc);
     product.add_scaled(row, by)?;
-    let _ = product.as_slice();
     Ok(product)
 }
 
@@ -74,12 +75,12 @@ fn canonical_row<const P: u32>(
 ) -> Result<EchelonRow<P>, AllocError>
     requires prime { IsTrue (served P) }
     requires older { AreOlder P images.now }
-    requires fits { Each (EntryFits P (length images.now)) stored.now.history.items }
+    requires fits { Each (EntryFits P (length images.now)) stored.now.history }
     ensures { IfOk result (IsMadeFrom P images.now stored.now done.now) }
 {
-    let given = Row::from_pairs(alloc, stored.row.as_slice())?;
+    let given = stored.row.to_row(alloc)?;
     let mut row = given.copy()?;
-    let mut combination = expand(alloc, images, stored.source, stored.history.as_slice())?;
+    let mut combination = expand(alloc, images, stored.source, &stored.history)?;
     clear(&given, done, &mut row, &mut combination)?;
     let by = stored.factor.neg();
     let canonical = multiple(alloc, &row, by)?;
@@ -133,9 +134,26 @@ fn reduce_down<const P: u32>(
     Ok(())
 }
 
-/// The kernel, the leads and the reduced echelon list of the rows, as of `kernel_and_leads`. Each echelon
-/// row comes with a combination of the rows that gives it; it is 0 at each row that is the first of some
-/// combination that is zero. Time grows with the square of the rank, and with what is written.
+/// The reduced echelon list of the span of triangular rows, as `kernel_and_stored` leaves them. Time grows
+/// with the square of the rank, and with what is written.
+pub fn echelon_of<const P: u32>(
+    alloc: Global,
+    stored: &[Stored<P>],
+    owner: &[u32],
+) -> Result<Vec<EchelonRow<P>>, AllocError>
+    requires prime { IsTrue (served P) }
+    requires triangular { AreTriangular P (length owner.now) stored.now owner.now }
+    ensures { IfOk result (λ e. IsEchelonFrom P stored.now owner.now e.items) }
+{
+    let mut echelon = Vec::new(alloc);
+    reduce_down(alloc, stored, owner, &mut echelon)?;
+    echelon.reverse();
+    Ok(echelon)
+}
+
+/// The kernel, the leads and the reduced echelon list of the rows. The kernel and the leads are as of
+/// `kernel_and_leads`. Each echelon row comes with a combination of the rows that gives it; it is 0 at each
+/// row that is the first of some combination that is zero.
 pub fn kernel_and_echelon<const P: u32>(
     alloc: Global,
     rows: &[Row<P>],
@@ -149,16 +167,8 @@ pub fn kernel_and_echelon<const P: u32>(
     requires skips { SkipsFit P width rows.now skip.now }
     ensures { IfOk result (λ r. IsSolvedWhole P width rows.now skip.now r.kernel.items r.owner.items r.echelon.items) }
 {
-    let Walk {
-        classes,
-        stored,
-        owner,
-    } = walk_rows(alloc, rows, width, skip)?;
-    let mut kernel = vectors(alloc, stored.as_slice(), classes.as_slice())?;
-    kernel.reverse();
-    let mut echelon = Vec::new(alloc);
-    reduce_down(alloc, stored.as_slice(), owner.as_slice(), &mut echelon)?;
-    echelon.reverse();
+    let (kernel, owner, stored) = kernel_and_stored(alloc, rows, width, skip)?;
+    let echelon = echelon_of(alloc, stored.as_slice(), owner.as_slice())?;
     Ok(Solution {
         kernel,
         owner,

@@ -8,9 +8,8 @@ ghost use Rattle.row_reduce.specs.Walk.{AreNumbered, IsSolved, SkipsFit};
 ghost use Rattle.row_reduce.specs.Expansion.{AreOlder, Expanding, HistoryFits, IsExpanded, IsVectorOf, IsVectorOfClass};
 ghost use Rattle.row_reduce.specs.Triangular.{IsSolvedStored};
 
-use crate::reducing::add_row;
 use crate::walking::{walk_rows, zero_values};
-use crate::{Class, Stored, Walk};
+use crate::{Class, Entries, Stored, Walk};
 use fp_field::Fp;
 use sparse_rows::Row;
 use std::alloc::{AllocError, Global};
@@ -34,7 +33,7 @@ fn move_weight<const P: u32>(
     let weight = weights[k];
     if weight.value() != 0 {
         out.push((images[k].source, weight))?;
-        add_row(weights, images[k].history.as_slice(), weight);
+        images[k].history.add_to(weights, weight);
     }
     Ok(())
 }
@@ -61,7 +60,7 @@ fn move_all<const P: u32>(
 /// Lets a history spread over what it arose from.
 fn expand_into<const P: u32>(
     images: &[Stored<P>],
-    history: &[(u32, Fp<P>)],
+    history: &Entries<P>,
     weights: &mut [Fp<P>],
     out: &mut Vec<(u32, Fp<P>)>,
 ) -> Result<(), AllocError>
@@ -73,7 +72,7 @@ fn expand_into<const P: u32>(
     ensures below { OnOk result ((count : ℕ) → AreNumbered count images.now → IsBelow count out.old.items → IsBelow count out.new.items) }
     ensures expanded { OnOk result ((place : ℕ) → out.old.items ≡ (place, 1) ∷ [] → IsExpanded P images.now place history.now out.new.items) }
 {
-    add_row(weights, history, Fp::new(1));
+    history.add_to(weights, Fp::new(1));
     move_all(images, weights, out)?;
     Ok(())
 }
@@ -83,7 +82,7 @@ pub fn expand<const P: u32>(
     alloc: Global,
     images: &[Stored<P>],
     place: u32,
-    history: &[(u32, Fp<P>)],
+    history: &Entries<P>,
 ) -> Result<Row<P>, AllocError>
     requires prime { IsTrue (served P) }
     requires older { AreOlder P images.now }
@@ -111,7 +110,7 @@ pub fn vectors<const P: u32>(
 {
     let mut rows = Vec::new(alloc);
     for class in classes {
-        let row = expand(alloc, images, class.place, class.history.as_slice())?;
+        let row = expand(alloc, images, class.place, &class.history)?;
         rows.push(row)?;
     }
     Ok(rows)

@@ -2,12 +2,14 @@
 #![tactic(auto)]
 
 mod echelon;
+mod entries;
 mod expanding;
 mod reducing;
 mod space;
 mod walking;
 
-pub use echelon::kernel_and_echelon;
+pub use echelon::{echelon_of, kernel_and_echelon};
+pub use entries::Entries;
 pub use expanding::{kernel_and_leads, kernel_and_stored};
 use fp_field::Fp;
 pub use space::{Space, kernel};
@@ -20,12 +22,12 @@ pub struct Stored<const P: u32> {
     pub place: u32,
     /// The factor that takes the value at the lead to -1.
     pub factor: Fp<P>,
-    /// The values of the row, in no special order.
-    pub row: Vec<(u32, Fp<P>)>,
+    /// The values of the row.
+    pub row: Entries<P>,
     /// The number of the given row that it is left of.
     pub source: u32,
     /// The older stored rows that were added, by number, with their factors.
-    pub history: Vec<(u32, Fp<P>)>,
+    pub history: Entries<P>,
 }
 
 /// A row that went to zero, and the stored rows that were added to get there.
@@ -34,7 +36,7 @@ pub struct Class<const P: u32> {
     /// The number of the given row.
     pub place: u32,
     /// The stored rows that were added, by number, with their factors.
-    pub history: Vec<(u32, Fp<P>)>,
+    pub history: Entries<P>,
 }
 
 /// What a walk found.

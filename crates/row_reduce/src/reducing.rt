@@ -10,7 +10,7 @@ use fp_field::Fp;
 use std::alloc::{AllocError, Global};
 
 /// `sum` plus `by` times `value`.
-fn plus_product<const P: u32>(sum: Fp<P>, by: Fp<P>, value: Fp<P>) -> Fp<P>
+pub(crate) fn plus_product<const P: u32>(sum: Fp<P>, by: Fp<P>, value: Fp<P>) -> Fp<P>
     requires { IsTrue (served P) }
     ensures { result ≡ (sum.entry + by.entry * value.entry) % P }
 {
@@ -40,10 +40,10 @@ fn cancel<const P: u32>(sum: &mut [Fp<P>], image: &Stored<P>) -> Fp<P>
     ensures small { result < P }
     ensures dense { IsDense P sum.new }
     ensures before { (y : ℕ) → y < image.now.place + 1 → slice_index sum.new y ≡ 0 }
-    ensures sum { (y : ℕ) → Congruent P (slice_index sum.new y) (slice_index sum.old y + result * value_in image.now.row.items y) }
+    ensures sum { (y : ℕ) → Congruent P (slice_index sum.new y) (slice_index sum.old y + result * value_in image.now.row y) }
 {
     let by = sum[image.place as usize].mul(image.factor);
-    add_row(sum, image.row.as_slice(), by);
+    image.row.add_to(sum, by);
     by
 }
 

@@ -174,7 +174,6 @@ fn own_row<const P: u32>(alloc: Global, row: &Row<P>, at: u32) -> Result<Echelon
     ensures { IfOk result (IsOwnRow P at row.now) }
 {
     let own = row.copy()?;
-    let _ = own.as_slice();
     let combination = Row::from_pairs(alloc, &[(at, Fp::new(1))])?;
     Ok(EchelonRow {
         pivot: lead_of(row),

@@ -7,7 +7,7 @@ ghost use Rattle.row_reduce.specs.Stored.{EntryFits, IsClear, IsDense, IsLoaded,
 ghost use Rattle.row_reduce.specs.Walk.{Reached, SkipsFit, owned_in};
 
 use crate::reducing::{add_row, reduce};
-use crate::{Class, Stored, Walk};
+use crate::{Class, Entries, Stored, Walk};
 use fp_field::Fp;
 use sparse_rows::Row;
 use std::alloc::{AllocError, Global};
@@ -37,8 +37,8 @@ fn load<const P: u32>(sum: &mut [Fp<P>], row: &[(u32, Fp<P>)]) -> usize
     first_place(row, sum.len())
 }
 
-/// Takes what is left in the sum, from `start` on.
-fn take_rest<const P: u32>(
+/// Takes the values that are left in the sum, from `start` on, each with its place.
+fn take_pairs<const P: u32>(
     alloc: Global,
     sum: &mut [Fp<P>],
     start: usize,
@@ -60,20 +60,72 @@ fn take_rest<const P: u32>(
     Ok(rest)
 }
 
+/// Clears the sum, which has nothing before `start`.
+fn clear_from<const P: u32>(sum: &mut [Fp<P>], start: usize)
+    requires prime { IsTrue (served P) }
+    requires before { (y : ℕ) → y < start → slice_index sum.old y ≡ 0 }
+    ensures { IsClear sum.new }
+{
+    for at in start..sum.len() {
+        sum[at] = Fp::new(0);
+    }
+}
+
+/// Takes all values of the sum from `start` on.
+fn take_run<const P: u32>(
+    alloc: Global,
+    sum: &mut [Fp<P>],
+    start: usize,
+) -> Result<Entries<P>, AllocError>
+    requires prime { IsTrue (served P) }
+    requires narrow { length sum.old ≤ 2 ^ 32 }
+    requires dense { IsDense P sum.old }
+    requires inside { start < length sum.old }
+    requires before { (y : ℕ) → y < start → slice_index sum.old y ≡ 0 }
+    ensures { IfOk result (λ r. IsRest P sum.old sum.new r) }
+{
+    let rest = Entries::of_run(alloc, start as u32, &sum[start..])?;
+    clear_from(sum, start);
+    Ok(rest)
+}
+
+/// Takes what is left in the sum, from `start` on, in the form that takes less memory.
+fn take_rest<const P: u32>(
+    alloc: Global,
+    sum: &mut [Fp<P>],
+    start: usize,
+) -> Result<Entries<P>, AllocError>
+    requires prime { IsTrue (served P) }
+    requires narrow { length sum.old ≤ 2 ^ 32 }
+    requires dense { IsDense P sum.old }
+    requires inside { start < length sum.old }
+    requires before { (y : ℕ) → y < start → slice_index sum.old y ≡ 0 }
+    ensures { IfOk result (λ r. IsRest P sum.old sum.new r) }
+{
+    let left = &sum[start..];
+    let filled = left.iter().filter(|value| !value.is_zero()).count();
+    if filled < left.len() / 8 {
+        let pairs = take_pairs(alloc, sum, start)?;
+        Entries::of_pairs(alloc, pairs.as_slice())
+    } else {
+        take_run(alloc, sum, start)
+    }
+}
+
 /// Takes a row that was not reduced from the sum.
 fn take_given<const P: u32>(
     alloc: Global,
     sum: &mut [Fp<P>],
     row: &[(u32, Fp<P>)],
-) -> Result<Vec<(u32, Fp<P>)>, AllocError>
+) -> Result<Entries<P>, AllocError>
     requires prime { IsTrue (served P) }
     requires dense { IsDense P sum.old }
     requires fits { Each (EntryFits P (length sum.old)) row.now }
     requires same { (y : ℕ) → Congruent P (slice_index sum.old y) (value_in row.now y) }
-    ensures { IfOk result (λ r. IsRest P sum.old sum.new r.items) }
+    ensures { IfOk result (λ r. IsRest P sum.old sum.new r) }
 {
     add_row(sum, row, Fp::new(1).neg());
-    let rest = Vec::from_slice(alloc, row)?;
+    let rest = Entries::of_pairs(alloc, row)?;
     Ok(rest)
 }
 
@@ -84,14 +136,15 @@ fn take_left<const P: u32>(
     row: &[(u32, Fp<P>)],
     history: &[(u32, Fp<P>)],
     start: usize,
-) -> Result<Vec<(u32, Fp<P>)>, AllocError>
+) -> Result<Entries<P>, AllocError>
     requires prime { IsTrue (served P) }
     requires narrow { length sum.old ≤ 2 ^ 32 }
     requires dense { IsDense P sum.old }
+    requires inside { start < length sum.old }
     requires before { (y : ℕ) → y < start → slice_index sum.old y ≡ 0 }
     requires fits { Each (EntryFits P (length sum.old)) row.now }
     requires same { history.now ≡ [] → (y : ℕ) → Congruent P (slice_index sum.old y) (value_in row.now y) }
-    ensures { IfOk result (λ r. IsRest P sum.old sum.new r.items) }
+    ensures { IfOk result (λ r. IsRest P sum.old sum.new r) }
 {
     if history.is_empty() {
         take_given(alloc, sum, row)
@@ -121,6 +174,7 @@ fn store<const P: u32>(
 {
     let factor = sum[t].inv().neg();
     let row = take_left(alloc, sum, given, history.as_slice(), t)?;
+    let history = Entries::of_pairs(alloc, history.as_slice())?;
     Ok(Stored {
         place: t as u32,
         factor,
@@ -128,6 +182,18 @@ fn store<const P: u32>(
         source,
         history,
     })
+}
+
+/// The class of a row that went to zero.
+fn class_of<const P: u32>(
+    alloc: Global,
+    place: u32,
+    history: Vec<(u32, Fp<P>)>,
+) -> Result<Class<P>, AllocError>
+    ensures { IfOk result (λ c. (c.place ≡ place) × (c.history ≡ history.entry.items)) }
+{
+    let history = Entries::of_pairs(alloc, history.as_slice())?;
+    Ok(Class { place, history })
 }
 
 /// Appends a row, which then owns its lead.
@@ -174,10 +240,8 @@ fn step<const P: u32>(
     let start = load(sum, row);
     let (t, history) = reduce(alloc, sum, start, images.as_slice(), owner)?;
     if t == sum.len() {
-        kernel.push(Class {
-            place: low as u32,
-            history,
-        })?;
+        let class = class_of(alloc, low as u32, history)?;
+        kernel.push(class)?;
     } else {
         let stored = store(alloc, sum, row, t, low as u32, history)?;
         append(images, owner, stored)?;

@@ -1,8 +1,7 @@
-use Rattle.std.proofs.Common.{ℕ, ◌*◌, List, refl, ap, subst}
+use Rattle.std.proofs.Common.{ℕ, ◌*◌, List, refl, ap}
 use Rattle.linear_law.specs.Congruence.{Congruent, negated}
 use Rattle.linear_law.proofs.CongruenceLemmas.{Congruent_mod, Congruent_mul, Congruent_of, Congruent_trans}
 use Rattle.sparse_rows.specs.Rows.{value_in}
-use Rattle.row_reduce.specs.Expansion.{IsVectorOf}
 use Rattle.row_reduce.specs.Echelon.{cleared, row_of}
 use Rattle.row_reduce.proofs.echelon.canonical_row.Goals as goal
 
@@ -19,15 +18,14 @@ returns g c =
       pivot = refl;
       rows_are = (c.in_ok-canonical.ensures.row, c.in_ok-source.ensures.row);
       start = start;
-      vector = subst (λ (h : List (ℕ × ℕ)). IsVectorOf p images s.source h start) c.as_slice-2.ensures.value c.in_ok-combination.ensures;
+      vector = c.in_ok-combination.ensures;
       given = value_in given;
       given_is = λ y.
-          Congruent_trans (Congruent_of (c.in_ok-given.ensures.sum y))
-          (Congruent_trans (Congruent_mod p (value_in c.as_slice.result.now y)) (Congruent_of (ap (λ (r : List (ℕ × ℕ)). value_in r y) c.as_slice.ensures.value)));
+          Congruent_trans (Congruent_of (c.in_ok-given.ensures.sum y)) (Congruent_mod p (value_in s.row y));
       row = λ y.
           Congruent_trans (Congruent_of (c.in_ok-canonical.ensures.sum y))
           (Congruent_trans (Congruent_mod p (c.neg-by.result * value_in c.clear.new.row y))
-          (Congruent_mul by_is (Congruent_trans (c.in_ok-clear.ensures.row y) (Congruent_of (ap (λ (r : List (ℕ × ℕ)). cleared row_of done (value_in given) (value_in r) y) c.in_ok-row.ensures)))));
+          (Congruent_mul by_is (Congruent_trans (c.in_ok-clear.ensures.row y) (Congruent_of (ap (λ (r : List (ℕ × ℕ)). cleared row_of done (value_in given) (value_in r) y) c.in_ok-row.ensures.same)))));
       combination = λ x.
           Congruent_trans (Congruent_of (c.in_ok-source.ensures.sum x))
           (Congruent_trans (Congruent_mod p (c.neg-by.result * value_in c.clear.new.combination x)) (Congruent_mul by_is (c.in_ok-clear.ensures.combination x)));

@@ -9,6 +9,7 @@ use Rattle.row_reduce.proofs.echelon.clear.Goals as goal
 
 pub loop-reduced-init : goal.loop-reduced-init
 loop-reduced-init g c = record {
+  is_row = λ h. h;
   row = λ y. Congruent_from (Congruent_refl (value_in c.args.row.now y)) (omega arith);
   combination = λ x. Congruent_from (Congruent_refl (value_in c.args.combination.now x)) (omega arith);
 }
@@ -19,6 +20,7 @@ loop-reduced-preserved g c =
     let done = c.args.done.now in
     let given = value_in c.args.given.now in
     record {
+      is_row = λ h. c.in_ok-clear_one.ensures.is_row (c.loop-reduced.invariant.is_row h);
       row = λ y. cleared_more row_of done given (value_in c.args.row.now) i c.reduced-item.result y (value_in c.loop-reduced.row y) (value_in c.clear_one.new.row y)
           c.reduced-item.is c.loop-reduced-test.true (c.loop-reduced.invariant.row y) (c.in_ok-clear_one.ensures.row y);
       combination = λ x. cleared_more combination_of done given (value_in c.args.combination.now) i c.reduced-item.result x (value_in c.loop-reduced.combination x) (value_in c.clear_one.new.combination x)

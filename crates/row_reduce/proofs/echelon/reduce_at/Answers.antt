@@ -21,7 +21,7 @@ offset_bounds-images-owned g c =
 pub canonical_row-requires : goal.canonical_row-requires
 canonical_row-requires g c =
     let o = owned (length c.args.owner.now) c.args.images.now c.args.owner.now c.args.at c.requires.owns c.if-owned-ne0.true in
-    let fits : Each (EntryFits g.row.P (length c.args.images.now)) c.index-images-owned.result.history.items =
+    let fits : Each (EntryFits g.row.P (length c.args.images.now)) c.index-images-owned.result.history =
     history_wide g.row.P c.args.images.now (get_or c.args.owner.now c.args.at 0 - 1) c.index-images-owned.result c.requires.older o.0 c.index-images-owned.is in
     (lit< tt, (lit< tt, (c.requires.prime, (c.requires.older, fits))))
 

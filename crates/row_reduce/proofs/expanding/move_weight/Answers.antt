@@ -27,12 +27,11 @@ returns-in_ok-push-clause-moved g c =
     let is : (s : Stored p) → i ≡ get_or images k s = λ s. get_or_default images k c.index-images-k.result s c.requires.inside in
     let w = c.index-weights-k.result in
     let w_is : w ≡ get_or weights k 0 = read_at weights k w c.index-weights-k.is (subst (λ n. k < n) (sym c.requires.full) c.requires.inside) in
-    let hist : c.as_slice.result.now ≡ i.history.items =
-    c.as_slice.ensures.value ∙ ap (λ (s : Stored p). s.history.items) (sym (is c.index-images-k-then-value-ne0.result)) in
-    let added : (j : ℕ) → Congruent p (get_or c.add_row.new.sum j 0) (get_or weights j 0 + w * value_in i.history.items j) = λ j.
-    Congruent_trans (c.add_row.ensures.sum j) (Congruent_of (ap (λ (r : List (ℕ × ℕ)). get_or weights j 0 + w * value_in r j) hist)) in
-    let s = expand_step p images place history weights c.add_row.new.sum c.args.out.now.items k w i c.requires.inside w_is is c.add_row.ensures.dense added h in
-    subst (λ (o : List (ℕ × ℕ)). Expanding p images place history c.add_row.new.sum o k) (sym c.in_ok-push.ensures.items) s
+    let hist : (get_or images k c.index-images-k-then-value-ne0.result).history ≡ i.history = ap (λ (s : Stored p). s.history) (sym (is c.index-images-k-then-value-ne0.result)) in
+    let added : (j : ℕ) → Congruent p (get_or c.add_to.new.sum j 0) (get_or weights j 0 + w * value_in i.history j) = λ j.
+    subst (λ (r : List (ℕ × ℕ)). Congruent p (get_or c.add_to.new.sum j 0) (get_or weights j 0 + w * value_in r j)) hist (c.add_to.ensures.sum j) in
+    let s = expand_step p images place history weights c.add_to.new.sum c.args.out.now.items k w i c.requires.inside w_is is c.add_to.ensures.dense added h in
+    subst (λ (o : List (ℕ × ℕ)). Expanding p images place history c.add_to.new.sum o k) (sym c.in_ok-push.ensures.items) s
 
 pub returns-else-value-ne0-clause-moved : goal.returns-else-value-ne0-clause-moved
 returns-else-value-ne0-clause-moved g c =

@@ -3,7 +3,7 @@ use Rattle.std.proofs.lemmas.List.{take_more}
 use Rattle.std.specs.List.{AllZip}
 use Rattle.linear_law.proofs.ListLemmas.{zip_push}
 use Rattle.row_reduce.specs.declared.Class.{Class}
-use Rattle.row_reduce.specs.Expansion.{IsVectorOf, IsVectorOfClass}
+use Rattle.row_reduce.specs.Expansion.{IsVectorOfClass}
 use Rattle.row_reduce.proofs.expanding.vectors.Goals as goal
 
 pub loop-class-preserved : goal.loop-class-preserved
@@ -17,5 +17,4 @@ loop-class-preserved g c =
     take_more classes i class c.loop-class-test.true ∙ ap (λ (x : Class p). take i classes ++ (x ∷ [])) (sym c.class-item.is) in
     subst (λ (cs : List (Class p)). AllZip R cs c.push.new.self.items) (sym more)
     (subst (AllZip R (take i classes ++ (class ∷ []))) (sym c.in_ok-push.ensures.items)
-    (zip_push R (take i classes) c.loop-class.rows.items class c.in_ok-row.row c.loop-class.invariant
-    (subst (λ (h : List (ℕ × ℕ)). IsVectorOf p c.args.images.now class.place h c.in_ok-row.row) c.as_slice.ensures.value c.in_ok-row.ensures)))
+    (zip_push R (take i classes) c.loop-class.rows.items class c.in_ok-row.row c.loop-class.invariant c.in_ok-row.ensures))

@@ -11,7 +11,7 @@ loop-row-preserved g c =
     let i = c.loop-row.row-index in
     let row : List (ℕ × ℕ) = c.row-item.result in
     let more : take (i + 1) rows ≡ take i rows ++ (row ∷ []) = take_more rows i row c.loop-row-test.true ∙ ap (λ (r : List (ℕ × ℕ)). take i rows ++ (r ∷ [])) (sym c.row-item.is) in
-    c.in_ok-push.ensures.items ∙ ap (λ (r : List (ℕ × ℕ)). c.loop-row.list.items ++ (r ∷ [])) c.in_ok-copy.ensures ∙ ap (λ (xs : List (List (ℕ × ℕ))). xs ++ (row ∷ [])) c.loop-row.invariant
+    c.in_ok-push.ensures.items ∙ ap (λ (r : List (ℕ × ℕ)). c.loop-row.list.items ++ (r ∷ [])) c.in_ok-copy.ensures.same ∙ ap (λ (xs : List (List (ℕ × ℕ))). xs ++ (row ∷ [])) c.loop-row.invariant
     ∙ append_assoc c.args.list.now.items (take i rows) (row ∷ []) ∙ ap (λ (xs : List (List (ℕ × ℕ))). c.args.list.now.items ++ xs) (sym more)
 
 pub returns : goal.returns

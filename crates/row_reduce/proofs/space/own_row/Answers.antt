@@ -11,8 +11,8 @@ returns g c =
     let at = c.args.at in
     let one : Congruent p c.new.result 1 = Congruent_trans (Congruent_of c.new.ensures) (Congruent_mod p 1) in
     record {
-      same = c.in_ok-own.ensures;
-      rows_are = (c.as_slice.ensures.row, c.in_ok-combination.ensures.row);
+      same = c.in_ok-own.ensures.same;
+      rows_are = (c.in_ok-own.ensures.row, c.in_ok-combination.ensures.row);
       combination = λ x.
           Congruent_trans (Congruent_of (c.in_ok-combination.ensures.sum x))
           (Congruent_trans (Congruent_mod p (value_in ((at, c.new.result) ∷ []) x)) (Congruent_from (Congruent_mul one (Congruent_refl (unit_vector at x))) (omega arith)));

@@ -1,4 +1,4 @@
-use Rattle.std.proofs.Common.{◌≡◌, suc, ◌<◌, ◌≤◌, length, get_or, List, ◌∷◌, [], ◌++◌, arith, refl, sym, ◌∙◌, subst, add-one, lit<, ◌^◌}
+use Rattle.std.proofs.Common.{◌≡◌, suc, ◌<◌, ◌≤◌, length, get_or, List, ◌∷◌, [], ◌++◌, arith, sym, ◌∙◌, subst, add-one, lit<, ◌^◌}
 use Rattle.fp_field.proofs.ServedLemmas.{served_field}
 use Rattle.linear_law.specs.Lists.{Each}
 use Rattle.row_reduce.specs.declared.Stored.{Stored}
@@ -24,10 +24,9 @@ returns-in_ok-push-clause-reached g c =
     let done : IsReducedTo p width images owner c.load-start.new.sum c.reduce.new.sum c.in_ok-t.t c.in_ok-t.history.items =
     subst (λ n. IsReducedTo p n images owner c.load-start.new.sum c.reduce.new.sum c.in_ok-t.t c.in_ok-t.history.items) c.load-start.auto.sum
     (subst (λ (is : List (Stored p)). IsReducedTo p (length c.load-start.new.sum) is owner c.load-start.new.sum c.reduce.new.sum c.in_ok-t.t c.in_ok-t.history.items) c.as_slice.ensures.value c.in_ok-t.ensures) in
-    let s : Stored p = record { place = 0; factor = 0; row = c.in_ok-t.history; source = 0; history = c.in_ok-t.history } in
-    let cl : Class p = record { place = c.args.low; history = c.in_ok-t.history } in
+    let s : Stored p = record { place = 0; factor = 0; row = []; source = 0; history = [] } in
     let r = step_class p width (served_field g.row.P c.requires.prime) rows (owned_in c.args.skip.now) c.args.low kernel images owner reached c.requires.inside (λ t. let e = c.requires.taken in absurd (omega arith)) given given_is
-    c.load-start.new.sum c.reduce.new.sum c.load-start.result c.load-start.ensures c.in_ok-t.t c.in_ok-t.history.items done s cl refl refl (omega arith) in
+    c.load-start.new.sum c.reduce.new.sum c.load-start.result c.load-start.ensures c.in_ok-t.t c.in_ok-t.history.items done s c.in_ok-class.class c.in_ok-class.ensures.0 c.in_ok-class.ensures.1 (omega arith) in
     subst (λ (cs : List (Class p)). Reached p width rows (owned_in c.args.skip.now) c.args.low cs images owner) (sym c.in_ok-push.ensures.items) r
 
 pub returns-in_ok-append-clause-reached : goal.returns-in_ok-append-clause-reached
@@ -75,7 +74,7 @@ store-requires g c =
     let done : IsReducedTo p width images owner c.load-start.new.sum left c.in_ok-t.t c.in_ok-t.history.items =
     subst (λ n. IsReducedTo p n images owner c.load-start.new.sum left c.in_ok-t.t c.in_ok-t.history.items) c.load-start.auto.sum
     (subst (λ (is : List (Stored p)). IsReducedTo p (length c.load-start.new.sum) is owner c.load-start.new.sum left c.in_ok-t.t c.in_ok-t.history.items) c.as_slice.ensures.value c.in_ok-t.ensures) in
-    let s : Stored p = record { place = 0; factor = 0; row = c.in_ok-t.history; source = 0; history = c.in_ok-t.history } in
+    let s : Stored p = record { place = 0; factor = 0; row = []; source = 0; history = [] } in
     let b : c.in_ok-t.t < width = let d = done.inside in let f = c.if-t-sum.false in omega arith in
     let narrow : length left ≤ 2 ^ 32 = subst (λ n. n ≤ 2 ^ 32) (sym full) c.requires.narrow in
     let inside : c.in_ok-t.t < length left = subst (λ n. c.in_ok-t.t < n) (sym full) b in

@@ -2,8 +2,8 @@ use Rattle.std.proofs.Common.{ℕ, ◌+◌, set, List, Vec, Global, arith, sym, 
 use native.Mathlib.Nat.{zero-mod}
 use Rattle.row_reduce.proofs.SumLemmas.{read_at}
 use Rattle.row_reduce.proofs.StoredLemmas.{Taking, taking_past, taking_step}
-use Rattle.row_reduce.proofs.walking.take_rest.Goals as goal
-use Rattle.row_reduce.proofs.walking.take_rest.Goals.{then-value-ne0+in_ok-push, else-value-ne0}
+use Rattle.row_reduce.proofs.walking.take_pairs.Goals as goal
+use Rattle.row_reduce.proofs.walking.take_pairs.Goals.{then-value-ne0+in_ok-push, else-value-ne0}
 
 pub loop-at-preserved : goal.loop-at-preserved
 loop-at-preserved g c =
