@@ -4,7 +4,7 @@ use Rattle.std.specs.List.{list_any}
 use Rattle.std.specs.Str.{bytes_eq}
 use Rattle.std.proofs.lemmas.Bool.{and_from, and_parts, eqb-true}
 use Rattle.std.proofs.lemmas.Bool.Decides.{nat_tests}
-use Rattle.linear_law.specs.Lists.{Among, Each}
+use Rattle.linear_law.specs.Lists.{Among}
 use Rattle.simplicial_law.specs.ListedSimplices.{simplices, sublists}
 use Rattle.simplicial_law.proofs.ListedSimplices.{all_put, each_of, of_all, sublists_keep}
 use Rattle.simplicial_law.proofs.Sublists.{sublist_of_rest}
