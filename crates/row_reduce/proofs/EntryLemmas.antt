@@ -1,19 +1,19 @@
 -- Values at places, as lists of pairs.
-use Rattle.std.proofs.Common.{◌≡◌, ℕ, zero, suc, ◌+◌, ◌*◌, ◌-◌, ◌<◌, ◌≤◌, ◌≢◌, List, [], ◌∷◌, ◌++◌, take, drop, length, get_or, set, arith, refl, sym, ◌∙◌, ap, subst, inl, inr, get_or-set_other, get_or-set_same, length-drop}
+use Rattle.std.proofs.Common.{◌≡◌, ℕ, zero, suc, ◌+◌, ◌*◌, ◌-◌, ◌<◌, ◌≤◌, List, [], ◌∷◌, ◌++◌, take, drop, length, get_or, set, arith, refl, sym, ◌∙◌, ap, subst, inl, inr, get_or-set_other, get_or-set_same, length-drop}
 use Rattle.std.proofs.Math.ListN.{drop_of_length-le}
 use Rattle.std.proofs.lemmas.Bool.{cases_eq, cases_lt}
 use Rattle.std.proofs.lemmas.List.{append-nil, get_or-drop, take_all, take_more}
-use Rattle.linear_law.specs.Congruence.{Congruent, sum_over}
+use Rattle.linear_law.specs.Congruence.{Congruent}
 use Rattle.linear_law.specs.Lists.{Each}
 use Rattle.linear_law.specs.Listing.{unit_vector}
-use Rattle.linear_law.proofs.CongruenceLemmas.{Congruent_add, Congruent_from, Congruent_of, Congruent_trans}
+use Rattle.linear_law.proofs.CongruenceLemmas.{Congruent_add, Congruent_from, Congruent_of}
 use Rattle.linear_law.proofs.ListLemmas.{each_get_or}
 use Rattle.linear_law.proofs.RowCombinations.{unit_one, unit_other}
 use Rattle.linear_law.proofs.SumLemmas.{sum_append}
 use Rattle.sparse_rows.specs.Rows.{value_in}
 use Rattle.row_reduce.specs.Entries.{entries_of, run_from, zipped}
 use Rattle.row_reduce.specs.Stored.{EntryFits, IsClear, IsDense, IsRest}
-use Rattle.row_reduce.proofs.SumLemmas.{past_end, read_at}
+use Rattle.row_reduce.proofs.SumLemmas.{read_at}
 
 -- ---- values at places of their own
 

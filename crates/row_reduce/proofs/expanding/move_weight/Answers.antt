@@ -2,7 +2,6 @@ use Rattle.std.proofs.Common.{◌≡◌, ℕ, ◌+◌, ◌*◌, ◌<◌, get_or,
 use Rattle.std.proofs.lemmas.List.{get_or_default}
 use Rattle.linear_law.specs.Congruence.{Congruent}
 use Rattle.linear_law.proofs.ListLemmas.{each_get_or, each_push}
-use Rattle.linear_law.proofs.CongruenceLemmas.{Congruent_of, Congruent_trans}
 use Rattle.sparse_rows.specs.Rows.{IsBelow, value_in}
 use Rattle.row_reduce.specs.declared.Stored.{Stored}
 use Rattle.row_reduce.specs.Expansion.{Expanding}
