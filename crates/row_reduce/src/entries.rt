@@ -51,11 +51,7 @@ impl<const P: u32> Entries<P> {
     }
 
     /// The values at the places from `first` on.
-    pub(crate) fn of_run(
-        alloc: Global,
-        first: u32,
-        run: &[Fp<P>],
-    ) -> Result<Entries<P>, AllocError>
+    pub(crate) fn of_run(alloc: Global, first: u32, run: &[Fp<P>]) -> Result<Entries<P>, AllocError>
         requires { first + length run.now ≤ 2 ^ 32 }
         ensures { IfOk result (λ e. e ≡ run_from first run.now) }
     {

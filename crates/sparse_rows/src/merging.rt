@@ -1,5 +1,5 @@
 //! One row plus a multiple of another, in one pass over both, and the sum of ascending pairs.
-ghost use Rattle.std.specs.Prelude.{◌≡◌, ℕ, ◌+◌, ◌*◌, ◌%◌, ◌<◌, ◌≤◌, ◌⊎◌, length, IfOk, OnOk, IsTrue};
+ghost use Rattle.std.specs.Prelude.{◌≡◌, ℕ, ◌+◌, ◌*◌, ◌%◌, ◌<◌, ◌≤◌, ◌≢◌, ◌⊎◌, [], ◌∷◌, ◌++◌, length, IfOk, OnOk, OnErr, IsTrue};
 ghost use Rattle.std.specs.List.Sorted.{IsNonDecreasingBy};
 ghost use Rattle.linear_law.specs.Listing.{unit_vector};
 ghost use Rattle.fp_field.specs.Served.{served};
@@ -10,7 +10,7 @@ use fp_field::Fp;
 use std::alloc::{AllocError, Global};
 
 /// Appends a value, if it is not 0.
-fn put<const P: u32>(
+pub(crate) fn put<const P: u32>(
     out: &mut Vec<(u32, Fp<P>)>,
     position: u32,
     value: Fp<P>,
@@ -20,6 +20,8 @@ fn put<const P: u32>(
     ensures row { OnOk result (IsRow P out.new.items) }
     ensures below { OnOk result (IsBelow (position + 1) out.new.items) }
     ensures sum { OnOk result ((y : ℕ) → value_in out.new.items y ≡ value_in out.old.items y + value.entry * unit_vector position y) }
+    ensures pushed { OnOk result (value.entry ≢ 0 → out.new.items ≡ out.old.items ++ (position, value.entry) ∷ []) }
+    ensures unchanged { OnErr result (out.new.items ≡ out.old.items) }
 {
     if !value.is_zero() {
         out.push((position, value))?;

@@ -3,7 +3,7 @@ ghost use Rattle.linear_law.specs.Listing.{unit_vector};
 ghost use Rattle.fp_field.specs.Served.{served};
 ghost use Rattle.sparse_rows.specs.Rows.{IsBelow, IsFirst, IsRow, pairing, value_in};
 
-use crate::merging::{merged, summed};
+use crate::merging::{merged, put, summed};
 use fp_field::Fp;
 use std::alloc::{AllocError, Global};
 use std::marker::Model;
@@ -83,9 +83,7 @@ impl<const P: u32> Row<P> {
         ensures pushed { OnOk result (self.new ≡ self.old ++ (position, value.entry) ∷ []) }
         ensures unchanged { OnErr result (self.new ≡ self.old) }
     {
-        let _ = value.is_zero();
-        self.pairs.push((position, value))?;
-        Ok(())
+        put(&mut self.pairs, position, value)
     }
 
     /// The least position; none where the row is empty.

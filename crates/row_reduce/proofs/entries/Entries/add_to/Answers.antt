@@ -20,10 +20,18 @@ add_run-requires g c =
     let places = c.self.inside.places.items in
     let values = c.self.inside.values.items in
     let first = c.self.inside.first in
-    let fits = each_rest (EntryFits g.row.P (length c.args.sum.now)) (zipped places values) (run_from first (drop (length places) values)) (subst (Each (EntryFits g.row.P (length c.args.sum.now))) (sym c.self.view_is) c.requires.fits) in
-    (lit< tt, (c.requires.prime, (c.add_alone.ensures.dense, λ i b.
-    let inside : first + i < length c.args.sum.now = run_inside g.row.P (length c.args.sum.now) first (drop (length places) values) fits i (subst (λ (rs : List ℕ). i < length rs) (run_part places values c.as_slice-2.result.now c.as_slice.result.now c.split_at.result.1.now c.len.result c.as_slice-2.ensures.value c.as_slice.ensures.value (c.len.ensures ∙ sym c.as_slice-2.ensures.len) c.split_at.ensures.back) b) in
-    omega (arith, inside, c.add_alone.auto.sum))))
+    let fits = each_rest (EntryFits g.row.P (length c.args.sum.now)) (zipped places values) (run_from first (drop (length places) values)) (subst (Each (EntryFits g.row.P (length c.args.sum.now))) (sym c.self.view_is) c.requires.fits) in (
+      lit< tt,
+      (
+        c.requires.prime,
+        (
+          c.add_alone.ensures.dense,
+          λ i b.
+              let inside : first + i < length c.args.sum.now = run_inside g.row.P (length c.args.sum.now) first (drop (length places) values) fits i (subst (λ (rs : List ℕ). i < length rs) (run_part places values c.as_slice-2.result.now c.as_slice.result.now c.split_at.result.1.now c.len.result c.as_slice-2.ensures.value c.as_slice.ensures.value (c.len.ensures ∙ sym c.as_slice-2.ensures.len) c.split_at.ensures.back) b) in
+              omega (arith, inside, c.add_alone.auto.sum),
+        ),
+      ),
+    )
 
 pub returns-clause-sum : goal.returns-clause-sum
 returns-clause-sum g c = λ k.
