@@ -1,8 +1,6 @@
 -- What a row has at each place.
-use Rattle.std.proofs.Common.{◌≡◌, ◌≢◌, ℕ, zero, suc, ◌+◌, ◌*◌, ◌%◌, ◌<◌, ◌≤◌, List, [], ◌∷◌, map, take, length, get_or, arith, refl, sym, ◌∙◌, ap, ap₂, subst, inl, inr, ◌-◌, drop, take_all, length-drop, add-one}
-use Rattle.std.specs.Prelude.{Result, Ok, Err, IfOk}
+use Rattle.std.proofs.Common.{◌≡◌, ◌≢◌, ℕ, zero, suc, ◌+◌, ◌*◌, ◌%◌, ◌<◌, ◌≤◌, List, [], ◌∷◌, map, take, length, get_or, arith, refl, sym, ◌∙◌, ap, ap₂, subst, inl, inr, add-one}
 use Rattle.std.proofs.lemmas.Bool.{cases_eq, cases_lt}
-use Rattle.std.proofs.Math.Nat.{mod-eq_of_lt}
 use native.Mathlib.Nat.{add-mod, zero-mod}
 use Rattle.linear_law.specs.Congruence.{sum_over}
 use Rattle.linear_law.specs.Lists.{Each, IsAscending}

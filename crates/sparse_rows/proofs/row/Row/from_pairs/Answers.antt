@@ -3,7 +3,7 @@ use Rattle.std.proofs.Math.Nat.{mod-eq_of_lt}
 use Rattle.std.proofs.lemmas.List.Sorted.{IsNonDecreasingBy-from_sort_by_key}
 use Rattle.std.specs.List.Sorted.{IsNonDecreasingBy}
 use Rattle.fp_field.proofs.ServedLemmas.{served_large}
-use Rattle.sparse_rows.specs.Rows.{IsRow, value_in}
+use Rattle.sparse_rows.specs.Rows.{value_in}
 use Rattle.sparse_rows.proofs.RowLemmas.{value_in-small, below_of_sum}
 use Rattle.sparse_rows.proofs.SortLemmas.{value_in-sorted}
 use Rattle.sparse_rows.proofs.row.Row.from_pairs.Goals as goal
