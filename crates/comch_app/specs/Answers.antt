@@ -7,8 +7,10 @@ use Rattle.simplicial_law.specs.CanonicalClasses.{AreCanonicalBases}
 use Rattle.comch_io.specs.Reading.{AppendsPrefix}
 use Rattle.complex_file.specs.Input.{Spelled, input_of}
 use Rattle.complex_file.specs.declared.block.ComplexBlock.{ComplexBlock}
-use Rattle.report_text.specs.declared.report.ComplexPart.{ComplexPart}
-use Rattle.report_text.specs.Text.{basis_text}
+use Rattle.report.specs.declared.complex.ComplexPart.{ComplexPart}
+use Rattle.report.specs.declared.form.Form.TheVariants.{Basis}
+use Rattle.report.specs.declared.job.Report.{Report}
+use Rattle.report_text_law.specs.Text.{text_of}
 use Rattle.std.specs.Cmp.Lexicographic.{slice_cmp}
 use Rattle.std.specs.Ordering.{nat_cmp}
 use Rattle.operad_law.specs.FormalSums.{IsFormalSum, IsSameSum}
@@ -28,7 +30,7 @@ pub record IsBasisPart (p : ℕ) (block : ComplexBlock) (part : ComplexPart) : T
 
 -- the text of the bases of a job: what is printed of each complex, in the order of the file
 abbrev pub IsBasisText : Spelled → List ℕ → Type 0
-IsBasisText job text = (parts : List ComplexPart) × AllZip (IsBasisPart job.prime) job.complexes parts × (text ≡ basis_text job.prime parts)
+IsBasisText job text = (r : Report) × (r.prime ≡ job.prime) × AllZip (IsBasisPart job.prime) job.complexes r.complexes × (text ≡ text_of Basis r)
 
 -- What `basis` may answer to these bytes: the text of the bases of the job that they spell, or the line of their first
 -- fault. Want of memory and a failed read may stand in the place of both.

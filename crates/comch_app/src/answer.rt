@@ -9,7 +9,7 @@ use crate::refusal::input_refusal;
 use crate::report::basis_report;
 use comch_io::{Bytes, ReadEnd, Source, read_all};
 use complex_file::{InputKind, Job, JobRefused, read_job};
-use report_text::print;
+use report_text::{Form, print};
 use std::alloc::{AllocError, Global};
 
 // How many bytes a job may have.
@@ -48,7 +48,7 @@ fn job_answer(alloc: Global, job: &Job) -> Result<(Status, Bytes), AllocError>
     ensures text { IfOk result (λ p. IsBasisText (content job.now) p.1) }
 {
     let report = basis_report(alloc, job)?;
-    let text = print(alloc, &report)?;
+    let text = print(alloc, &report, Form::Basis)?;
     Ok((Status::Done, text))
 }
 

@@ -4,7 +4,7 @@ ghost use Rattle.comch_app.specs.Chains.{IsPlaced, terms_in};
 
 use comch_io::Listed;
 use complex_index::{Cochain, Indexed};
-use report_text::{Chain, DegreePart, Term};
+use report::{Chain, DegreePart, Term};
 use simplex_set::Simplex;
 use std::alloc::{AllocError, Global};
 
@@ -45,7 +45,10 @@ fn degree_part<const P: u32>(
             Err(_) => return Err(AllocError),
         }
     }
-    Ok(DegreePart { classes: chains })
+    Ok(DegreePart {
+        below: Listed::new(alloc),
+        classes: chains,
+    })
 }
 
 /// What is listed of the classes of each degree.

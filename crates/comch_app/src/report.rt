@@ -9,7 +9,7 @@ use cohomology::classes_of;
 use comch_io::Listed;
 use complex_file::{ComplexBlock, Job, Name};
 use complex_index::Indexed;
-use report_text::{ComplexPart, Report};
+use report::{ComplexPart, Report};
 use std::alloc::{AllocError, Global};
 
 // What is printed of a complex: the canonical classes of each degree.
@@ -22,7 +22,14 @@ fn part_over<const P: u32>(alloc: Global, block: &ComplexBlock) -> Result<Comple
     let classes = classes_of::<P>(alloc, &index)?;
     let degrees = degree_parts(alloc, &index, classes.as_slice())?;
     let name = Name::new(alloc, block.name.bytes())?;
-    Ok(ComplexPart { name, degrees })
+    Ok(ComplexPart {
+        name,
+        facets: Listed::new(alloc),
+        degrees,
+        products: Listed::new(alloc),
+        operations: Listed::new(alloc),
+        cartans: Listed::new(alloc),
+    })
 }
 
 // What is printed of a complex at a prime that is served.
@@ -56,5 +63,6 @@ pub fn basis_report(alloc: Global, job: &Job) -> Result<Report, AllocError>
     Ok(Report {
         prime: job.prime,
         complexes,
+        maps: Listed::new(alloc),
     })
 }

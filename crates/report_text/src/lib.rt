@@ -1,15 +1,15 @@
-//! Reports as plain data, and the one text that spells each.
+//! The texts of a report: its bases, its short form and its certificate.
 #![tactic(auto)]
 
-mod chain;
+mod form;
 mod line;
-mod report;
 mod section;
+mod spelling;
 mod text;
 mod word;
 
-pub use chain::{Chain, Term};
-pub use report::{ComplexPart, DegreePart, Report};
+pub use report::Form;
+pub use spelling::spell;
 pub use text::print;
 
 #[cfg(test)]

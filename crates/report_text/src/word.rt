@@ -1,12 +1,11 @@
 ghost use Rattle.std.specs.Prelude.{◌≡◌, ◌++◌, ◌∷◌, [], OnOk, flat_map, map};
 ghost use Rattle.std.specs.Fmt.{decimal};
-ghost use Rattle.report_text.specs.Spelling.{behind, joined, term_word, chain_words};
+ghost use Rattle.report_text_law.specs.Spelling.{behind, joined, term_word, chain_words, ended, op_word};
 
-use crate::{Chain, Term};
 use comch_io::Bytes;
+use report::{Chain, OpWord, Term};
 use std::alloc::{AllocError, Global};
 
-/// Adds the digits of a number.
 pub fn add_number(alloc: Global, text: &mut Bytes, n: u64) -> Result<(), AllocError>
     ensures { OnOk result (text.new ≡ text.old ++ decimal n) }
 {
@@ -14,32 +13,43 @@ pub fn add_number(alloc: Global, text: &mut Bytes, n: u64) -> Result<(), AllocEr
     text.extend(digits.as_bytes())
 }
 
-// Adds vertices, each behind a full stop.
-#[tactic(auto, using(crate::proofs::OneMore::flat_more_map))]
-fn add_dotted(alloc: Global, text: &mut Bytes, vertices: &[u32]) -> Result<(), AllocError>
-    ensures { OnOk result (text.new ≡ text.old ++ flat_map (behind 46) (map decimal vertices.now)) }
+// A space and a number.
+pub fn add_next(alloc: Global, text: &mut Bytes, n: u32) -> Result<(), AllocError>
+    ensures { OnOk result (text.new ≡ text.old ++ 32 ∷ decimal n) }
 {
-    for vertex in vertices {
-        text.push(b'.')?;
-        add_number(alloc, text, u64::from(*vertex))?;
+    text.push(b' ')?;
+    add_number(alloc, text, u64::from(n))
+}
+
+// Numbers, each behind a byte.
+#[tactic(auto, using(crate::proofs::Flat::flat_more_map))]
+pub fn add_numbers(
+    alloc: Global,
+    text: &mut Bytes,
+    by: u8,
+    numbers: &[u32],
+) -> Result<(), AllocError>
+    ensures { OnOk result (text.new ≡ text.old ++ flat_map (behind by) (map decimal numbers.now)) }
+{
+    for n in numbers {
+        text.push(by)?;
+        add_number(alloc, text, u64::from(*n))?;
     }
     Ok(())
 }
 
-// Adds vertices with full stops between them.
 fn add_vertices(alloc: Global, text: &mut Bytes, vertices: &[u32]) -> Result<(), AllocError>
     ensures { OnOk result (text.new ≡ text.old ++ joined 46 (map decimal vertices.now)) }
 {
     match vertices {
         [] => Ok(()),
-        [first, more @ ..] => {
-            add_number(alloc, text, u64::from(*first))?;
-            add_dotted(alloc, text, more)
+        [v, more @ ..] => {
+            add_number(alloc, text, u64::from(*v))?;
+            add_numbers(alloc, text, b'.', more)
         }
     }
 }
 
-// Adds a coefficient, a colon and the vertices.
 fn add_term(alloc: Global, text: &mut Bytes, term: &Term) -> Result<(), AllocError>
     ensures { OnOk result (text.new ≡ text.old ++ term_word term.now) }
 {
@@ -48,8 +58,8 @@ fn add_term(alloc: Global, text: &mut Bytes, term: &Term) -> Result<(), AllocErr
     add_vertices(alloc, text, term.simplex().vertices())
 }
 
-// Adds terms, each behind a space.
-#[tactic(auto, using(crate::proofs::OneMore::flat_more_map))]
+// Terms, each behind a space.
+#[tactic(auto, using(crate::proofs::Flat::flat_more_map))]
 fn add_terms(alloc: Global, text: &mut Bytes, terms: &[Term]) -> Result<(), AllocError>
     ensures { OnOk result (text.new ≡ text.old ++ flat_map (behind 32) (map term_word terms.now)) }
 {
@@ -60,12 +70,32 @@ fn add_terms(alloc: Global, text: &mut Bytes, terms: &[Term]) -> Result<(), Allo
     Ok(())
 }
 
-/// Adds the words of a chain, each behind a space.
-pub fn add_chain(alloc: Global, text: &mut Bytes, chain: &Chain) -> Result<(), AllocError>
-    ensures { OnOk result (text.new ≡ text.old ++ flat_map (behind 32) (chain_words chain.now)) }
+/// A line of one word and a chain.
+pub fn add_chain(
+    alloc: Global,
+    text: &mut Bytes,
+    first: &[u8],
+    chain: &Chain,
+) -> Result<(), AllocError>
+    ensures { OnOk result (text.new ≡ text.old ++ ended (joined 32 (first.now ∷ chain_words chain.now))) }
 {
+    text.extend(first)?;
     match chain.as_slice() {
-        [] => text.extend(b" 0"),
-        terms => add_terms(alloc, text, terms),
+        [] => text.extend(b" 0\n"),
+        terms => {
+            add_terms(alloc, text, terms)?;
+            text.push(b'\n')
+        }
+    }
+}
+
+/// The word of an operation.
+pub fn add_op(text: &mut Bytes, word: OpWord) -> Result<(), AllocError>
+    ensures { OnOk result (text.new ≡ text.old ++ op_word word) }
+{
+    match word {
+        OpWord::Sq => text.extend(b"Sq"),
+        OpWord::Power => text.extend(b"P"),
+        OpWord::BocksteinPower => text.extend(b"bP"),
     }
 }

@@ -1,7 +1,8 @@
 use Rattle.std.proofs.Common.{◌≡◌, ◌++◌, take}
 use Rattle.std.specs.Prelude.{map}
-use Rattle.report_text.specs.Spelling.{class_is, printed}
+use Rattle.report_text_law.specs.declared.line.Line.TheVariants.{Class as class_line}
+use Rattle.report_text_law.specs.Spelling.{printed}
 use Rattle.report_text.proofs.section.add_classes.Given as goal
 
 abbrev pub invariant-loop-chain : goal.invariant-loop-chain
-invariant-loop-chain l = l.text ≡ l.initial.text ++ printed (map class_is (take l.chain-index l.chains))
+invariant-loop-chain l = l.text ≡ l.initial.text ++ printed l.form (map class_line (take l.chain-index l.chains))

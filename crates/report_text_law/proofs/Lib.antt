@@ -1,0 +1,10 @@
+pub mod Again
+pub mod Fine
+pub mod Free
+pub mod Guessing
+pub mod Outlines
+pub mod Reading
+pub mod Refusals
+pub mod Texts
+pub mod Written
+pub mod WorkedTexts

@@ -1,0 +1,9 @@
+pub mod Bytes
+pub mod Certificates
+pub mod Laws
+pub mod Lines
+pub mod Machine
+pub mod Rows
+pub mod Spelling
+pub mod Text
+pub mod WellFormed

@@ -1,0 +1,11 @@
+-- The text of a report in each form.
+use Rattle.std.specs.Prelude.{ℕ, List}
+use Rattle.report.specs.Forms.{tables}
+use Rattle.report.specs.declared.form.Form.{Form}
+use Rattle.report.specs.declared.job.Report.{Report}
+use Rattle.report_text_law.specs.Lines.{certificate_lines}
+use Rattle.report_text_law.specs.Spelling.{printed}
+
+-- The lines of the certificate that stand in this form. A text without tables has no maps at all.
+unfoldable pub text_of : Form → Report → List ℕ
+text_of form r = printed form (certificate_lines r.prime r.complexes (tables form r.maps))
