@@ -7,4 +7,4 @@ pub mod terms;
 #[cfg(test)]
 mod tests;
 
-pub use elements::MayTable;
+pub use elements::{MayRefused, MayTable};

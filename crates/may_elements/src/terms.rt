@@ -1,5 +1,5 @@
 //! The count of terms, and its limit.
-ghost use Rattle.std.specs.Prelude.{◌≡◌, ◌≤◌, ◌<◌, ◌+◌, ◌^◌, IfErr, OnOk, OnErr};
+ghost use Rattle.std.specs.Prelude.{◌≡◌, ◌≤◌, ◌<◌, ◌+◌, ◌-◌, ◌^◌, IfErr, OnOk, OnErr};
 ghost use Rattle.may_elements.specs.Counted.{charged, over};
 
 use std::marker::Model;
@@ -53,6 +53,15 @@ impl Terms {
         ensures low { self.now.limit ≤ 10 ^ 12 }
     {
         self.used
+    }
+
+    /// How many are left.
+    pub fn left(&self) -> u64
+        ensures value { result ≡ self.now.limit - self.now.used }
+        ensures within { self.now.used ≤ self.now.limit }
+        ensures low { self.now.limit ≤ 10 ^ 12 }
+    {
+        self.limit - self.used
     }
 
     /// Uses n more. `Over` exactly where the used ones and these pass the limit; then nothing changes.

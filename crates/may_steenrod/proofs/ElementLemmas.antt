@@ -1,0 +1,145 @@
+-- The terms of a sum of surjections, one surjection after the other.
+use Rattle.std.proofs.Common.{◌≡◌, ℕ, suc, ◌+◌, ◌-◌, ◌*◌, ◌/◌, ◌%◌, ◌<◌, ◌≤◌, ◌==◌, Bool, true, false, cond, List, [], ◌∷◌, ◌++◌, length, take, get_or, take_all, arith, refl, sym, ap, ap₂, subst, ◌∙◌}
+use Rattle.std.specs.Prelude.{ℤ, pos, negsuc, ◌+ℤ◌, ◌*ℤ◌, ◌&&◌}
+use Rattle.std.proofs.Common.{Result, Ok, Err}
+use Rattle.std.specs.Result.{OnOk}
+use Rattle.std.specs.Int.{int_rem_euclid}
+use Rattle.std.proofs.Common.{eqb-true}
+use Rattle.std.proofs.lemmas.Bool.{eq-eqb, false≢true}
+use Rattle.std.proofs.lemmas.Int.{ints}
+use Rattle.std.proofs.lemmas.List.{take_more}
+use Rattle.signed_sum.specs.Sums.{value_at}
+use Rattle.signed_sum.proofs.SumLemmas.{value_at-append}
+use Rattle.simplicial_law.specs.Integral.{CongruentInt}
+use Rattle.simplicial_law.proofs.IntegralCongruence.{CongruentInt-sum, CongruentInt-times, CongruentInt_of, CongruentInt_refl, CongruentInt_trans}
+use Rattle.surjection_law.specs.Boundary.{caesura_count}
+use Rattle.surjection_law.specs.Surjections.{IsOnto, IsSurjection, arity, surjection_degree}
+use Rattle.surjection.specs.ActionLaws.{among, arity-is}
+use Rattle.interval_cut_law.specs.Operations.{operation_value}
+use Rattle.operad_law.specs.FormalSums.{IsSameSum}
+use Rattle.table_reduction_law.specs.MayElements.{may_element}
+use Rattle.steenrod_law.specs.Values.{sum_value}
+use Rattle.steenrod_law.specs.Words.{copies}
+use Rattle.steenrod_law.proofs.Degrees.{caesuras-count}
+use Rattle.steenrod_law.proofs.Forms.{AreTerms}
+use Rattle.steenrod_law.proofs.MayFamily.{may_family}
+use Rattle.interval_cut.specs.Evaluation.{IsOfDegree}
+use Rattle.interval_cut.proofs.ProductLemmas.{remainder}
+use Rattle.may_steenrod.specs.FaceSums.{face_sum}
+use Rattle.may_steenrod.specs.Elements.{AddsTo, tested_value}
+
+-- ---- the test of arity and degree
+
+-- the degree is the number of caesuras
+pub degree-caesuras : (u : List ℕ) → IsSurjection u → surjection_degree u ≡ caesura_count u
+degree-caesuras u s = let c = caesuras-count (arity u) u s.onto in omega (arith, c)
+
+tested-none : (p d : ℕ) (a : List ℕ → ℤ) (s u : List ℕ) → ((arity u == p) && (surjection_degree u == d)) ≡ false → tested_value p d a s u ≡ pos 0
+tested-none p d a s u e = ap (λ b. cond b (operation_value p u (copies p a) s) (pos 0)) e
+
+pub tested-some : (p d : ℕ) (a : List ℕ → ℤ) (s u : List ℕ) → arity u ≡ p → surjection_degree u ≡ d → tested_value p d a s u ≡ operation_value p u (copies p a) s
+tested-some p d a s u e f =
+    ap (λ b. cond (b && (surjection_degree u == d)) (operation_value p u (copies p a) s) (pos 0)) (eq-eqb (arity u) p e)
+    ∙ ap (λ b. cond b (operation_value p u (copies p a) s) (pos 0)) (eq-eqb (surjection_degree u) d f)
+
+-- each surjection of a May element passes
+pub tested-element : (p d : ℕ) (a : List ℕ → ℤ) (s : List ℕ) → 1 ≤ p → value_at (tested_value p d a s) (may_element p d) ≡ sum_value p (may_element p d) (copies p a) s
+tested-element p d a s le = go (may_element p d) ((may_family p le).terms d)
+  where
+    passes : (u : List ℕ) → IsOnto p u → caesura_count u ≡ d → tested_value p d a s u ≡ operation_value p u (copies p a) s
+    passes u o c =
+        let ar : arity u ≡ p = arity-is p u (among p u (λ v k. sym (o v) ∙ k)) o le in
+        tested-some p d a s u ar (let l = caesuras-count p u o in omega arith)
+
+    go : (x : List (List ℕ × ℤ)) → AreTerms p d x → value_at (tested_value p d a s) x ≡ sum_value p x (copies p a) s
+    go [] k = refl
+    go (t ∷ x) k = ap₂ (λ y z. t.1 *ℤ y +ℤ z) (passes t.0 k.0 k.1) (go x k.2)
+
+-- ---- whole coefficients modulo p
+
+pub coefficient : (p c : ℕ) (z : ℤ) → 1 < p → pos c ≡ int_rem_euclid z (pos p) → CongruentInt p (pos c) z
+coefficient p c (pos a) h e = let f : c ≡ a % p = (let g = e in omega (arith, ints)) in remainder p a c f
+coefficient p c (negsuc a) h e =
+    let whole : a ≡ a / p * p + a % p = omega arith in
+    let rest : a % p < p = omega arith in
+    let more : (a / p + 1) * p ≡ a / p * p + p = omega arith in
+    record { multiple = pos (a / p + 1); same = e ∙ back (a / p * p) (a % p) p a ((a / p + 1) * p) whole rest more }
+  where
+    back : (m r n b k : ℕ) → b ≡ m + r → r < n → k ≡ m + n → pos (n - 1 - r) ≡ negsuc b +ℤ pos k
+    back m r n b k e l f = omega (arith, ints)
+
+-- ---- the sum
+
+-- the sum `now` has, on cochains of degree q and simplices of degree n, the value of the first i terms of x
+pub record IsPartOfElement (p q n d : ℕ) (x : List (List ℕ × ℤ)) (i : ℕ) (now : List (ℕ × List (List ℕ))) : Type 0 where
+  pub at : (a : List ℕ → ℕ) (s : List ℕ) → IsOfDegree q a → length s ≡ suc n →
+      CongruentInt p (face_sum (λ f. pos (a f)) s now) (value_at (tested_value p d (λ f. pos (a f)) s) (take i x))
+
+pub element-start : (p q n d : ℕ) (x : List (List ℕ × ℤ)) (now : List (ℕ × List (List ℕ))) → now ≡ [] → IsPartOfElement p q n d x 0 now
+element-start p q n d x now e = record { at = λ a s h k. CongruentInt_of (ap (face_sum (λ f. pos (a f)) s) e) }
+
+pub element-step : (p q n d i c : ℕ) (x : List (List ℕ × ℤ)) (t : List ℕ × ℤ) (now next : List (ℕ × List (List ℕ))) → i < length x → t ≡ get_or x i t → CongruentInt p (pos c) t.1
+    → IsPartOfElement p q n d x i now → AddsTo p q n now next (λ a s. pos c *ℤ tested_value p d a s t.0) → IsPartOfElement p q n d x (i + 1) next
+element-step p q n d i c x t now next l e k h f = record {
+  at = λ a s o size. (
+      let phi : List ℕ → ℤ = tested_value p d (λ g. pos (a g)) s in
+      let more : take (i + 1) x ≡ take i x ++ t ∷ [] = take_more x i t l ∙ ap (λ (y : List ℕ × ℤ). take i x ++ y ∷ []) (sym e) in
+      CongruentInt_trans (f.at a s o size)
+      (CongruentInt_trans (CongruentInt-sum (h.at a s o size) (CongruentInt-times k (CongruentInt_refl (phi t.0))))
+      (CongruentInt_of (sym (ap (value_at phi) more ∙ value_at-append phi (take i x) (t ∷ []) ∙ ap (λ z. value_at phi (take i x) +ℤ z) (last (t.1 *ℤ phi t.0)))))));
+}
+  where
+    last : (z : ℤ) → z +ℤ pos 0 ≡ z
+    last z = omega (arith, ints)
+
+-- a surjection of other arity or degree adds nothing
+pub adds-none : (p q n d c : ℕ) (u : List ℕ) (now : List (ℕ × List (List ℕ))) → ((arity u == p) && (surjection_degree u == d)) ≡ false → AddsTo p q n now now (λ a s. pos c *ℤ tested_value p d a s u)
+adds-none p q n d c u now e = record {
+  at = λ a s o size. CongruentInt_of (none (face_sum (λ f. pos (a f)) s now) (pos c) (tested_value p d (λ f. pos (a f)) s u) (tested-none p d (λ f. pos (a f)) s u e));
+}
+  where
+    plus : (x y : ℤ) → y ≡ pos 0 → x ≡ x +ℤ y
+    plus x y h = omega (arith, ints)
+
+    none : (x y z : ℤ) → z ≡ pos 0 → x ≡ x +ℤ y *ℤ z
+    none x y z h = plus x (y *ℤ z) (ap (λ w. y *ℤ w) h ∙ zero-right y)
+      where
+        zero-right : (y : ℤ) → y *ℤ pos 0 ≡ pos 0
+        zero-right y = omega (arith, ints)
+
+pub adds-some : (p q n d c : ℕ) (u : List ℕ) (now next : List (ℕ × List (List ℕ))) → arity u ≡ p → surjection_degree u ≡ d
+    → AddsTo p q n now next (λ a s. pos c *ℤ operation_value p u (copies p a) s) → AddsTo p q n now next (λ a s. pos c *ℤ tested_value p d a s u)
+adds-some p q n d c u now next e f h = record {
+  at = λ a s o size. CongruentInt_trans (h.at a s o size)
+      (CongruentInt_of (ap (λ z. face_sum (λ f. pos (a f)) s now +ℤ pos c *ℤ z) (sym (tested-some p d (λ f. pos (a f)) s u e f))));
+}
+
+-- at the end it is the value of the May element
+pub element-end : (p q n d i : ℕ) (x : List (List ℕ × ℤ)) (now : List (ℕ × List (List ℕ))) → 1 ≤ p → length x ≤ i → IsPartOfElement p q n d x i now → IsSameSum x (may_element p d)
+    → (a : List ℕ → ℕ) (s : List ℕ) → IsOfDegree q a → length s ≡ suc n
+    → CongruentInt p (face_sum (λ f. pos (a f)) s now) (sum_value p (may_element p d) (copies p (λ f. pos (a f))) s)
+element-end p q n d i x now le l h same a s o size =
+    let phi : List ℕ → ℤ = tested_value p d (λ f. pos (a f)) s in
+    CongruentInt_trans (h.at a s o size)
+    (CongruentInt_of (ap (value_at phi) (take_all i x l) ∙ same.at phi ∙ tested-element p d (λ f. pos (a f)) s le))
+
+both-hold : (x y : Bool) → (x && y) ≡ true → (x ≡ true) × (y ≡ true)
+both-hold true y h = (refl, h)
+both-hold false y h = absurd (false≢true h)
+
+pub form-is : (p d : ℕ) (u : List ℕ) → ((arity u == p) && (surjection_degree u == d)) ≡ true → (arity u ≡ p) × (surjection_degree u ≡ d)
+form-is p d u h =
+    let k = both-hold (arity u == p) (surjection_degree u == d) h in
+    (eqb-true (arity u) p k.0, eqb-true (surjection_degree u) d k.1)
+
+-- a surjection of arity p and degree d
+pub adds-form : (p q d c : ℕ) (u : List ℕ) (now next : List (ℕ × List (List ℕ))) → IsSurjection u → ((arity u == p) && (surjection_degree u == d)) ≡ true
+    → AddsTo p q (p * q - caesura_count u) now next (λ a s. pos c *ℤ operation_value p u (copies p a) s) → AddsTo p q (p * q - d) now next (λ a s. pos c *ℤ tested_value p d a s u)
+adds-form p q d c u now next s e h =
+    let k = form-is p d u e in
+    let same : caesura_count u ≡ d = sym (degree-caesuras u s) ∙ k.1 in
+    adds-some p q (p * q - d) d c u now next k.0 k.1 (subst (λ m. AddsTo p q (p * q - m) now next (λ a s. pos c *ℤ operation_value p u (copies p a) s)) same h)
+
+pub on_ok-map : {A E : Type 0} (r : Result A E) (P Q : Type 0) → (P → Q) → OnOk r P → OnOk r Q
+on_ok-map (Ok v) P Q f h = f h
+on_ok-map (Err e) P Q f h = tt

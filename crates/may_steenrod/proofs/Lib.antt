@@ -1,0 +1,10 @@
+pub mod OnLemmas
+pub mod FaceLemmas
+pub mod CutLemmas
+pub mod ElementLemmas
+pub mod ValueLemmas
+pub mod PlaceLemmas
+pub mod CupLemmas
+pub mod OperationLemmas
+pub mod PowerLemmas
+mod SquareLemmas

@@ -1,0 +1,67 @@
+-- Squares, powers and Bockstein powers from multiples of May operations.
+use Rattle.std.proofs.Common.{◌≡◌, ℕ, ◌+◌, ◌-◌, ◌*◌, ◌%◌, ◌<◌, ◌≤◌, List, arith, subst}
+use Rattle.linear_law.specs.Congruence.{negated}
+use Rattle.linear_law.proofs.CongruenceLemmas.{Congruent_mod, Congruent_of, Congruent_trans}
+use Rattle.fp_field.specs.Element.{IsScale}
+use Rattle.complex_index.specs.Levels.{IsIndexOf}
+use Rattle.steenrod_law.specs.Operations.{IsBocksteinPower, IsPower, power_degree, scaled_operation}
+use Rattle.steenrod_law.proofs.LawProofs.{target_law}
+use Rattle.may_steenrod.specs.Cochains.{HasValues, IsClosed, cochain_in}
+use Rattle.may_steenrod.proofs.OperationLemmas.{operation-closed, rescaled}
+use Rattle.std.proofs.Common.{Result, Ok, Err}
+use Rattle.std.specs.Prelude.{IsTrue}
+use Rattle.std.specs.Result.{IfOk}
+use Rattle.std.specs.declared.alloc.AllocError.{AllocError}
+use Rattle.complex_index.specs.declared.indexed.Cochain.{Cochain as ComplexCochain}
+use Rattle.fp_field.specs.Served.{served}
+
+-- the degrees
+pub power-target : (p s q : ℕ) → 1 ≤ p → 2 * s ≤ q → p * q - power_degree p s q ≡ q + 2 * s * (p - 1)
+power-target p s q h l = let t = target_law.powers p s q h l in omega (arith, t)
+
+pub bockstein-target : (p s q : ℕ) → 2 ≤ p → 2 * s < q → p * q - (power_degree p s q - 1) ≡ q + 2 * s * (p - 1) + 1
+bockstein-target p s q h l = let t = target_law.bockstein_powers p s q h l in omega (arith, t)
+
+module _ (p : ℕ) (levels : List (List (List ℕ))) (s q c n : ℕ) (row out : List (ℕ × ℕ)) (is_scale : IsScale p q s c) where
+  pub is_power : n ≡ q + 2 * s * (p - 1) → HasValues p levels n (scaled_operation p (power_degree p s q) c q (cochain_in levels q row)) out
+      → (facets : List (List ℕ)) → IsIndexOf facets levels → IsPower facets p s q (cochain_in levels q row) (cochain_in levels (q + 2 * s * (p - 1)) out)
+  is_power e h facets i = record {
+    scale = c;
+    is_scale = is_scale;
+    value = (subst (λ m. HasValues p levels m (scaled_operation p (power_degree p s q) c q (cochain_in levels q row)) out) e h).values facets i;
+  }
+
+  pub is_bockstein_power : (m : ℕ) → m ≡ negated p c % p → n ≡ q + 2 * s * (p - 1) + 1
+      → HasValues p levels n (scaled_operation p (power_degree p s q - 1) m q (cochain_in levels q row)) out
+      → (facets : List (List ℕ)) → IsIndexOf facets levels → IsBocksteinPower facets p s q (cochain_in levels q row) (cochain_in levels (q + 2 * s * (p - 1) + 1) out)
+  is_bockstein_power m f e h facets i = record {
+    scale = c;
+    is_scale = is_scale;
+    value = (rescaled p levels q (q + 2 * s * (p - 1) + 1) (power_degree p s q - 1) m (negated p c) (cochain_in levels q row) out
+        (Congruent_trans (Congruent_of f) (Congruent_mod p (negated p c)))
+        (subst (λ k. HasValues p levels k (scaled_operation p (power_degree p s q - 1) m q (cochain_in levels q row)) out) e h)).values facets i;
+  }
+
+-- ---- results of the code
+
+module _ (p : ℕ) (levels : List (List (List ℕ))) (q n d c : ℕ) (row : List (ℕ × ℕ)) where
+  -- the multiple of the operation of degree d, where there is a result
+  abbrev pub Multiple : Result (ComplexCochain p) AllocError → Type 0
+  Multiple r = IfOk r (λ x. HasValues p levels n (scaled_operation p d c q (cochain_in levels q row)) x.row)
+
+  pub ok_closed : (r : Result (ComplexCochain p) AllocError) (m : ℕ) → n ≡ m → IsTrue (served p) → Multiple r
+      → IfOk r (λ x. IsClosed p levels q row → IsClosed p levels m x.row)
+  ok_closed (Ok x) m e prime h = λ closed. subst (λ k. IsClosed p levels k x.row) e (operation-closed p levels q n d c row x.row prime h closed)
+  ok_closed (Err f) m e prime h = tt
+
+pub ok_power : (p : ℕ) (levels : List (List (List ℕ))) (s q c n : ℕ) (row : List (ℕ × ℕ)) (r : Result (ComplexCochain p) AllocError) → IsScale p q s c → n ≡ q + 2 * s * (p - 1)
+    → Multiple p levels q n (power_degree p s q) c row r
+    → IfOk r (λ x. (facets : List (List ℕ)) → IsIndexOf facets levels → IsPower facets p s q (cochain_in levels q row) (cochain_in levels (q + 2 * s * (p - 1)) x.row))
+ok_power p levels s q c n row (Ok x) k e h = is_power p levels s q c n row x.row k e h
+ok_power p levels s q c n row (Err f) k e h = tt
+
+pub ok_bockstein_power : (p : ℕ) (levels : List (List (List ℕ))) (s q c m n : ℕ) (row : List (ℕ × ℕ)) (r : Result (ComplexCochain p) AllocError) → IsScale p q s c → m ≡ negated p c % p
+    → n ≡ q + 2 * s * (p - 1) + 1 → Multiple p levels q n (power_degree p s q - 1) m row r
+    → IfOk r (λ x. (facets : List (List ℕ)) → IsIndexOf facets levels → IsBocksteinPower facets p s q (cochain_in levels q row) (cochain_in levels (q + 2 * s * (p - 1) + 1) x.row))
+ok_bockstein_power p levels s q c m n row (Ok x) k f e h = is_bockstein_power p levels s q c n row x.row k m f e h
+ok_bockstein_power p levels s q c m n row (Err f) k e g h = tt

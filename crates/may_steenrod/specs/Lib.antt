@@ -1,0 +1,3 @@
+pub mod Cochains
+pub mod FaceSums
+pub mod Elements

@@ -1,0 +1,354 @@
+//! The operation of a sum of surjections on cochains of one degree, as a sum of products of values on
+//! faces. The live cuts are walked once, and not again for each simplex.
+ghost use Rattle.std.specs.Prelude.{◌≡◌, ◌==◌, ◌&&◌, ◌<◌, ◌≤◌, ◌+◌, ◌-◌, ◌*◌, ◌%◌, ◌^◌, ◌∷◌, ℕ, ℤ, List, [], cond, length, map, pos, slice_index_or, suc, take, IfOk, IsSome, IsTrue, OnOk, ◌+ℤ◌, ◌*ℤ◌};
+ghost use Rattle.linear_law.specs.Congruence.{sum_over};
+ghost use Rattle.linear_law.specs.Lists.{Each};
+ghost use Rattle.signed_sum.specs.Lists.{numbers_from};
+ghost use Rattle.signed_sum.specs.Signs.{signed};
+ghost use Rattle.surjection_law.specs.Boundary.{caesura_count};
+ghost use Rattle.surjection_law.specs.Surjections.{IsSurjection, arity, surjection_degree};
+ghost use Rattle.simplicial_law.specs.Integral.{CongruentInt};
+ghost use Rattle.interval_cut_law.specs.Cuts.{cut_faces, vertex_at};
+ghost use Rattle.interval_cut_law.specs.Operations.{operation_value};
+ghost use Rattle.interval_cut.specs.Walking.{cut_of};
+ghost use Rattle.interval_cut.specs.Evaluation.{IsOfDegree};
+ghost use Rattle.complex_index.specs.Incidence.{list_at};
+ghost use Rattle.complex_index.specs.Levels.{level};
+ghost use Rattle.fp_field.specs.Served.{served};
+ghost use Rattle.operad_law.specs.FormalSums.{IsSameSum};
+ghost use Rattle.table_reduction_law.specs.MayElements.{may_element};
+ghost use Rattle.steenrod_law.specs.Values.{sum_value};
+ghost use Rattle.steenrod_law.specs.Words.{copies};
+ghost use Rattle.may_steenrod.specs.Elements.{AddsTo, tested_value};
+ghost use Rattle.may_steenrod.specs.FaceSums.{AreNumbered, Extends, face_product, face_sum, product_at, term_product, terms_in, value_on_face};
+
+use complex_index::Indexed;
+use fp_field::Fp;
+use interval_cut::{LiveCuts, Values, with_sign};
+use operad_law::basis::SignedBasis;
+use operad_law::formal_sum::FormalSum;
+use operad_law::symmetric::Symmetric;
+use std::alloc::{AllocError, Global};
+use surjection::surj::Surj;
+
+/// How many slots there are for faces: one for each set of places below 16.
+const SLOTS: usize = 65536;
+
+/// The number of the set of one place.
+const POWERS: [usize; 16] = [
+    1, 2, 4, 8, 16, 32, 64, 128, 256, 512, 1024, 2048, 4096, 8192, 16384, 32768,
+];
+
+/// A coefficient, and the numbers of the faces 1 to `P`.
+#[derive(Clone, Copy)]
+struct Term<const P: u32> {
+    coefficient: Fp<P>,
+    faces: [u16; 5],
+}
+
+/// A sum of products of values on faces.
+#[derive(Drop)]
+pub(crate) struct FaceSum<const P: u32> {
+    /// The faces, each as the list of its places.
+    faces: Vec<Vec<u32>>,
+    /// Where the face of each set of places stands, if it does.
+    slots: Vec<u16>,
+    terms: Vec<Term<P>>,
+}
+
+/// The slot of a face.
+fn slot_of(face: &[u32]) -> usize
+    ensures { result < 65536 }
+{
+    let mut slot = 0;
+    for place in face {
+        slot = POWERS[*place as usize % 16].wrapping_add(slot) % SLOTS;
+    }
+    slot
+}
+
+/// The test of arity `P` and degree d.
+fn test_form<const P: u32>(surjection: &Surj, d: u32) -> bool
+    ensures { result ≡ ((arity surjection.now == P) && (surjection_degree surjection.now == d)) }
+{
+    u32::from(surjection.arity()) == P && surjection.degree() == d
+}
+
+/// Whether a surjection has arity `P` and degree d.
+fn has_form<const P: u32>(surjection: &Surj, d: u32) -> bool
+    ensures test { result ≡ ((arity surjection.now == P) && (surjection_degree surjection.now == d)) }
+    ensures arity { IsTrue result → arity surjection.now ≡ P }
+    ensures degree { IsTrue result → caesura_count surjection.now ≡ d }
+{
+    let _values = surjection.as_slice();
+    test_form::<P>(surjection, d)
+}
+
+/// The vertex of a simplex at a place.
+fn vertex(simplex: &[u32], place: u32) -> u32
+    ensures { result ≡ vertex_at simplex.now place }
+{
+    match simplex.get(place as usize) {
+        Some(vertex) => *vertex,
+        None => 0,
+    }
+}
+
+/// Writes the vertices of a simplex at the places of a face.
+fn write_vertices(vertices: &mut Vec<u32>, face: &[u32], simplex: &[u32]) -> Result<(), AllocError>
+    ensures { OnOk result (vertices.new.items ≡ map (λ i. vertex_at simplex.now i) face.now) }
+{
+    vertices.clear();
+    for place in face {
+        vertices.push(vertex(simplex, *place))?;
+    }
+    Ok(())
+}
+
+/// The product of the values with the first `P` numbers.
+fn product<const P: u32>(values: &[Fp<P>], numbers: &[u16; 5]) -> Fp<P>
+    requires prime { IsTrue (served P) }
+    requires inside { Each (λ k. k < length values.now) (take P numbers.now) }
+    ensures { result ≡ product_at values.now (take P numbers.now) % P }
+{
+    let mut product = Fp::new(1);
+    for k in 0..P as usize {
+        product = product.mul(values[numbers[k] as usize]);
+        if product.is_zero() {
+            return product;
+        }
+    }
+    product
+}
+
+impl<const P: u32> FaceSum<P> {
+    /// The sum without terms.
+    fn new(alloc: Global) -> Result<FaceSum<P>, AllocError>
+        ensures terms { IfOk result (λ s. s.terms.items ≡ []) }
+        ensures slots { IfOk result (λ s. length s.slots.items ≡ 65536) }
+    {
+        Ok(FaceSum {
+            faces: Vec::new(alloc),
+            slots: vec![in alloc; 0; SLOTS]?,
+            terms: Vec::new(alloc),
+        })
+    }
+
+    /// The number of a face, which is added if it is new.
+    fn number_of(&mut self, alloc: Global, face: &[u32]) -> Result<u16, AllocError>
+        requires slots { length self.old.slots.items ≡ 65536 }
+        ensures slots { OnOk result (length self.new.slots.items ≡ 65536) }
+        ensures terms { OnOk result (self.new.terms.items ≡ self.old.terms.items) }
+        ensures grown { OnOk result (Extends self.old.faces.items self.new.faces.items) }
+        ensures inside { IfOk result (λ k. k < length self.new.faces.items) }
+        ensures face { IfOk result (λ k. list_at self.new.faces.items k ≡ face.now) }
+    {
+        let slot = slot_of(face);
+        let number = self.slots[slot];
+        if (number as usize) < self.faces.len() && self.faces[number as usize].as_slice() == face {
+            return Ok(number);
+        }
+        let count = self.faces.len();
+        if count >= SLOTS {
+            return Err(AllocError);
+        }
+        self.faces.push(face.to_vec(alloc)?)?;
+        self.slots[slot] = count as u16;
+        Ok(count as u16)
+    }
+
+    /// The numbers of the faces of the cut that a walk is at.
+    fn numbers_of(&mut self, alloc: Global, cuts: &LiveCuts) -> Result<[u16; 5], AllocError>
+        requires prime { IsTrue (served P) }
+        requires at { IsSome cuts.now.walk.here }
+        requires arity { arity cuts.now.walk.values ≡ P }
+        requires slots { length self.old.slots.items ≡ 65536 }
+        ensures slots { OnOk result (length self.new.slots.items ≡ 65536) }
+        ensures terms { OnOk result (self.new.terms.items ≡ self.old.terms.items) }
+        ensures grown { OnOk result (Extends self.old.faces.items self.new.faces.items) }
+        ensures inside { IfOk result (λ ks. Each (λ k. k < length self.new.faces.items) (take P ks)) }
+        ensures faces { IfOk result (λ ks. map (list_at self.new.faces.items) (take P ks) ≡ cut_faces (numbers_from 1 P) cuts.now.walk.values (cut_of cuts.now.walk)) }
+    {
+        let mut numbers = [0u16; 5];
+        for k in 0..P as u8 {
+            numbers[k as usize] = self.number_of(alloc, cuts.face(k + 1))?;
+        }
+        Ok(numbers)
+    }
+
+    /// Adds a term with the faces of the cut that a walk is at.
+    fn add_cut(
+        &mut self,
+        alloc: Global,
+        cuts: &LiveCuts,
+        coefficient: Fp<P>,
+    ) -> Result<(), AllocError>
+        requires prime { IsTrue (served P) }
+        requires at { IsSome cuts.now.walk.here }
+        requires arity { arity cuts.now.walk.values ≡ P }
+        requires slots { length self.old.slots.items ≡ 65536 }
+        requires numbered { AreNumbered self.old.faces.items self.old.terms.items }
+        ensures slots { OnOk result (length self.new.slots.items ≡ 65536) }
+        ensures numbered { OnOk result (AreNumbered self.new.faces.items self.new.terms.items) }
+        ensures sum { OnOk result ((a : List ℕ → ℤ) (s : List ℕ) → CongruentInt P
+            (face_sum a s (terms_in self.new.faces.items self.new.terms.items))
+            (face_sum a s (terms_in self.old.faces.items self.old.terms.items) +ℤ pos coefficient.entry *ℤ face_product a s (cut_faces (numbers_from 1 P) cuts.now.walk.values (cut_of cuts.now.walk)))) }
+    {
+        let faces = self.numbers_of(alloc, cuts)?;
+        self.terms.push(Term { coefficient, faces })?;
+        Ok(())
+    }
+
+    /// Adds the operation of a surjection, with a coefficient.
+    fn add_surjection(
+        &mut self,
+        alloc: Global,
+        surjection: &Surj,
+        q: u32,
+        coefficient: Fp<P>,
+    ) -> Result<(), AllocError>
+        requires prime { IsTrue (served P) }
+        requires small { q ≤ 15 }
+        requires arity { arity surjection.now ≡ P }
+        requires some { caesura_count surjection.now ≤ P * q }
+        requires slots { length self.old.slots.items ≡ 65536 }
+        requires numbered { AreNumbered self.old.faces.items self.old.terms.items }
+        ensures slots { OnOk result (length self.new.slots.items ≡ 65536) }
+        ensures numbered { OnOk result (AreNumbered self.new.faces.items self.new.terms.items) }
+        ensures sum { OnOk result (AddsTo P q (P * q - caesura_count surjection.now)
+            (terms_in self.old.faces.items self.old.terms.items) (terms_in self.new.faces.items self.new.terms.items)
+            (λ a s. pos coefficient.entry *ℤ operation_value P surjection.now (copies P a) s)) }
+    {
+        let mut cuts = LiveCuts::new(alloc, surjection, q)?;
+        'cuts: while cuts.advance() {
+            let signed = with_sign(coefficient, cuts.sign());
+            self.add_cut(alloc, &cuts, signed)?;
+        }
+        Ok(())
+    }
+
+    /// Adds the operation of a surjection, with a coefficient, if it has arity `P` and degree d.
+    fn add_term(
+        &mut self,
+        alloc: Global,
+        surjection: &Surj,
+        q: u32,
+        d: u32,
+        coefficient: Fp<P>,
+    ) -> Result<(), AllocError>
+        requires prime { IsTrue (served P) }
+        requires small { q ≤ 15 }
+        requires some { d ≤ P * q }
+        requires slots { length self.old.slots.items ≡ 65536 }
+        requires numbered { AreNumbered self.old.faces.items self.old.terms.items }
+        ensures slots { OnOk result (length self.new.slots.items ≡ 65536) }
+        ensures numbered { OnOk result (AreNumbered self.new.faces.items self.new.terms.items) }
+        ensures sum { OnOk result (AddsTo P q (P * q - d)
+            (terms_in self.old.faces.items self.old.terms.items) (terms_in self.new.faces.items self.new.terms.items)
+            (λ a s. pos coefficient.entry *ℤ tested_value P d a s surjection.now)) }
+    {
+        let _values = surjection.as_slice();
+        if has_form::<P>(surjection, d) {
+            return self.add_surjection(alloc, surjection, q, coefficient);
+        }
+        Ok(())
+    }
+
+    /// The operation of the May element of degree d on cochains of degree q.
+    pub(crate) fn of_element(
+        alloc: Global,
+        element: &FormalSum<Surj>,
+        q: u32,
+        d: u32,
+    ) -> Result<FaceSum<P>, AllocError>
+        requires prime { IsTrue (served P) }
+        requires element { IsSameSum element.now (may_element P d) }
+        requires small { q ≤ 15 }
+        requires some { d ≤ P * q }
+        ensures numbered { IfOk result (λ t. AreNumbered t.faces.items t.terms.items) }
+        ensures sum { IfOk result (λ t. (a : List ℕ → ℕ) (s : List ℕ) → IsOfDegree q a → length s ≡ suc (P * q - d) → CongruentInt P
+            (face_sum (λ f. pos (a f)) s (terms_in t.faces.items t.terms.items))
+            (sum_value P (may_element P d) (copies P (λ f. pos (a f))) s)) }
+    {
+        let mut sum = FaceSum::new(alloc)?;
+        for k in 0..element.len() {
+            let (surjection, by) = element.term(k);
+            sum.add_term(alloc, surjection, q, d, Fp::from_i64(by))?;
+        }
+        Ok(sum)
+    }
+
+    /// Writes the values of a cochain on the faces of a simplex.
+    fn write_values<V: Values<P>>(
+        &self,
+        alpha: &V,
+        simplex: &[u32],
+        vertices: &mut Vec<u32>,
+        values: &mut Vec<Fp<P>>,
+    ) -> Result<(), AllocError>
+        ensures { OnOk result (values.new.items ≡ map (value_on_face (V.value_of alpha.now) simplex.now) self.now.faces.items) }
+    {
+        values.clear();
+        for face in self.faces.as_slice() {
+            write_vertices(vertices, face, simplex)?;
+            values.push(alpha.at(vertices))?;
+        }
+        Ok(())
+    }
+
+    /// The sum of the products, from the values on the faces.
+    fn sum(&self, values: &[Fp<P>]) -> Fp<P>
+        requires prime { IsTrue (served P) }
+        requires values { length values.now ≡ length self.now.faces.items }
+        requires numbered { AreNumbered self.now.faces.items self.now.terms.items }
+        ensures { result ≡ sum_over (term_product values.now) self.now.terms.items % P }
+    {
+        let mut sum = Fp::new(0);
+        for term in self.terms.as_slice() {
+            sum = sum.add(term.coefficient.mul(product(values, &term.faces)));
+        }
+        sum
+    }
+
+    /// The value of the sum on a cochain, at a simplex.
+    pub(crate) fn value<V: Values<P>>(
+        &self,
+        alpha: &V,
+        simplex: &[u32],
+        vertices: &mut Vec<u32>,
+        values: &mut Vec<Fp<P>>,
+    ) -> Result<Fp<P>, AllocError>
+        requires prime { IsTrue (served P) }
+        requires numbered { AreNumbered self.now.faces.items self.now.terms.items }
+        ensures { IfOk result (λ x. CongruentInt P (pos x) (face_sum (λ f. pos (V.value_of alpha.now f)) simplex.now (terms_in self.now.faces.items self.now.terms.items))) }
+    {
+        self.write_values(alpha, simplex, vertices, values)?;
+        Ok(self.sum(values))
+    }
+
+    /// The values of a multiple of the sum on a cochain, at the simplices of degree n.
+    pub(crate) fn values<V: Values<P>>(
+        &self,
+        alloc: Global,
+        alpha: &V,
+        index: &Indexed,
+        n: u32,
+        by: Fp<P>,
+    ) -> Result<Vec<Fp<P>>, AllocError>
+        requires prime { IsTrue (served P) }
+        requires numbered { AreNumbered self.now.faces.items self.now.terms.items }
+        ensures long { IfOk result (λ v. length v.items ≡ length (level index.now n)) }
+        ensures few { IfOk result (λ v. length v.items < 2 ^ 32) }
+        ensures values { IfOk result (λ v. (x : ℕ) → x < length (level index.now n) → CongruentInt P (pos (slice_index_or v.items x 0))
+            (pos by.entry *ℤ face_sum (λ f. pos (V.value_of alpha.now f)) (slice_index_or (level index.now n) x []) (terms_in self.now.faces.items self.now.terms.items))) }
+    {
+        let mut vertices = Vec::new(alloc);
+        let mut on_faces = Vec::new(alloc);
+        let mut values = Vec::new(alloc);
+        for place in 0..index.count(n) {
+            let value = self.value(alpha, index.simplex(n, place), &mut vertices, &mut on_faces)?;
+            values.push(value.mul(by))?;
+        }
+        Ok(values)
+    }
+}

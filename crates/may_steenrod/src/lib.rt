@@ -1,0 +1,16 @@
+//! Steenrod operations and cup products on cochains of a complex.
+#![tactic(auto)]
+
+mod face_sum;
+mod on;
+mod operations;
+mod places;
+mod product;
+mod square;
+#[cfg(test)]
+mod tests;
+
+pub use on::On;
+pub use operations::{bp_op, d_op, p_op};
+pub use product::cup;
+pub use square::sq;

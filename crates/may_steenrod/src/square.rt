@@ -1,0 +1,67 @@
+//! Squares, by the closed formula.
+ghost use Rattle.std.specs.Prelude.{◌≡◌, ◌≤◌, ◌<◌, ◌+◌, ◌-◌, ◌^◌, ◌∷◌, ℕ, List, [], length, pos, slice_index_or, IfOk};
+ghost use Rattle.simplicial_law.specs.Integral.{CongruentInt};
+ghost use Rattle.interval_cut_law.specs.Operations.{operation_value};
+ghost use Rattle.table_reduction_law.specs.Counts.{in_turn};
+ghost use Rattle.sparse_rows.specs.Rows.{IsBelow};
+ghost use Rattle.complex_index.specs.Levels.{IsIndexOf, level};
+ghost use Rattle.steenrod_law.specs.Operations.{IsSquare};
+ghost use Rattle.may_steenrod.specs.Cochains.{IsClosed, cochain_in};
+
+use crate::on::On;
+use crate::places::row_of;
+use complex_index::{Cochain, Indexed};
+use cup_i::cup_i_at;
+use fp_field::Fp;
+use interval_cut::Values;
+use std::alloc::{AllocError, Global};
+
+/// The cup-i products of a cochain with itself at the simplices of a degree.
+fn square_values<const P: u32, V: Values<P>>(
+    alloc: Global,
+    index: &Indexed,
+    alpha: &V,
+    i: u32,
+    degree: u32,
+) -> Result<Vec<Fp<P>>, AllocError>
+    requires two { P ≡ 2 }
+    requires few { length index.now ≤ 16 }
+    ensures long { IfOk result (λ v. length v.items ≡ length (level index.now degree)) }
+    ensures few { IfOk result (λ v. length v.items < 2 ^ 32) }
+    ensures values { IfOk result (λ v. (x : ℕ) → x < length (level index.now degree) →
+        CongruentInt P (pos (slice_index_or v.items x 0)) (operation_value 2 (in_turn 1 2 (i + 2)) ((λ f. pos (V.value_of alpha.now f)) ∷ (λ f. pos (V.value_of alpha.now f)) ∷ []) (slice_index_or (level index.now degree) x []))) }
+{
+    let _degrees = index.degrees();
+    let mut values = Vec::new(alloc);
+    for place in 0..index.count(degree) {
+        values.push(cup_i_at(i, alpha, alpha, index.simplex(degree, place)))?;
+    }
+    Ok(values)
+}
+
+/// The square `Sq^k`, at 2, for k up to the degree of `alpha`. It raises the degree by k, and on a cocycle it
+/// is a cocycle.
+pub fn sq<const P: u32>(
+    alloc: Global,
+    index: &Indexed,
+    alpha: &Cochain<P>,
+    k: u32,
+) -> Result<Cochain<P>, AllocError>
+    requires two { P ≡ 2 }
+    requires few { length index.now ≤ 16 }
+    requires low { alpha.now.degree ≤ 15 }
+    requires defined { k ≤ alpha.now.degree }
+    requires inside { IsBelow (length (level index.now alpha.now.degree)) alpha.now.row }
+    ensures degree { IfOk result (λ r. r.degree ≡ alpha.now.degree + k) }
+    ensures inside { IfOk result (λ r. IsBelow (length (level index.now (alpha.now.degree + k))) r.row) }
+    ensures square { IfOk result (λ r. (facets : List (List ℕ)) → IsIndexOf facets index.now → IsSquare facets k alpha.now.degree (cochain_in index.now alpha.now.degree alpha.now.row) (cochain_in index.now (alpha.now.degree + k) r.row)) }
+    ensures closed { IfOk result (λ r. IsClosed P index.now alpha.now.degree alpha.now.row → IsClosed P index.now (alpha.now.degree + k) r.row) }
+{
+    let degree = alpha.degree + k;
+    let on = On::new(index, alpha);
+    let values = square_values(alloc, index, &on, alpha.degree - k, degree)?;
+    Ok(Cochain {
+        degree,
+        row: row_of(alloc, &values)?,
+    })
+}
