@@ -1,0 +1,8 @@
+use Rattle.std.proofs.Common.{◌≡◌, ◌++◌}
+use Rattle.std.specs.Prelude.{flat_map}
+use Rattle.signed_sum.specs.Lists.{numbers_from}
+use Rattle.term_total.specs.LiveParts.{live_blocks, operations_with}
+use Rattle.term_total.proofs.live.add_blocks.Given as goal
+
+abbrev pub invariant-loop-k : goal.invariant-loop-k
+invariant-loop-k l = l.found.items ≡ l.fn.found.items ++ live_blocks l.p l.ranks l.q (flat_map operations_with (numbers_from 0 l.k))

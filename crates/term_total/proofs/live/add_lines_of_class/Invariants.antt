@@ -1,0 +1,10 @@
+use Rattle.std.proofs.Common.{◌≡◌, ◌++◌}
+use Rattle.std.specs.Prelude.{flat_map}
+use Rattle.std.specs.List.{filter}
+use Rattle.signed_sum.specs.Lists.{numbers_from}
+use Rattle.report_law.specs.Live.{lines_of_pair}
+use Rattle.term_total.specs.LiveParts.{is_live_line}
+use Rattle.term_total.proofs.live.add_lines_of_class.Given as goal
+
+abbrev pub invariant-loop-j : goal.invariant-loop-j
+invariant-loop-j l = l.found.items ≡ l.fn.found.items ++ filter (is_live_line l.p l.ranks) (flat_map (lines_of_pair l.a l.b l.i) (numbers_from 1 l.j))

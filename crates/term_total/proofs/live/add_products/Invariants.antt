@@ -1,0 +1,8 @@
+use Rattle.std.proofs.Common.{◌≡◌, ◌++◌, map}
+use Rattle.std.specs.List.{filter}
+use Rattle.signed_sum.specs.Lists.{numbers_from}
+use Rattle.term_total.specs.LiveParts.{is_live_product, product_of}
+use Rattle.term_total.proofs.live.add_products.Given as goal
+
+abbrev pub invariant-loop-b : goal.invariant-loop-b
+invariant-loop-b l = l.found.items ≡ l.fn.found.items ++ filter (is_live_product l.ranks) (map (product_of l.a) (numbers_from 0 l.b))

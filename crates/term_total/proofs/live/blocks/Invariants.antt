@@ -1,0 +1,10 @@
+use Rattle.std.proofs.Common.{◌≡◌, map}
+use Rattle.std.specs.Prelude.{flat_map}
+use Rattle.std.specs.List.{filter}
+use Rattle.signed_sum.specs.Lists.{numbers_from}
+use Rattle.report_law.specs.Live.{block_on, operations}
+use Rattle.term_total.specs.LiveParts.{is_live_block}
+use Rattle.term_total.proofs.live.blocks.Given as goal
+
+abbrev pub invariant-loop-q : goal.invariant-loop-q
+invariant-loop-q l = l.found.items ≡ filter (is_live_block l.ranks) (flat_map (λ q. map (block_on l.p q) (operations l.p q)) (numbers_from 0 l.q))
