@@ -10,8 +10,8 @@ ghost use Rattle.row_reduce.specs.Expansion.{AreOlder};
 ghost use Rattle.row_reduce.specs.Triangular.{AreTriangular};
 ghost use Rattle.row_reduce.specs.Echelon.{AreEchelon, IsEchelonFrom, IsMadeFrom, IsSolvedWhole, cleared, combination_of, row_of};
 
-use crate::expanding::{expand, kernel_and_stored};
-use crate::{EchelonRow, Solution, Stored};
+use crate::expanding::expand;
+use crate::{EchelonRow, Stored};
 use fp_field::Fp;
 use sparse_rows::Row;
 use std::alloc::{AllocError, Global};
@@ -135,7 +135,8 @@ fn reduce_down<const P: u32>(
 }
 
 /// The reduced echelon list of the span of triangular rows, as `kernel_and_stored` leaves them. Time grows
-/// with the square of the rank, and with what is written.
+/// with the square of the rank, and with what is written. Each row comes with a combination of the walked rows
+/// that gives it; it is 0 at each row that is the first of some combination that is zero.
 pub fn echelon_of<const P: u32>(
     alloc: Global,
     stored: &[Stored<P>],
@@ -149,29 +150,4 @@ pub fn echelon_of<const P: u32>(
     reduce_down(alloc, stored, owner, &mut echelon)?;
     echelon.reverse();
     Ok(echelon)
-}
-
-/// The kernel, the leads and the reduced echelon list of the rows. The kernel and the leads are as of
-/// `kernel_and_leads`. Each echelon row comes with a combination of the rows that gives it; it is 0 at each
-/// row that is the first of some combination that is zero.
-pub fn kernel_and_echelon<const P: u32>(
-    alloc: Global,
-    rows: &[Row<P>],
-    width: usize,
-    skip: &[u32],
-) -> Result<Solution<P>, AllocError>
-    requires prime { IsTrue (served P) }
-    requires few { length rows.now < 2 ^ 32 }
-    requires narrow { width ≤ 2 ^ 32 }
-    requires within { Each (IsBelow width) rows.now }
-    requires skips { SkipsFit P width rows.now skip.now }
-    ensures { IfOk result (λ r. IsSolvedWhole P width rows.now skip.now r.kernel.items r.owner.items r.echelon.items) }
-{
-    let (kernel, owner, stored) = kernel_and_stored(alloc, rows, width, skip)?;
-    let echelon = echelon_of(alloc, stored.as_slice(), owner.as_slice())?;
-    Ok(Solution {
-        kernel,
-        owner,
-        echelon,
-    })
 }

@@ -116,30 +116,11 @@ pub fn vectors<const P: u32>(
     Ok(rows)
 }
 
-/// The combinations of the rows that are zero, and a table that is not 0 exactly at the leads of what
-/// the rows span. `width` bounds the places of the rows. A row where `skip` is not 0 is not walked: it
-/// has to be the first row of some combination that is zero. The combinations are those of the other
-/// rows that are the first of one: each is 1 at that row and 0 at all others of these, and the list
-/// ascends by that row. Time is for the walk of the rows, with the reduced rows kept sparse.
-pub fn kernel_and_leads<const P: u32>(
-    alloc: Global,
-    rows: &[Row<P>],
-    width: usize,
-    skip: &[u32],
-) -> Result<(Vec<Row<P>>, Vec<u32>), AllocError>
-    requires prime { IsTrue (served P) }
-    requires few { length rows.now < 2 ^ 32 }
-    requires narrow { width ≤ 2 ^ 32 }
-    requires within { Each (IsBelow width) rows.now }
-    requires skips { SkipsFit P width rows.now skip.now }
-    ensures { IfOk result (λ r. IsSolved P width rows.now skip.now r.0.items r.1.items) }
-{
-    let (kernel, owner, _stored) = kernel_and_stored(alloc, rows, width, skip)?;
-    Ok((kernel, owner))
-}
-
-/// The kernel and the leads of the rows, as of `kernel_and_leads`, and the rows that the walk has stored:
-/// triangular rows of the span, one for each lead.
+/// The combinations of the rows that are zero, a table that is not 0 exactly at the leads of what the rows
+/// span, and triangular rows of the span, one for each lead. `width` bounds the places of the rows. A row
+/// where `skip` is not 0 is not walked: it has to be the first row of some combination that is zero. The
+/// combinations are those of the other rows that are the first of one: each is 1 at that row and 0 at all
+/// others of these, and the list ascends by that row. Time is for the walk of the rows.
 pub fn kernel_and_stored<const P: u32>(
     alloc: Global,
     rows: &[Row<P>],

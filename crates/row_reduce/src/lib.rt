@@ -8,9 +8,9 @@ mod reducing;
 mod space;
 mod walking;
 
-pub use echelon::{echelon_of, kernel_and_echelon};
+pub use echelon::echelon_of;
 pub use entries::Entries;
-pub use expanding::{kernel_and_leads, kernel_and_stored};
+pub use expanding::kernel_and_stored;
 use fp_field::Fp;
 pub use space::{Space, kernel};
 use sparse_rows::Row;
@@ -59,15 +59,4 @@ pub struct EchelonRow<const P: u32> {
     pub row: Row<P>,
     /// Coefficients of given rows that give it.
     pub combination: Row<P>,
-}
-
-/// The kernel and the image of given rows.
-#[derive(Drop)]
-pub struct Solution<const P: u32> {
-    /// The combinations of the rows that are zero.
-    pub kernel: Vec<Row<P>>,
-    /// For each place a number that is 0 exactly where no row of the span starts.
-    pub owner: Vec<u32>,
-    /// The reduced echelon list of the span.
-    pub echelon: Vec<EchelonRow<P>>,
 }

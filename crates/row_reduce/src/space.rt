@@ -6,8 +6,8 @@ ghost use Rattle.row_reduce.specs.declared.EchelonRow as declared;
 ghost use Rattle.row_reduce.specs.Space.{AreOwnRows, IsEchelonOf, IsKernelOf, IsOwnRow, IsRemainder, Spanned};
 
 use crate::EchelonRow;
-use crate::echelon::{clear, kernel_and_echelon, multiple};
-use crate::expanding::kernel_and_leads;
+use crate::echelon::{clear, echelon_of, multiple};
+use crate::expanding::kernel_and_stored;
 use crate::walking::zeros;
 use fp_field::Fp;
 use sparse_rows::Row;
@@ -52,7 +52,7 @@ impl<const P: u32> Space<P> {
         let mut given = Vec::new(alloc);
         copy_onto(&mut given, self.given.as_slice())?;
         copy_onto(&mut given, rows)?;
-        let echelon = echelon_of(alloc, given.as_slice())?;
+        let echelon = reduced(alloc, given.as_slice())?;
         self.given = given;
         self.echelon = echelon;
         Ok(())
@@ -144,18 +144,16 @@ fn width_of<const P: u32>(rows: &[Row<P>]) -> usize
 }
 
 /// The reduced echelon list of what the rows span.
-fn echelon_of<const P: u32>(
-    alloc: Global,
-    rows: &[Row<P>],
-) -> Result<Vec<EchelonRow<P>>, AllocError>
+fn reduced<const P: u32>(alloc: Global, rows: &[Row<P>]) -> Result<Vec<EchelonRow<P>>, AllocError>
     requires prime { IsTrue (served P) }
     requires few { length rows.now < 2 ^ 32 }
     ensures { IfOk result (λ v. IsEchelonOf P rows.now v.items) }
 {
     let skip = zeros(alloc, rows.len())?;
     let width = width_of(rows);
-    let solution = kernel_and_echelon(alloc, rows, width, skip.as_slice())?;
-    Ok(solution.echelon)
+    let (_kernel, owner, stored) = kernel_and_stored(alloc, rows, width, skip.as_slice())?;
+    let echelon = echelon_of(alloc, stored.as_slice(), owner.as_slice())?;
+    Ok(echelon)
 }
 
 /// The least position of a row; 0 where it is empty.
@@ -205,7 +203,7 @@ pub fn kernel<const P: u32>(alloc: Global, rows: &[Row<P>]) -> Result<Space<P>, 
 {
     let skip = zeros(alloc, rows.len())?;
     let width = width_of(rows);
-    let (given, _owner) = kernel_and_leads(alloc, rows, width, skip.as_slice())?;
+    let (given, _owner, _stored) = kernel_and_stored(alloc, rows, width, skip.as_slice())?;
     let echelon = own_rows(alloc, given.as_slice())?;
     Ok(Space { given, echelon })
 }
