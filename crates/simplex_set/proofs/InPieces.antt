@@ -107,8 +107,8 @@ between_high ks s low high middle o b h e = record {
     | inr d ↦
         nat_list_cmp_total.antisymm (get_or ks k []) s
         ∙ ap ordering_reverse (nat_list_cmp_total.trans s (get_or ks middle []) (get_or ks k [])
-          (nat_list_cmp_total.antisymm s (get_or ks middle []) ∙ ap ordering_reverse e)
-          (Less-from_sorted simplex_cmp ks middle k [] o (omega (arith, d)) m))
+        (nat_list_cmp_total.antisymm s (get_or ks middle []) ∙ ap ordering_reverse e)
+        (Less-from_sorted simplex_cmp ks middle k [] o (omega (arith, d)) m))
   ];
 }
 

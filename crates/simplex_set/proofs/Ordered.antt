@@ -119,6 +119,7 @@ distinct_kept p (x ∷ xs) d = go (p x) x (filter p xs) (apart p x xs d.0) (dist
         more : (b : Bool) (y : List ℕ) (zs : List (List ℕ)) → same x y ≡ false → AllByRecursion (λ y. same x y ≡ false) zs → AllByRecursion (λ y. same x y ≡ false) (cond b (y ∷ zs) zs)
         more true y zs e h = (e, h)
         more false y zs e h = h
+
     go : (b : Bool) (x : List ℕ) (zs : List (List ℕ)) → AllByRecursion (λ y. same x y ≡ false) zs → IsDistinct same zs → IsDistinct same (cond b (x ∷ zs) zs)
     go true x zs a d = (a, d)
     go false x zs a d = d

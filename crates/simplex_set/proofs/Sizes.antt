@@ -92,6 +92,7 @@ looked_up ks s v l o b p f e q r = q ∙ go ks s l o p f (subst (λ (t : List �
     nothing_behind : (xs : List ℕ) → xs ++ [] ≡ xs
     nothing_behind [] = refl
     nothing_behind (x ∷ xs) = ap (λ ys. x ∷ ys) (nothing_behind xs)
+
     go : (ks : List (List ℕ)) (s : List ℕ) (l : List (List ℕ)) (o : Option ℕ) → 0 < length s → l ≡ of_degree (length s - 1) ks → MatchOption o (Among s l → ⊥) (λ k. (k < length l) × (get_or l k [] ≡ s)) → is_some o ≡ list_any (bytes_eq s) ks
     go ks s l None p f r = absent_is ks s (λ m. r (subst (Among s) (sym f) (in_degree ks s p m)))
     go ks s l (Some k) p f r = there_is ks s true (λ e. out_of_degree ks (length s - 1) s (subst (Among s) f (subst (λ (t : List ℕ). Among t l) r.1 (among_place l k [] r.0)))) (λ m. refl)

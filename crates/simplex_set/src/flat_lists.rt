@@ -55,11 +55,7 @@ impl FlatLists {
     }
 
     // A list of simplices with `size` vertices each.
-    pub(crate) fn of(
-        alloc: Global,
-        all: &[Simplex],
-        size: usize,
-    ) -> Result<FlatLists, AllocError>
+    pub(crate) fn of(alloc: Global, all: &[Simplex], size: usize) -> Result<FlatLists, AllocError>
         requires { Each (λ s. length s ≡ size) all.now }
         ensures { IfOk result (λ l. l ≡ all.now) }
     {

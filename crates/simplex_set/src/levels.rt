@@ -8,11 +8,7 @@ use indexmap::IndexSet;
 use std::alloc::{AllocError, Global};
 
 // Copies of those with `size` vertices.
-fn copies_of_size(
-    alloc: Global,
-    all: &[Simplex],
-    size: usize,
-) -> Result<Vec<Simplex>, AllocError>
+fn copies_of_size(alloc: Global, all: &[Simplex], size: usize) -> Result<Vec<Simplex>, AllocError>
     ensures { IfOk result (λ v. v.items ≡ filter (λ s. length s == size) all.now) }
 {
     let mut found = Vec::new(alloc);

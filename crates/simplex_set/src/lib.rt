@@ -9,9 +9,9 @@ mod open;
 mod simplex;
 
 pub use complex::Complex;
+pub use flat_lists::FlatLists;
 pub use open::{FacetRefused, OpenComplex};
 pub use simplex::{Simplex, compare};
-pub use flat_lists::FlatLists;
 
 #[cfg(test)]
 mod tests {
