@@ -295,43 +295,46 @@ fn a_long_text_is_refused_unread(rt: HostRuntime) -> Result<(), Fail> {
     Ok(())
 }
 
-#[test]
-fn a_block_of_its_own_has_its_fault(rt: HostRuntime) -> Result<(), Fail> {
-    let alloc = rt.alloc();
-    let vertices = [0, 1, 2, 3, 4, 5, 6, 7, 8, 9, 10, 11, 12, 13, 14, 15, 16];
-    let facet = Simplex::new(alloc, vertices.as_slice())?;
-    let block = ComplexBlock {
+// The complex with one facet.
+fn one_facet(alloc: Global, vertices: &[u32]) -> Result<ComplexBlock, AllocError> {
+    let facet = Simplex::new(alloc, vertices)?;
+    Ok(ComplexBlock {
         name: Name::new(alloc, b"a")?,
         facets: Complex::of(alloc, vec![in alloc; facet]?)?,
-    };
+    })
+}
+
+#[test]
+fn a_block_of_its_own_has_its_fault(rt: HostRuntime) -> Result<(), Fail> {
+    let vertices = [0, 1, 2, 3, 4, 5, 6, 7, 8, 9, 10, 11, 12, 13, 14, 15, 16];
+    let block = one_facet(rt.alloc(), vertices.as_slice())?;
     let wanted = BlockFault {
         kind: InputKind::FacetTooWide,
         at: 0,
     };
-    assert_eq!(rt; complex_fault(alloc, &block)?, Some(wanted));
+    assert_eq!(rt; complex_fault(rt.alloc(), &block)?, Some(wanted));
     Ok(())
 }
 
-// The two ends of an edge change places.
-#[test]
-fn a_map_of_its_own_has_its_fault(rt: HostRuntime) -> Result<(), Fail> {
-    let alloc = rt.alloc();
-    let facet = Simplex::new(alloc, &[0, 1])?;
-    let edge = ComplexBlock {
-        name: Name::new(alloc, b"e")?,
-        facets: Complex::of(alloc, vec![in alloc; facet]?)?,
-    };
+// The map that lets the vertices 0 and 1 change places.
+fn exchange(alloc: Global) -> Result<MapBlock, AllocError> {
     let sends = vec![in alloc; Sent { from: 0, to: 1 }, Sent { from: 1, to: 0 }]?;
-    let map = MapBlock {
+    Ok(MapBlock {
         name: Name::new(alloc, b"f")?,
         from: 0,
         to: 0,
         sends: Listed::from(sends),
-    };
+    })
+}
+
+#[test]
+fn a_map_of_its_own_has_its_fault(rt: HostRuntime) -> Result<(), Fail> {
+    let edge = one_facet(rt.alloc(), &[0, 1])?;
+    let map = exchange(rt.alloc())?;
     let wanted = BlockFault {
         kind: InputKind::NotOrderPreserving,
         at: 2,
     };
-    assert_eq!(rt; map_fault(alloc, &map, &edge, &edge)?, Some(wanted));
+    assert_eq!(rt; map_fault(rt.alloc(), &map, &edge, &edge)?, Some(wanted));
     Ok(())
 }
