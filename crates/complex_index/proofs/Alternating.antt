@@ -51,7 +51,7 @@ sum_at_value k (t ∷ ts) = ap₂ (λ m n. m + n) (pair_value t.0 t.1 k) (sum_at
 -- ---- places
 
 -- 1 at the place, 0 elsewhere
-unit_at_place : (ks : List (List ℕ)) (x q c : ℕ) → IsStrictlySortedBy simplex_cmp ks → x < length ks → q < length ks → cond (eqb q x) c 0 ≡ c * unit_cochain (simplex_at ks x) (simplex_at ks q)
+pub unit_at_place : (ks : List (List ℕ)) (x q c : ℕ) → IsStrictlySortedBy simplex_cmp ks → x < length ks → q < length ks → cond (eqb q x) c 0 ≡ c * unit_cochain (simplex_at ks x) (simplex_at ks q)
 unit_at_place ks x q c h l m = elim (eqb_tells q x) [
   | inl k ↦ rw (k.0) (omega (arith, ap (λ n. c * n) (sym (ap (λ (t : List ℕ). unit_cochain (simplex_at ks x) t) (ap (simplex_at ks) k.1) ∙ unit_here (simplex_at ks x)))))
   | inr k ↦ rw (k.0) (omega (arith, ap (λ n. c * n) (sym (unit_away (simplex_at ks x) (simplex_at ks q) (λ e. k.1 (once_in_order ks q x h m l (sym e)))))))

@@ -3,4 +3,5 @@ mod FacePlaces
 mod LevelLemmas
 pub mod Alternating
 pub mod RowLemmas
+mod Pulling
 mod Triangle

@@ -25,7 +25,7 @@ use Rattle.complex_index.proofs.LevelLemmas.{places_length}
 
 -- ---- places in range
 
-value_beyond : (n k : ℕ) (pairs : List (ℕ × ℕ)) → IsBelow n pairs → n ≤ k → value_in pairs k ≡ 0
+pub value_beyond : (n k : ℕ) (pairs : List (ℕ × ℕ)) → IsBelow n pairs → n ≤ k → value_in pairs k ≡ 0
 value_beyond n k [] h l = refl
 value_beyond n k (e ∷ es) h l = omega (arith, sym (pair_value e.0 e.1 k) ∙ ap (λ b. cond b e.1 0) (apart e.0 k (omega (arith, h.0))), value_beyond n k es h.1 l)
   where

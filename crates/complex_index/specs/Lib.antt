@@ -1,3 +1,4 @@
 pub mod Incidence
 pub mod Levels
 pub mod Chains
+pub mod Maps

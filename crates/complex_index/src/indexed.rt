@@ -1,7 +1,8 @@
 ghost use Rattle.std.specs.Prelude.{◌≡◌, ℕ, ◌+◌, ◌-◌, ◌<◌, ◌≤◌, ◌^◌, [], length, map, get_or, IfOk, IsTrue, MatchOption};
 ghost use Rattle.std.specs.List.{AllZip};
+ghost use Rattle.std.specs.List.Sorted.{IsStrictlySortedBy};
 ghost use Rattle.linear_law.specs.Lists.{Among, Each, IsAscending};
-ghost use Rattle.simplicial_law.specs.ListedSimplices.{simplices};
+ghost use Rattle.simplicial_law.specs.ListedSimplices.{simplex_cmp, simplices};
 ghost use Rattle.simplicial_law.specs.Places.{IsCoboundaryRow};
 ghost use Rattle.fp_field.specs.Served.{served};
 ghost use Rattle.sparse_rows.specs.Rows.{IsBelow, value_in};
@@ -12,7 +13,7 @@ ghost use Rattle.complex_index.specs.Levels.{IsComplexIndex, IsIndexOf, level};
 use crate::chains::{boundary_pairs, coboundary_pairs};
 use crate::levels::{Level, levels_of};
 use fp_field::Fp;
-use simplex_set::Complex;
+use simplex_set::{Complex, FlatLists};
 use sparse_rows::Row;
 use std::alloc::{AllocError, Global};
 use std::marker::Model;
@@ -70,6 +71,19 @@ impl Indexed {
             return 0;
         }
         self.levels[n as usize].simplices.len() as u32
+    }
+
+    // The simplices of degree n, none past the dimension.
+    pub(crate) fn level(&self, n: u32) -> Option<&FlatLists>
+        ensures same { MatchOption result (level self.now n ≡ []) (λ l. l.now ≡ level self.now n) }
+        ensures ordered { IsStrictlySortedBy simplex_cmp (level self.now n) }
+        ensures ascending { Each IsAscending (level self.now n) }
+        ensures small { length (level self.now n) < 2 ^ 32 }
+    {
+        if n as usize >= self.levels.len() {
+            return None;
+        }
+        Some(&self.levels[n as usize].simplices)
     }
 
     /// The vertices of the simplex of degree `n` at a place.

@@ -6,8 +6,10 @@ mod cofaces;
 mod incidence;
 mod indexed;
 mod levels;
+mod maps;
 
 pub use indexed::{Cochain, Indexed};
+pub use maps::{MapOn, pull};
 
 #[cfg(test)]
 mod tests;
