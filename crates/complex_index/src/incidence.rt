@@ -23,11 +23,7 @@ fn place_of_face(lower: &FlatLists, simplex: &[u32], at: usize) -> usize
 }
 
 // Appends the places of the faces of a simplex.
-fn put_places(
-    places: &mut Vec<u32>,
-    lower: &FlatLists,
-    simplex: &[u32],
-) -> Result<(), AllocError>
+fn put_places(places: &mut Vec<u32>, lower: &FlatLists, simplex: &[u32]) -> Result<(), AllocError>
     requires ordered { IsStrictlySortedBy simplex_cmp lower.now }
     requires small { length lower.now < 2 ^ 32 }
     requires present { Each (λ t. Among t lower.now) (faces simplex.now) }

@@ -116,11 +116,7 @@ fn value_at_image<const P: u32>(
 }
 
 // Appends a value, if it is not 0.
-fn put_value<const P: u32>(
-    row: &mut Row<P>,
-    place: u32,
-    value: Fp<P>,
-) -> Result<(), AllocError>
+fn put_value<const P: u32>(row: &mut Row<P>, place: u32, value: Fp<P>) -> Result<(), AllocError>
     requires { IsBelow place row.old }
     ensures below { OnOk result (IsBelow (place + 1) row.new) }
     ensures sum { OnOk result ((k : ℕ) → value_in row.new k ≡ value_in row.old k + value.entry * unit_vector place k) }
