@@ -1,151 +1,247 @@
--- Lists of classes, and the loop over the degrees.
-use Rattle.std.proofs.Common.{◌≡◌, ℕ, zero, suc, ◌+◌, ◌<◌, ◌≤◌, ◌^◌, List, [], ◌∷◌, ◌++◌, map, length, get_or, arith, refl, sym, ap, subst, ◌∙◌}
-use Rattle.std.specs.Prelude.{Vec}
-use Rattle.std.specs.declared.alloc.Global.{Global}
+-- One degree: the columns of the table of cycles are dual to the canonical relative classes.
+use Rattle.std.proofs.Common.{◌≡◌, ℕ, zero, suc, ◌+◌, ◌*◌, ◌-◌, ◌%◌, ◌<◌, ◌≤◌, ◌^◌, ◌≢◌, List, [], ◌∷◌, ◌++◌, take, map, length, get_or, arith, refl, sym, ap, ap₂, subst, ◌∙◌, inl, inr, ◌⊎◌}
+use Rattle.std.specs.Prelude.{Some, slice_get}
 use Rattle.std.specs.List.{AllZip}
-use Rattle.std.proofs.Math.ListN.{length-map}
-use Rattle.std.proofs.lemmas.List.{map-append}
-use Rattle.std.proofs.lemmas.Simd.{map-map}
+use Rattle.std.proofs.lemmas.Bool.{cases_eq}
+use Rattle.std.proofs.lemmas.List.{get_or_default, take_more}
+use Rattle.std.proofs.lemmas.Option.{get_or_from_slice_get, slice_get_within}
+use native.Mathlib.Nat.{zero-mod}
 use Rattle.linear_law.specs.Congruence.{Congruent, IsField}
-use Rattle.linear_law.specs.Lists.{Each, IsAscending}
-use Rattle.linear_law.specs.Elimination.{KernelVector}
-use Rattle.linear_law.specs.Triangular.{kernel_place}
-use Rattle.linear_law.proofs.ListLemmas.{each_append, each_zip, each_unmap, length_alike}
-use Rattle.simplicial_law.specs.CanonicalClasses.{AreCanonicalBases, IsCanonicalBasis}
-use Rattle.simplicial_law.specs.Places.{IsCoboundaryRow, terms_of}
-use Rattle.simplicial_law.proofs.SimplexPlaces.{simplex_at}
-use Rattle.sparse_rows.specs.Rows.{IsBelow, value_in}
-use Rattle.complex_index.specs.declared.indexed.Cochain.{Cochain}
-use Rattle.complex_index.specs.Levels.{IsComplexIndex, IsIndexOf, level}
-use Rattle.row_reduce.specs.Walk.{IsSolved, SkipsFit, owned_in}
-use Rattle.cohomology.specs.Classes.{AreClassesOf, ArePlaced, ArePlacedFrom, IsBoundTable, chains_at, chains_from, chains_of}
-use Rattle.cohomology.proofs.DegreeLemmas.{bound_in_zero, degree_basis, next_bounds, rows_count, skips_fit}
+use Rattle.linear_law.specs.Lists.{Among, Each}
+use Rattle.linear_law.specs.Listing.{unit_vector}
+use Rattle.linear_law.specs.Pairing.{paired}
+use Rattle.linear_law.specs.Pivots.{IsPivot}
+use Rattle.linear_law.specs.ReducedBases.{IsSubspace}
+use Rattle.linear_law.specs.Triangular.{LeadsAt}
+use Rattle.linear_law.proofs.CongruenceLemmas.{Congruent_add, Congruent_from, Congruent_mul, Congruent_of, Congruent_refl, Congruent_sym, Congruent_trans}
+use Rattle.linear_law.proofs.CycleLemmas.{cycle_bound, cycle_value}
+use Rattle.linear_law.proofs.ListLemmas.{each_among, each_from_index, each_get_or, each_map, length_alike, zip_push}
+use Rattle.linear_law.proofs.PivotLemmas.{one-nonzero}
+use Rattle.linear_law.proofs.RowCombinations.{unit_one, unit_other}
+use Rattle.linear_law.proofs.TriangularBases.{found}
+use Rattle.simplicial_law.specs.Cochains.{Cochain, unit_cochain}
+use Rattle.simplicial_law.specs.CanonicalClasses.{cochain_of}
+use Rattle.simplicial_law.specs.Places.{cochain_at, terms_of}
+use Rattle.simplicial_law.proofs.SimplexPlaces.{agree_by_place, cochain_at-value, lead_up, simplex_at}
+use Rattle.simplicial_law.proofs.UnitCochains.{unit_away, unit_here}
+use Rattle.sparse_rows.specs.Rows.{value_in}
+use Rattle.complex_index.specs.declared.indexed.Cochain.{Cochain as PlacedCochain}
+use Rattle.complex_index.specs.Levels.{level}
+use Rattle.row_reduce.specs.declared.Stored.{Stored}
+use Rattle.row_reduce.specs.Stored.{StoredFits, stored_place}
+use Rattle.row_reduce.specs.Triangular.{AreTriangular, stored_row}
+use Rattle.row_reduce.specs.Walk.{owned_in}
+use Rattle.cycle_table.specs.Tables.{AreCycles, AreFree, column}
+use Rattle.cycle_table.proofs.TableLemmas.{number_among, zero_or_more}
+use Rattle.relative_law.proofs.Spaces.{relative_close, relative_coboundaries}
+use Rattle.relative_law.specs.Pairs.{IsRelativeCoboundary}
+use Rattle.relative_law.specs.RelativeClasses.{IsCanonicalRelativeClass, IsRelativeCoboundaryPivot, IsRelativeCocyclePivot}
+use Rattle.cohomology.specs.Pairs.{IsPairIndex, IsPairIndexOf}
+use Rattle.cohomology.specs.Classes.{AreRelativeIn, IsPlaced, IsReachedIn, chains_at, cochain_in}
+use Rattle.cohomology.specs.Cycles.{AreDualClasses, IsDualTable, IsLeadOf, at_places}
+use Rattle.cohomology.proofs.RowLemmas.{canonical_at, differ, pivot_of_class, some_at}
 
--- one more cochain of the degree
-pub cochain_more : {p : ℕ} (n : ℕ) (xs ys : List (Cochain p)) (rows : List (List (ℕ × ℕ))) (c : Cochain p) → ys ≡ xs ++ (c ∷ []) → c.degree ≡ n
-    → map (λ (d : Cochain p). d.row) xs ≡ rows → Each (λ (d : Cochain p). d.degree ≡ n) xs → (map (λ (d : Cochain p). d.row) ys ≡ rows ++ (c.row ∷ [])) × Each (λ (d : Cochain p). d.degree ≡ n) ys
-cochain_more {p} n xs ys rows c e d r h = (
-  ap (λ (zs : List (Cochain p)). map (λ (d : Cochain p). d.row) zs) e ∙ map-append (λ (d : Cochain p). d.row) xs (c ∷ []) ∙ ap (λ (zs : List (List (ℕ × ℕ))). zs ++ (c.row ∷ [])) r,
-  subst (Each (λ (d : Cochain p). d.degree ≡ n)) (sym e) (each_append (λ (d : Cochain p). d.degree ≡ n) xs (c ∷ []) h (d, tt)),
-)
+pub leads_more : (p : ℕ) (cs : List (PlacedCochain p)) (i : ℕ) (c : PlacedCochain p) (vs ws : List ℕ) (v : ℕ) → c ≡ get_or cs i c → i < length cs → ws ≡ vs ++ (v ∷ [])
+    → AllZip (λ (d : PlacedCochain p) u. IsLeadOf d.row u) (take i cs) vs → IsLeadOf c.row v → AllZip (λ (d : PlacedCochain p) u. IsLeadOf d.row u) (take (i + 1) cs) ws
+leads_more p cs i c vs ws v e l f h k =
+    let R : PlacedCochain p → ℕ → Type 0 = λ d u. IsLeadOf d.row u in
+    subst (λ (us : List ℕ). AllZip R (take (i + 1) cs) us) (sym f)
+    (subst (λ (ds : List (PlacedCochain p)). AllZip R ds (vs ++ (v ∷ []))) (sym (take_more cs i c l ∙ ap (λ (d : PlacedCochain p). take i cs ++ (d ∷ [])) (sym e)))
+    (zip_push R (take i cs) vs c v h k))
 
--- ascending numbers from low to below count are no more than there are
-pub ascending_few : {X : Type 0} (f : X → ℕ) (count low : ℕ) (xs : List X) → Each (λ x. (low ≤ f x) × (f x < count)) xs → IsAscending (map f xs) → low ≤ count → low + length xs ≤ count
-ascending_few f count low [] h a b = omega arith
-ascending_few {X} f count low (x ∷ xs) h a b =
-    let later : Each (λ y. (f x + 1 ≤ f y) × (f y < count)) xs =
-    each_zip {P = λ (y : X). (low ≤ f y) × (f y < count)} {Q = λ (y : X). f x < f y} {S = λ (y : X). (f x + 1 ≤ f y) × (f y < count)}
-    (λ y c d. (omega arith, c.1)) xs h.1 (each_unmap (λ w. f x < w) f xs a.0) in
-    let first : low ≤ f x = h.0.0 in
-    let inside : f x < count = h.0.1 in
-    let rest = ascending_few f count (f x + 1) xs later a.1 (omega arith) in
-    omega (arith, rest)
+module _ (facets parts : List (List ℕ)) (ls sls : List (List (List ℕ))) (is : IsPairIndexOf facets parts ls sls) (p : ℕ) (field : IsField p) (n : ℕ) where
+  -- relative coboundaries by places
+  abbrev Bounds : (ℕ → ℕ) → Type 0
+  Bounds v = IsRelativeCoboundary facets parts n p (cochain_at (level ls n) v)
 
-module _ (p : ℕ) (field : IsField p) (ls : List (List (List ℕ))) (complex : IsComplexIndex ls) (n : ℕ) (skip : List ℕ) (table : IsBoundTable p ls n skip)
-    (rows : List (List (ℕ × ℕ))) (are : AllZip (IsCoboundaryRow p (level ls (n + 1))) (map value_in rows) (level ls n)) where
-  pub few_rows : length rows < 2 ^ 32
-  few_rows = let e = rows_count complex.facets ls complex.index p field n rows are skip (table.places complex.facets complex.index) in let b = table.few in omega arith
+  at_place : (v : ℕ → ℕ) (x : ℕ) → x < length (level ls n) → cochain_at (level ls n) v (get_or (level ls n) x []) ≡ v x
+  at_place v x b = cochain_at-value facets n p (level ls n) (is.full_index.lists n) v x b
 
-  pub skips : (width : ℕ) → width ≡ length (level ls (n + 1)) → SkipsFit p width rows skip
-  skips width e = subst (λ w. SkipsFit p w rows skip) (sym e) (skips_fit complex.facets ls complex.index p field n rows are skip (table.places complex.facets complex.index) table.full)
+  bounds_space : IsSubspace p (λ y. y < length (level ls n)) Bounds
+  bounds_space =
+      let here = level ls n in
+      let all = is.full_index.lists n in
+      let whole = relative_coboundaries facets parts n p field.large is.inside in
+      record {
+        zero_in = whole.alike (cochain_at here (λ x. 0)) (λ s. 0) (agree_by_place facets n p here all (cochain_at here (λ x. 0)) (λ s. 0) (λ x b. Congruent_of (at_place (λ y. 0) x b))) whole.zero_in;
+        plus = λ k v w hv hw.
+            let both : Cochain = λ s. cochain_at here v s + k * cochain_at here w s in
+            whole.alike (cochain_at here (λ x. v x + k * w x)) both
+            (agree_by_place facets n p here all (cochain_at here (λ x. v x + k * w x)) both (λ x b. Congruent_of (at_place (λ y. v y + k * w y) x b ∙ sym (ap₂ (λ a c. a + k * c) (at_place v x b) (at_place w x b)))))
+            (whole.plus k (cochain_at here v) (cochain_at here w) hv hw);
+        alike = λ v w same h.
+            whole.alike (cochain_at here v) (cochain_at here w)
+            (agree_by_place facets n p here all (cochain_at here v) (cochain_at here w) (λ x b. Congruent_trans (Congruent_of (at_place v x b)) (Congruent_trans (same.at x b) (Congruent_of (sym (at_place w x b)))))) h;
+      }
 
-  module _ (width : ℕ) (e : width ≡ length (level ls (n + 1))) (small : width < 2 ^ 32) (solutions : List (List (ℕ × ℕ))) (owner : List ℕ) (solved : IsSolved p width rows skip solutions owner)
-      (classes : List (Cochain p)) (same : map (λ (c : Cochain p). c.row) classes ≡ solutions) (degrees : Each (λ (c : Cochain p). c.degree ≡ n) classes) where
-    solved_here : IsSolved p (length (level ls (n + 1))) rows skip solutions owner
-    solved_here = subst (λ w. IsSolved p w rows skip solutions owner) e solved
+  bounds_down : (f : Cochain) → IsRelativeCoboundary facets parts n p f → Bounds (at_places (level ls n) f)
+  bounds_down f h =
+      let v = at_places (level ls n) f in
+      (relative_coboundaries facets parts n p field.large is.inside).alike (cochain_at (level ls n) v) f
+      (agree_by_place facets n p (level ls n) (is.full_index.lists n) (cochain_at (level ls n) v) f (λ x b. Congruent_of (at_place v x b))) h
 
-    pub solved_degree : AreClassesOf p ls n classes owner
-    solved_degree =
-        let count = rows_count complex.facets ls complex.index p field n rows are skip (table.places complex.facets complex.index) in
-        record {
-          placed = each_zip (λ c d b. (d, b)) classes degrees
-              (each_unmap (IsBelow (length (level ls n))) (λ (c : Cochain p). c.row) classes
-              (subst (Each (IsBelow (length (level ls n)))) (sym same) (subst (λ m. Each (IsBelow m) solutions) count solved.inside)));
-          few =
-              let kernel = ascending_few kernel_place (length rows) 0 solved.kernel solved.walked.kernel_places solved.walked.kernel_ascends (omega arith) in
-              let one = length_alike (λ (k : KernelVector) (r : List (ℕ × ℕ)). (x : ℕ) → Congruent p (value_in r x) (k.vector x)) solved.kernel solutions solved.vectors in
-              let two = sym (length-map classes (λ (c : Cochain p). c.row)) ∙ ap (λ (rs : List (List (ℕ × ℕ))). length rs) same in
-              let small = few_rows in
-              omega (arith, kernel, one, two, small);
-          basis = λ facets is. subst (IsCanonicalBasis facets n p)
-              (ap (λ (rs : List (List (ℕ × ℕ))). map (terms_of (level ls n)) rs) (sym same) ∙ map-map (terms_of (level ls n)) (λ (c : Cochain p). c.row) classes)
-              (degree_basis facets ls is p field n rows are skip (table.places facets is) solutions owner solved_here);
-          next = record {
-            few = subst (λ w. w < 2 ^ 32) e small;
-            full = solved_here.full;
-            places = λ facets is. next_bounds facets ls is p field n rows are skip (table.places facets is) solutions owner solved_here;
-          };
-        }
+  bound_pivot : (v : ℕ → ℕ) → Bounds v → (t : ℕ) → LeadsAt p (length (level ls n)) v t → IsRelativeCoboundaryPivot facets parts n p (get_or (level ls n) t [])
+  bound_pivot v h t l = record { vector = cochain_at (level ls n) v; member = h; lead = lead_up facets n p (level ls n) (is.full_index.lists n) (is.full_index.in_order n) v t l }
 
--- ---- the loop over the degrees
+  lead_among : (cs : List (PlacedCochain p)) (places : List ℕ) → AllZip (λ (c : PlacedCochain p) k. IsLeadOf c.row k) cs places → (i : ℕ) (c : PlacedCochain p) → slice_get cs i ≡ Some c → IsLeadOf c.row (get_or places i 0)
+  lead_among cs places l i c e = go cs places l i (slice_get_within cs i c e) (get_or_from_slice_get cs i c c e)
+    where
+      go : (ds : List (PlacedCochain p)) (ks : List ℕ) → AllZip (λ (c : PlacedCochain p) k. IsLeadOf c.row k) ds ks → (i : ℕ) → i < length ds → get_or ds i c ≡ c → IsLeadOf c.row (get_or ks i 0)
+      go [] ks h i b q = absurd (omega arith)
+      go (d ∷ ds) [] h i b q = elim h [ ]
+      go (d ∷ ds) (k ∷ ks) h zero b q = subst (λ (x : PlacedCochain p). IsLeadOf x.row k) q h.0
+      go (d ∷ ds) (k ∷ ks) h (suc i) b q = go ds ks h.1 i (omega arith) q
 
--- the classes of each degree from n on are a basis
-abbrev pub AreBasesFrom : {p : ℕ} → List (List ℕ) → List (List (List ℕ)) → ℕ → List (Vec (Cochain p) Global) → Type 0
-AreBasesFrom {p} facets ls n [] = Unit {0}
-AreBasesFrom {p} facets ls n (v ∷ vs) = IsCanonicalBasis facets n p (chains_at (level ls n) v.items) × AreBasesFrom facets ls (suc n) vs
+  module _ (classes : List (PlacedCochain p)) (relative : AreRelativeIn p ls sls n classes) (owner : List ℕ) (stored : List (Stored p)) (reached : IsReachedIn p ls sls n owner stored)
+      (places : List ℕ) (leads : AllZip (λ (c : PlacedCochain p) k. IsLeadOf c.row k) classes places) where
+    count : length places ≡ length classes
+    count = length_alike (λ (c : PlacedCochain p) k. IsLeadOf c.row k) classes places leads
 
--- the classes below a degree are found, and what is bound in this degree
-pub record AreFoundBelow (p : ℕ) (ls : List (List (List ℕ))) (degree : ℕ) (classes : List (Vec (Cochain p) Global)) (bound : List ℕ) : Type 0 where
-  pub count : length classes ≡ degree
-  pub table : IsBoundTable p ls degree bound
-  pub placed : ArePlacedFrom ls 0 classes
-  pub bases : (facets : List (List ℕ)) → IsIndexOf facets ls → AreBasesFrom facets ls 0 classes
+    pivots : List (List ℕ)
+    pivots = (relative.basis facets parts is).canonical.pivots
 
-pub found_start : (p : ℕ) (ls : List (List (List ℕ))) (classes : List (Vec (Cochain p) Global)) (bound : List ℕ) → classes ≡ [] → length (level ls 0) < 2 ^ 32 → length bound ≡ length (level ls 0) → ((x : ℕ) → owned_in bound x → ⊥)
-    → AreFoundBelow p ls 0 classes bound
-found_start p ls classes bound e few full none = subst (λ (vs : List (Vec (Cochain p) Global)). AreFoundBelow p ls 0 vs bound) (sym e) (record {
-  count = refl;
-  table = record { few = few; full = full; places = λ facets is. bound_in_zero facets ls p bound none };
-  placed = tt;
-  bases = λ facets is. tt;
-})
+    class_here : (j : ℕ) (c : PlacedCochain p) → slice_get classes j ≡ Some c
+        → (j < length (relative.basis facets parts is).canonical.pivots) × IsCanonicalRelativeClass facets parts n p (get_or (relative.basis facets parts is).canonical.pivots j []) (cochain_in ls n c.row)
+    class_here j c e =
+        let basis = relative.basis facets parts is in
+        canonical_at facets parts ls sls is p field n basis.canonical.pivots classes basis.canonical.canonical j c e
 
-placed_more : {p : ℕ} (ls : List (List (List ℕ))) (n : ℕ) (vs : List (Vec (Cochain p) Global)) (v : Vec (Cochain p) Global) (m : ℕ) → n + length vs ≡ m
-    → ArePlacedFrom ls n vs → ArePlaced ls m v.items → ArePlacedFrom ls n (vs ++ (v ∷ []))
-placed_more ls n [] v m e h k = (subst (λ i. ArePlaced ls i v.items) (let q : m ≡ n = omega arith in q) k, tt)
-placed_more ls n (w ∷ vs) v m e h k = (h.0, placed_more ls (suc n) vs v m (omega arith) h.1 k)
+    -- the least place of a class is that of its pivot
+    lead_at : (i : ℕ) (c : PlacedCochain p) (s : List ℕ) → slice_get classes i ≡ Some c → IsCanonicalRelativeClass facets parts n p s (cochain_in ls n c.row)
+        → (get_or places i 0 < length (level ls n)) × (get_or (level ls n) (get_or places i 0) [] ≡ s)
+    lead_at i c s e class =
+        let placed : IsPlaced p ls n c = subst (IsPlaced p ls n) (get_or_from_slice_get classes i c c e) (each_get_or (IsPlaced p ls n) classes i c (slice_get_within classes i c e) relative.placed) in
+        pivot_of_class facets parts ls sls is p field n c.row (get_or places i 0) s placed.inside placed.row_is (lead_among classes places leads i c e) class
 
-bases_more : {p : ℕ} (facets : List (List ℕ)) (ls : List (List (List ℕ))) (n : ℕ) (vs : List (Vec (Cochain p) Global)) (v : Vec (Cochain p) Global) (m : ℕ) → n + length vs ≡ m
-    → AreBasesFrom facets ls n vs → IsCanonicalBasis facets m p (chains_at (level ls m) v.items) → AreBasesFrom facets ls n (vs ++ (v ∷ []))
-bases_more {p} facets ls n [] v m e h k = (subst (λ i. IsCanonicalBasis facets i p (chains_at (level ls i) v.items)) (let q : m ≡ n = omega arith in q) k, tt)
-bases_more {p} facets ls n (w ∷ vs) v m e h k = (h.0, bases_more facets ls (suc n) vs v m (omega arith) h.1 k)
+    -- which is no lead of coboundaries
+    not_owned : (i : ℕ) → i < length classes → (get_or places i 0 < length (level ls n)) × (get_or owner (get_or places i 0) 0 ≡ 0)
+    not_owned i b =
+        let c = some_at classes i b in
+        let own = class_here i c.0 c.1 in
+        let at = lead_at i c.0 (get_or (relative.basis facets parts is).canonical.pivots i []) c.1 own.1 in (
+          at.0,
+          elim (zero_or_more (get_or owner (get_or places i 0) 0)) [
+            | inl e ↦ e
+            | inr some ↦
+                let pivot = (reached.table.places facets parts is).sound (get_or places i 0) (let q : owned_in owner (get_or places i 0) = omega (arith, some.1) in q) in
+                absurd (own.1.no_bound (subst (IsRelativeCoboundaryPivot facets parts n p) at.1 pivot))
+          ],
+        )
 
-pub length_more : {X : Type 0} (xs : List X) (x : X) → length (xs ++ (x ∷ [])) ≡ length xs + 1
-length_more [] x = refl
-length_more (y ∷ ys) x = omega (arith, length_more ys x)
+    pub leads_free : AreFree (length (level ls n)) owner places
+    leads_free =
+        each_from_index (λ s. (s < length (level ls n)) × (get_or owner s 0 ≡ 0)) places
+        (λ i d b. subst (λ s. (s < length (level ls n)) × (get_or owner s 0 ≡ 0)) (get_or_default places i 0 d b) (not_owned i (omega (arith, b, count))))
 
-pub found_more : (p : ℕ) (ls : List (List (List ℕ))) (degree : ℕ) (classes more : List (Vec (Cochain p) Global)) (v : Vec (Cochain p) Global) (bound leads : List ℕ)
-    → more ≡ classes ++ (v ∷ []) → AreFoundBelow p ls degree classes bound → AreClassesOf p ls degree v.items leads → AreFoundBelow p ls (degree + 1) more leads
-found_more p ls degree classes more v bound leads e h k =
-    let P : List (Vec (Cochain p) Global) → Type 0 = λ vs. AreFoundBelow p ls (degree + 1) vs leads in
-    subst P (sym e) (record {
-      count = length_more classes v ∙ ap (λ n. n + 1) h.count;
-      table = k.next;
-      placed = placed_more ls 0 classes v degree (let c = h.count in omega arith) h.placed k.placed;
-      bases = λ facets is. bases_more facets ls 0 classes v degree (let c = h.count in omega arith) (h.bases facets is) (k.basis facets is);
-    })
+    module _ (table : List (List (ℕ × ℕ))) (cycles : AreCycles p (length (level ls n)) stored places table) where
+      members : Each (λ (s : Stored p). Bounds (stored_row s)) stored
+      members = reached.bounds.members facets parts is
 
-chains_length : {p : ℕ} (ls : List (List (List ℕ))) (n : ℕ) (vs : List (Vec (Cochain p) Global)) → length (chains_from ls n vs) ≡ length vs
-chains_length ls n [] = refl
-chains_length ls n (v ∷ vs) = ap suc (chains_length ls (suc n) vs)
+      stored_leads : Each (λ (s : Stored p). LeadsAt p (length (level ls n)) (stored_row s) (stored_place s)) stored
+      stored_leads =
+          each_map {P = StoredFits p (length (level ls n))} {Q = λ (s : Stored p). LeadsAt p (length (level ls n)) (stored_row s) (stored_place s)}
+          (λ s h. record {
+            on = h.inside;
+            nonzero = λ z.
+                let none : Congruent p (stored_row s s.place) 0 = record { same = z ∙ sym (zero-mod p) } in
+                let one : Congruent p 0 1 = Congruent_from (Congruent_add (Congruent_sym h.factor) (Congruent_mul none (Congruent_refl s.factor))) (omega arith) in
+                one-nonzero p 0 field.large one (zero-mod p);
+            least = λ y on b. h.leads y b;
+          })
+          stored reached.bounds.triangular.fits
 
-bases_at : {p : ℕ} (facets : List (List ℕ)) (ls : List (List (List ℕ))) (n : ℕ) (vs : List (Vec (Cochain p) Global)) → AreBasesFrom facets ls n vs
-    → (k m : ℕ) → n + k ≡ m → k < length vs → IsCanonicalBasis facets m p (get_or (chains_from ls n vs) k [])
-bases_at facets ls n [] h k m e b = absurd (omega arith)
-bases_at {p} facets ls n (v ∷ vs) h zero m e b = subst (λ i. IsCanonicalBasis facets i p (chains_at (level ls n) v.items)) (let q : n ≡ m = omega arith in q) h.0
-bases_at facets ls n (v ∷ vs) h (suc k) m e b = bases_at facets ls (suc n) vs h.1 k m (omega arith) (omega arith)
+      -- the leads are the places of the pivots of the relative coboundaries
+      whole : (t : ℕ) → IsPivot p (λ y. y < length (level ls n)) (λ a b. a < b) Bounds t → Among t (map stored_place stored)
+      whole t q =
+          let some = (reached.table.places facets parts is).whole t q.lead.on (bound_pivot q.vector q.member t q.lead) in
+          let o = reached.bounds.triangular.owns.some t (get_or owner t 0 - 1) (omega (arith, some)) in
+          named stored (get_or owner t 0 - 1) o.0 o.1
+        where
+          named : (ss : List (Stored p)) (k : ℕ) → k < length ss → ((d : Stored p) → (get_or ss k d).place ≡ t) → Among t (map stored_place ss)
+          named [] k b e = absurd (omega arith)
+          named (s ∷ ss) k b e = number_among stored_place (s ∷ ss) k t s b (e s)
 
-pub level_inside : (ls : List (List (List ℕ))) (n k : ℕ) → k < length (level ls n) → n < length ls
-level_inside [] n k b = absurd (omega arith)
-level_inside (l ∷ ls) zero k b = omega arith
-level_inside (l ∷ ls) (suc n) k b = let c = level_inside ls n k b in omega arith
+      lead_pivot : (x : ℕ) → Among x (map stored_place stored) → IsRelativeCoboundaryPivot facets parts n p (get_or (level ls n) x [])
+      lead_pivot x m =
+          elim (found stored_place x stored) [
+            | inr none ↦ absurd (none m)
+            | inl f ↦
+                let lead = each_among (λ (s : Stored p). LeadsAt p (length (level ls n)) (stored_row s) (stored_place s)) f.0 stored stored_leads f.1 in
+                subst (λ y. IsRelativeCoboundaryPivot facets parts n p (get_or (level ls n) y [])) f.2
+                (bound_pivot (stored_row f.0) (each_among (λ (s : Stored p). Bounds (stored_row s)) f.0 stored members f.1) (stored_place f.0) lead)
+          ]
 
-pub found_all : (p : ℕ) (ls : List (List (List ℕ))) (classes : List (Vec (Cochain p) Global)) (bound : List ℕ) → AreFoundBelow p ls (length ls) classes bound
-    → (facets : List (List ℕ)) → IsIndexOf facets ls → AreCanonicalBases facets p (chains_of ls classes)
-found_all p ls classes bound h facets is =
-    let size : length (chains_of ls classes) ≡ length ls = chains_length ls 0 classes ∙ h.count in
-    record {
-      each = λ n b. bases_at facets ls 0 classes (h.bases facets is) n n (omega arith) (let c = h.count in omega arith);
-      inhabited = λ n b. (get_or (level ls n) 0 [], simplex_at facets n p (level ls n) (is.lists n) 0 (is.inhabited n (omega arith)));
-      whole = λ n s on. let q = (is.lists n).whole s on in let c = level_inside ls n q.0 q.1 in omega arith;
-    }
+      none_here : (i : ℕ) → i < length classes → (f : Cochain) → IsRelativeCoboundary facets parts n p f → Congruent p (paired (length (level ls n)) (at_places (level ls n) f) (column table i)) 0
+      none_here i b f h =
+          cycle_bound p (length (level ls n)) field bounds_space stored_place stored_row stored members stored_leads whole (get_or places i 0) (column table i) (cycles.each i (omega (arith, b, count)))
+          (at_places (level ls n) f) (bounds_down f h)
+
+      dual_here : (i j : ℕ) (c : PlacedCochain p) → i < length classes → slice_get classes j ≡ Some c → Congruent p (paired (length (level ls n)) (at_places (level ls n) (cochain_in ls n c.row)) (column table i)) (unit_vector i j)
+      dual_here i j c b e =
+          let v = at_places (level ls n) (cochain_in ls n c.row) in
+          let d = some_at classes i b in
+          let mine = class_here i d.0 d.1 in
+          let other = class_here j c e in
+          let ss = (relative.basis facets parts is).canonical.pivots in
+          let zero_at : (x : ℕ) → Among x (map stored_place stored) → Congruent p (v x) 0 =
+          λ x m.
+          let q = lead_pivot x m in
+          let closed : IsRelativeCocyclePivot facets parts n p (get_or (level ls n) x []) = record { vector = q.vector; member = relative_close facets parts n p field.large is.inside q.vector q.member; lead = q.lead } in
+          other.1.canonical.others (get_or (level ls n) x []) closed (λ g. other.1.no_bound (subst (IsRelativeCoboundaryPivot facets parts n p) g q)) in
+          Congruent_trans
+          (cycle_value p (length (level ls n)) field bounds_space stored_place stored_row stored members stored_leads whole (get_or places i 0) (column table i) (cycles.each i (omega (arith, b, count))) v zero_at)
+          (subst (λ (t : List ℕ). Congruent p (cochain_in ls n c.row t) (unit_vector i j)) (sym (lead_at i d.0 (get_or ss i []) d.1 mine.1).1)
+          (elim (cases_eq i j) [
+            | inl q ↦
+                subst (λ m. Congruent p (cochain_in ls n c.row (get_or ss m [])) (unit_vector m j)) (sym q) (Congruent_trans other.1.canonical.one (Congruent_of (sym (unit_one 0 j))))
+            | inr m ↦
+                Congruent_trans (other.1.canonical.others (get_or ss i []) mine.1.canonical.pivot (differ ss (relative.basis facets parts is).canonical.in_order i j m mine.0 other.0)) (Congruent_of (sym (unit_other i j (λ g. m (sym g)))))
+          ]))
+
+      free_here : (i k : ℕ) (c : PlacedCochain p) (s : List ℕ) → slice_get classes i ≡ Some c → IsCanonicalRelativeClass facets parts n p s (cochain_in ls n c.row) → k < length (level ls n)
+          → (IsRelativeCoboundaryPivot facets parts n p (get_or (level ls n) k []) → ⊥) → Congruent p (column table i k) (unit_cochain s (get_or (level ls n) k []))
+      free_here i k c s e class b away =
+          let at = lead_at i c s e class in
+          let cycle = cycles.each i (let q = slice_get_within classes i c e in omega (arith, q, count)) in
+          elim (cases_eq k (get_or places i 0)) [
+            | inl q ↦
+                let same : get_or (level ls n) k [] ≡ s = ap (λ x. get_or (level ls n) x []) q ∙ at.1 in
+                subst (λ x. Congruent p (column table i x) (unit_cochain s (get_or (level ls n) k []))) (sym q)
+                (Congruent_trans cycle.one (Congruent_of (sym (ap (unit_cochain s) same ∙ unit_here s))))
+            | inr m ↦
+                Congruent_trans (cycle.support k b m (λ a. away (lead_pivot k a)))
+                (Congruent_of (sym (unit_away s (get_or (level ls n) k []) (λ g. m ((is.full_index.lists n).once k (get_or places i 0) [] b at.0 (sym (at.1 ∙ g)))))))
+          ]
+
+      decide_here : (k : ℕ) → k < length (level ls n) → IsRelativeCoboundaryPivot facets parts n p (get_or (level ls n) k []) ⊎ (IsRelativeCoboundaryPivot facets parts n p (get_or (level ls n) k []) → ⊥)
+      decide_here k b =
+          elim ((reached.table.places facets parts is).decide k) [
+            | inl o ↦ inl ((reached.table.places facets parts is).sound k o)
+            | inr o ↦ inr (λ q. o ((reached.table.places facets parts is).whole k b q))
+          ]
+
+      pub dual_table : IsDualTable facets parts p n (level ls n) classes table
+      dual_table = record { coboundaries = none_here; dual = dual_here; decide = decide_here; free = free_here }
+
+-- ---- as the code uses it
+
+module _ (p : ℕ) (field : IsField p) (ls sls : List (List (List ℕ))) (pair : IsPairIndex ls sls) (n : ℕ) (owner : List ℕ) (stored : List (Stored p)) (reached : IsReachedIn p ls sls n owner stored)
+    (classes : List (PlacedCochain p)) (are : AreRelativeIn p ls sls n classes) (places : List ℕ) (leads : AllZip (λ (c : PlacedCochain p) k. IsLeadOf c.row k) classes places) where
+  pub places_free : AreFree (length owner) owner places
+  places_free = subst (λ w. AreFree w owner places) (sym reached.table.whole) (leads_free pair.facets pair.parts ls sls pair.index p field n classes are owner stored reached places leads)
+
+  pub triangular_here : AreTriangular p (length owner) stored owner
+  triangular_here = subst (λ w. AreTriangular p w stored owner) (sym reached.table.whole) reached.bounds.triangular
+
+  pub few_leads : length places < 2 ^ 32
+  few_leads = let e = length_alike (λ (c : PlacedCochain p) k. IsLeadOf c.row k) classes places leads in let b = are.few in omega (arith, e, b)
+
+  pub duals_made : (table : List (List (ℕ × ℕ))) → AreCycles p (length owner) stored places table → AreDualClasses p ls sls n classes table
+  duals_made table cycles =
+      let here : AreCycles p (length (level ls n)) stored places table = subst (λ w. AreCycles p w stored places table) reached.table.whole cycles in
+      record {
+        relative = are;
+        whole = here.full;
+        few = let e = here.full in let b = reached.table.few in omega (arith, e, b);
+        cycles = λ facets parts is. dual_table facets parts ls sls is p field n classes are owner stored reached places leads table here;
+      }

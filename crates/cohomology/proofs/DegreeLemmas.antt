@@ -1,79 +1,161 @@
--- One degree: what the elimination gives are its canonical classes, and the bound places one degree up.
-use Rattle.std.proofs.Common.{◌≡◌, ℕ, zero, suc, ◌+◌, ◌<◌, ◌⊎◌, List, [], ◌∷◌, map, length, get_or, arith, sym, subst, ◌∙◌, inl, inr}
+-- One degree: the blanked rows are those of relative cochains, and what may be skipped.
+use Rattle.std.proofs.Common.{◌≡◌, ℕ, zero, suc, ◌+◌, ◌<◌, ◌⊎◌, inl, inr, true, false, cond, List, [], ◌∷◌, map, length, get_or, arith, refl, sym, ap, subst, ◌∙◌}
 use Rattle.std.specs.List.{AllZip}
 use Rattle.std.proofs.Math.ListN.{length-map}
+use Rattle.std.proofs.lemmas.Bool.{cases_Bool}
 use Rattle.linear_law.specs.Congruence.{Congruent, IsField}
 use Rattle.linear_law.specs.Lists.{Each}
 use Rattle.linear_law.specs.Elimination.{KernelVector}
+use Rattle.linear_law.specs.Listing.{unit_vector}
 use Rattle.linear_law.specs.Triangular.{Walked}
-use Rattle.linear_law.proofs.ListLemmas.{each_map, length_alike}
-use Rattle.simplicial_law.specs.CanonicalClasses.{IsCanonicalBasis}
-use Rattle.simplicial_law.specs.Places.{AreBoundPlaces, IsCoboundaryByPlace, IsCoboundaryRow, IsRowOf, terms_of}
-use Rattle.simplicial_law.proofs.Bases.{bounds_close}
-use Rattle.simplicial_law.proofs.CanonicalBases.{bound_places, canonical_basis}
-use Rattle.simplicial_law.proofs.CoboundaryRows.{rows_by_place}
-use Rattle.simplicial_law.proofs.DegreeZero.{no_bounds}
+use Rattle.linear_law.proofs.ListLemmas.{length_alike, zip_from_index}
+use Rattle.linear_law.proofs.CongruenceLemmas.{Congruent_of, Congruent_trans}
+use Rattle.linear_law.proofs.ListLemmas.{each_among, each_map}
+use Rattle.linear_law.proofs.PivotLemmas.{one-nonzero}
+use Rattle.linear_law.proofs.RowCombinations.{row_combination-row, unit_one, unit_other}
+use Rattle.simplicial_law.specs.Places.{IsCoboundaryRow, IsRowOf, terms_of}
+use Rattle.simplicial_law.specs.Cochains.{coboundary, unit_cochain}
+use Rattle.std.proofs.lemmas.List.{get_or_default}
+use Rattle.simplicial_law.specs.Simplices.{IsSimplex}
 use Rattle.simplicial_law.proofs.SimplexPlaces.{simplex_at}
-use Rattle.simplicial_law.proofs.WalkedDegreeLemmas.{cocycle_down}
 use Rattle.sparse_rows.specs.Rows.{IsBelow, IsRow, value_in}
-use Rattle.complex_index.specs.Levels.{IsIndexOf, level}
+use Rattle.complex_index.specs.Levels.{level}
 use Rattle.row_reduce.specs.Walk.{IsSolved, SkipsFit, combined, owned_in}
+use Rattle.relative_law.proofs.Covered.{covered_simplex, simplex_covered}
+use Rattle.relative_law.proofs.RelativeBases.{bound_places, canonical_basis}
+use Rattle.relative_law.proofs.RelativeDegrees.{IsOuterByPlace, cocycle_down, rows_by_place}
+use Rattle.relative_law.proofs.Spaces.{relative_close}
+use Rattle.relative_law.specs.Pairs.{is_covered}
+use Rattle.relative_law.specs.RelativeClasses.{IsCanonicalRelativeBasis}
+use Rattle.relative_law.specs.RelativeElimination.{AreRelativeBoundPlaces, AreSkippedPlaces, IsRelativeCoboundaryRow}
+use Rattle.cohomology.specs.Pairs.{IsPairIndexOf}
+use Rattle.cohomology.specs.Walk.{AreRowsOf}
+use Rattle.cohomology.proofs.PairLemmas.{among_at}
 
--- a number stands only at a place of the list
-owned_inside : (xs : List ℕ) (x : ℕ) → owned_in xs x → x < length xs
+pub owned_inside : (xs : List ℕ) (x : ℕ) → owned_in xs x → x < length xs
 owned_inside [] x h = absurd (omega arith)
 owned_inside (y ∷ ys) zero h = omega arith
 owned_inside (y ∷ ys) (suc x) h = let b = owned_inside ys x h in omega arith
 
-owned_or_not : (xs : List ℕ) (x : ℕ) → owned_in xs x ⊎ (owned_in xs x → ⊥)
+pub owned_or_not : (xs : List ℕ) (x : ℕ) → owned_in xs x ⊎ (owned_in xs x → ⊥)
 owned_or_not xs x = go (get_or xs x 0)
   where
     go : (n : ℕ) → (0 < n) ⊎ (0 < n → ⊥)
     go zero = inr (λ h. absurd (omega arith))
     go (suc n) = inl (omega arith)
 
--- in degree 0 nothing is bound
-pub bound_in_zero : (facets : List (List ℕ)) (ls : List (List (List ℕ))) (p : ℕ) (owner : List ℕ) → ((x : ℕ) → owned_in owner x → ⊥) → AreBoundPlaces facets 0 p (level ls 0) (owned_in owner)
-bound_in_zero facets ls p owner none = record {
-  inside = λ x h. absurd (none x h);
-  sound = λ x h. absurd (none x h);
-  whole = λ x b h. absurd (no_bounds facets p (get_or (level ls 0) x []) h);
-  decide = owned_or_not owner;
-}
+pub get_map : {X Y : Type 0} (f : X → Y) (xs : List X) (k : ℕ) (d : Y) (e : X) → k < length xs → get_or (map f xs) k d ≡ f (get_or xs k e)
+get_map f [] k d e b = absurd (omega arith)
+get_map f (x ∷ xs) zero d e b = refl
+get_map f (x ∷ xs) (suc k) d e b = get_map f xs k d e (omega arith)
 
-module _ (facets : List (List ℕ)) (ls : List (List (List ℕ))) (is : IsIndexOf facets ls) (p : ℕ) (field : IsField p) where
-  module _ (n : ℕ) (rows : List (List (ℕ × ℕ))) (are : AllZip (IsCoboundaryRow p (level ls (n + 1))) (map value_in rows) (level ls n))
-      (skip : List ℕ) (bounds : AreBoundPlaces facets n p (level ls n) (owned_in skip)) where
-    by_place : IsCoboundaryByPlace p (level ls n) (level ls (n + 1)) (combined rows)
-    by_place = rows_by_place p (level ls (n + 1)) (level ls n) (map value_in rows) are
+zip_at : {X Z : Type 0} (R : X → Z → Type 0) (xs : List X) (zs : List Z) (k : ℕ) (d : X) (e : Z) → AllZip R xs zs → k < length xs → R (get_or xs k d) (get_or zs k e)
+zip_at R [] zs k d e h b = absurd (omega arith)
+zip_at R (x ∷ xs) [] k d e h b = elim h [ ]
+zip_at R (x ∷ xs) (z ∷ zs) zero d e h b = h.0
+zip_at R (x ∷ xs) (z ∷ zs) (suc k) d e h b = zip_at R xs zs k d e h.1 (omega arith)
 
-    pub rows_count : length rows ≡ length (level ls n)
-    rows_count = sym (length-map rows value_in) ∙ sym (length_alike (IsCoboundaryRow p (level ls (n + 1))) (map value_in rows) (level ls n) are)
+module _ (facets parts : List (List ℕ)) (ls sls : List (List (List ℕ))) (is : IsPairIndexOf facets parts ls sls) (p : ℕ) (field : IsField p)
+    (n : ℕ) (pivots : List ℕ) (rows : List (List (ℕ × ℕ))) (skip : List ℕ) (of : AreRowsOf p ls sls n pivots rows skip) where
+  pub rows_count : length rows ≡ length (level ls n)
+  rows_count = of.blank.whole ∙ sym (length-map of.given value_in) ∙ sym (length_alike (IsCoboundaryRow p (level ls (n + 1))) (map value_in of.given) (level ls n) of.are)
 
-    -- what is bound may be skipped: a coboundary starts there, and it is closed
-    pub skips_fit : length skip ≡ length (level ls n) → SkipsFit p (length (level ls (n + 1))) rows skip
-    skips_fit full = record {
-      full = full ∙ sym rows_count;
+  here_at : (x : ℕ) → x < length (level ls n) → IsSimplex facets n (get_or (level ls n) x [])
+  here_at = simplex_at facets n p (level ls n) (is.full_index.lists n)
+
+  -- a place is marked where its simplex is one of the subcomplex
+  marked_simplex : (x : ℕ) → x < length (level ls n) → owned_in of.marks x → IsSimplex parts n (get_or (level ls n) x [])
+  marked_simplex x b o = each_among (IsSimplex parts n) (get_or (level ls n) x []) (level sls n) (is.sub_index.lists n).sound ((of.table.marked x b).0 o)
+
+  simplex_marked : (x : ℕ) → x < length (level ls n) → IsSimplex parts n (get_or (level ls n) x []) → owned_in of.marks x
+  simplex_marked x b on =
+      let q = (is.sub_index.lists n).whole (get_or (level ls n) x []) on in
+      (of.table.marked x b).1 (among_at (get_or (level ls n) x []) (level sls n) q.0 [] q.1 (q.2 []))
+
+  -- the blanked rows are those of relative cochains
+  pub relative_rows : AllZip (IsRelativeCoboundaryRow p parts (level ls (n + 1))) (map value_in rows) (level ls n)
+  relative_rows =
+      zip_from_index (IsRelativeCoboundaryRow p parts (level ls (n + 1))) (map value_in rows) (level ls n) (length-map rows value_in ∙ rows_count)
+      (λ k d e b. at k d e (let m = length-map rows value_in in omega arith))
+    where
+      at : (k : ℕ) (d : ℕ → ℕ) (e : List ℕ) → k < length rows → IsRelativeCoboundaryRow p parts (level ls (n + 1)) (get_or (map value_in rows) k d) (get_or (level ls n) k e)
+      at k d e b j c =
+          let here = get_or (level ls n) k [] in
+          let inside : k < length (level ls n) = (let w = rows_count in omega arith) in
+          let same : get_or (level ls n) k e ≡ here = get_or_default (level ls n) k e [] inside in
+          let row = get_map value_in rows k d [] b in
+          let P : List ℕ → Type 0 = λ s. Congruent p (get_or (map value_in rows) k d j) (cond (is_covered parts s) 0 (coboundary p (unit_cochain s) (get_or (level ls (n + 1)) j []))) in
+          subst P (sym same) (elim (owned_or_not of.marks k) [
+            | inl o ↦
+                let z : get_or (map value_in rows) k d j ≡ 0 = ap (λ (f : ℕ → ℕ). f j) (row ∙ ap value_in (of.blank.marked k b o)) in
+                let t : is_covered parts here ≡ true = simplex_covered parts n here (marked_simplex k inside o) in
+                Congruent_of (z ∙ sym (ap (λ b. cond b 0 (coboundary p (unit_cochain here) (get_or (level ls (n + 1)) j []))) t))
+            | inr o ↦
+                let z : get_or (map value_in rows) k d j ≡ get_or (map value_in of.given) k d j =
+                ap (λ (f : ℕ → ℕ). f j) (row ∙ ap value_in (of.blank.others k b o) ∙ sym (get_map value_in of.given k d [] (let w = of.blank.whole in omega arith))) in
+                let t : is_covered parts here ≡ false = elim (cases_Bool (is_covered parts here)) [
+                  | inl y ↦ absurd (o (simplex_marked k inside (covered_simplex facets parts n here (here_at k inside) y)))
+                  | inr y ↦ y
+                ] in
+                let g = zip_at (IsCoboundaryRow p (level ls (n + 1))) (map value_in of.given) (level ls n) k d [] of.are (let m = length-map of.given value_in in let w = of.blank.whole in omega arith) j c in
+                Congruent_trans (Congruent_of z) (Congruent_trans g (Congruent_of (sym (ap (λ b. cond b 0 (coboundary p (unit_cochain here) (get_or (level ls (n + 1)) j []))) t))))
+          ])
+
+  pub by_place : IsOuterByPlace p parts (level ls n) (level ls (n + 1)) (combined rows)
+  by_place = rows_by_place p parts (level ls (n + 1)) (level ls n) (map value_in rows) relative_rows
+
+  module _ (whole : length pivots ≡ length (level ls n)) (bounds : AreRelativeBoundPlaces facets parts n p (level ls n) (owned_in pivots)) where
+    pub skipped_places : AreSkippedPlaces facets parts n p (level ls n) (owned_in skip)
+    skipped_places = record {
+      inside = λ x h. (let b = owned_inside skip x h in let w = of.join.whole in omega arith);
+      sound = λ x h.
+          let b : x < length pivots = (let b = owned_inside skip x h in let w = of.join.whole in omega arith) in
+          elim ((of.join.places x b).0 h) [ inl o ↦ inl (bounds.sound x o) | inr o ↦ inr (marked_simplex x (omega arith) o) ];
+      whole = λ x b q. (of.join.places x (omega arith)).1 (inl (bounds.whole x b q));
+      covers = λ x b on. (of.join.places x (omega arith)).1 (inr (simplex_marked x b on));
+      decide = owned_or_not skip;
+    }
+
+    -- what is bound may be skipped, since a relative coboundary starts there, and so may be what is marked, since its row is 0
+    pub skips_fit : SkipsFit p (length (level ls (n + 1))) rows skip
+    skips_fit = record {
+      full = of.join.whole ∙ whole ∙ sym rows_count;
       each = λ x h.
           let here = level ls n in
-          let u = bounds.sound x h in
-          let b = bounds.inside x h in
-          let f = u.vector in
-          record {
-            vector = λ j. f (get_or here j []);
-            starts = record { before = λ j less. u.lead.least (get_or here j []) (simplex_at facets n p here (is.lists n) j (omega arith)) (is.in_order n j x less b) };
-            nonzero = u.lead.nonzero;
-            goes = cocycle_down facets n p here (is.lists n) (level ls (n + 1)) (is.lists (n + 1)) (combined rows) by_place f (bounds_close facets n p field.large f u.member);
-          };
+          let b : x < length pivots = (let b = owned_inside skip x h in let w = of.join.whole in omega arith) in
+          let c : x < length here = omega arith in
+          elim ((of.join.places x b).0 h) [
+            | inl o ↦
+                let u = bounds.sound x o in
+                let f = u.vector in
+                record {
+                  vector = λ j. f (get_or here j []);
+                  starts = record { before = λ j less. u.lead.least (get_or here j []) (here_at j (omega arith)) (is.full_index.in_order n j x less c) };
+                  nonzero = u.lead.nonzero;
+                  goes = cocycle_down facets parts n p is.inside here (is.full_index.lists n) (level ls (n + 1)) (is.full_index.lists (n + 1)) (combined rows) by_place f
+                      (relative_close facets parts n p field.large is.inside f u.member);
+                }
+            | inr o ↦
+                let d : x < length rows = (let w = rows_count in omega arith) in
+                record {
+                  vector = unit_vector x;
+                  starts = record { before = λ j less. Congruent_of (unit_other x j (λ e. absurd (omega arith))) };
+                  nonzero = one-nonzero p (unit_vector x x) field.large (Congruent_of (unit_one p x));
+                  goes = record {
+                    at = λ y on. Congruent_of (row_combination-row (map value_in rows) x y (λ j. 0) (let m = length-map rows value_in in omega arith)
+                        ∙ ap (λ (g : ℕ → ℕ). g y) (get_map value_in rows x (λ j. 0) [] d ∙ ap value_in (of.blank.marked x d o)));
+                  };
+                }
+          ];
     }
 
     module _ (solutions : List (List (ℕ × ℕ))) (owner : List ℕ) (solved : IsSolved p (length (level ls (n + 1))) rows skip solutions owner) where
       walked_here : Walked p (length (level ls n)) (length (level ls (n + 1))) (combined rows) (owned_in skip) 0 solved.kernel solved.images
       walked_here = subst (λ m. Walked p m (length (level ls (n + 1))) (combined rows) (owned_in skip) 0 solved.kernel solved.images) rows_count solved.walked
 
-      pub next_bounds : AreBoundPlaces facets (n + 1) p (level ls (n + 1)) (owned_in owner)
+      pub next_bounds : AreRelativeBoundPlaces facets parts (n + 1) p (level ls (n + 1)) (owned_in owner)
       next_bounds =
-          let b = bound_places facets n p field (level ls n) (is.lists n) (level ls (n + 1)) (is.lists (n + 1)) (is.in_order (n + 1)) (combined rows) by_place (owned_in skip) solved.kernel solved.images walked_here in
+          let b = bound_places facets parts n p field is.inside (level ls n) (is.full_index.lists n) (level ls (n + 1)) (is.full_index.lists (n + 1)) (is.full_index.in_order (n + 1)) (combined rows) by_place (owned_in skip) solved.kernel solved.images walked_here in
           record {
             inside = λ x h. let c = owned_inside owner x h in let e = solved.full in omega arith;
             sound = λ x h. b.sound x ((solved.owned x (let c = owned_inside owner x h in let e = solved.full in omega arith)).0 h);
@@ -96,7 +178,8 @@ module _ (facets : List (List ℕ)) (ls : List (List (List ℕ))) (is : IsIndexO
         rows_of ks vs h.1 r.1 b.1,
       )
 
-      pub degree_basis : IsCanonicalBasis facets n p (map (terms_of (level ls n)) solutions)
+      pub degree_basis : IsCanonicalRelativeBasis facets parts n p (map (terms_of (level ls n)) solutions)
       degree_basis =
-          canonical_basis facets n p field (level ls n) (is.lists n) (is.in_order n) (level ls (n + 1)) (is.lists (n + 1)) (combined rows) by_place (owned_in skip) bounds solved.kernel solved.images walked_here solutions
+          canonical_basis facets parts n p field is.inside (level ls n) (is.full_index.lists n) (is.full_index.in_order n) (level ls (n + 1)) (is.full_index.lists (n + 1)) (combined rows) by_place (owned_in skip) skipped_places
+          solved.kernel solved.images walked_here solutions
           (rows_of solved.kernel solutions solved.vectors solved.rows_are solved.inside)

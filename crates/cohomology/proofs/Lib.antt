@@ -1,6 +1,12 @@
+pub mod PairLemmas
 pub mod DegreeLemmas
+pub mod WalkLemmas
+pub mod RowLemmas
 pub mod ClassLemmas
-pub mod BoundLemmas
-pub mod DataLemmas
-pub mod CoordinateLemmas
+pub mod LoopLemmas
+pub mod ValueLemmas
 pub mod CycleLemmas
+pub mod CoboundaryLemmas
+pub mod CoordinateLemmas
+pub mod BasisLemmas
+pub mod PartLemmas

@@ -1,14 +1,21 @@
--- Cochains by degree, as rows by place, and the classes of a complex.
-use Rattle.std.specs.Prelude.{◌≡◌, ℕ, ◌+◌, ◌^◌, ◌<◌, suc, List, [], ◌∷◌, map, length, Vec}
+-- Cochains by degree, as rows by place, and the classes of a complex and of a pair.
+use Rattle.std.specs.Prelude.{◌≡◌, ℕ, ◌+◌, ◌^◌, ◌<◌, zero, suc, List, [], ◌∷◌, map, length, Vec}
 use Rattle.std.specs.declared.alloc.Global.{Global}
 use Rattle.linear_law.specs.Lists.{Each}
 use Rattle.simplicial_law.specs.Cochains.{Chain, Cochain as SimplexCochain}
 use Rattle.simplicial_law.specs.CanonicalClasses.{IsCanonicalBasis, cochain_of}
-use Rattle.simplicial_law.specs.Places.{AreBoundPlaces, terms_of}
-use Rattle.sparse_rows.specs.Rows.{IsBelow}
+use Rattle.simplicial_law.specs.Places.{terms_of}
+use Rattle.sparse_rows.specs.Rows.{IsBelow, IsRow}
 use Rattle.complex_index.specs.declared.indexed.Cochain.{Cochain}
 use Rattle.complex_index.specs.Levels.{IsIndexOf, level}
+use Rattle.row_reduce.specs.declared.Stored.{Stored}
+use Rattle.row_reduce.specs.Triangular.{AreTriangular, stored_row}
 use Rattle.row_reduce.specs.Walk.{owned_in}
+use Rattle.relative_law.specs.Pairs.{IsRelativeCoboundary}
+use Rattle.relative_law.specs.RelativeClasses.{IsCanonicalRelativeBasis}
+use Rattle.relative_law.specs.RelativeElimination.{AreRelativeBoundPlaces}
+use Rattle.simplicial_law.specs.Places.{cochain_at}
+use Rattle.cohomology.specs.Pairs.{IsPairIndexOf}
 
 -- the cochain of degree n with this row
 abbrev pub cochain_in : List (List (List ℕ)) → ℕ → List (ℕ × ℕ) → SimplexCochain
@@ -27,25 +34,56 @@ chains_from levels n (v ∷ vs) = chains_at (level levels n) v.items ∷ chains_
 abbrev pub chains_of : {p : ℕ} → List (List (List ℕ)) → List (Vec (Cochain p) Global) → List (List Chain)
 chains_of levels degrees = chains_from levels 0 degrees
 
--- cochains of degree n, whose places are those of simplices of this degree
-abbrev pub ArePlaced : {p : ℕ} → List (List (List ℕ)) → ℕ → List (Cochain p) → Type 0
-ArePlaced levels n classes = Each (λ c. (c.degree ≡ n) × IsBelow (length (level levels n)) c.row) classes
+-- a cochain of degree n: a row, at places of simplices of this degree
+pub record IsPlaced (p : ℕ) (levels : List (List (List ℕ))) (n : ℕ) (c : Cochain p) : Type 0 where
+  pub degree : c.degree ≡ n
+  pub row_is : IsRow p c.row
+  pub inside : IsBelow (length (level levels n)) c.row
+
+-- what holds of the data of each degree, from n on
+abbrev pub EachFrom : {D : Type 0} → (ℕ → D → Type 0) → ℕ → List D → Type 0
+EachFrom P n [] = Unit {0}
+EachFrom P n (d ∷ ds) = P n d × EachFrom P (suc n) ds
+
+-- cochains of each degree, from n on
+abbrev pub ArePlacedFrom : (p : ℕ) → List (List (List ℕ)) → ℕ → List (Vec (Cochain p) Global) → Type 0
+ArePlacedFrom p levels n vs = EachFrom (λ m (v : Vec (Cochain p) Global). Each (IsPlaced p levels m) v.items) n vs
+
+-- the canonical classes of degree n of each complex with these levels
+pub record AreCanonicalIn (p : ℕ) (levels : List (List (List ℕ))) (n : ℕ) (classes : List (Cochain p)) : Type 0 where
+  pub placed : Each (IsPlaced p levels n) classes
+  pub basis : (facets : List (List ℕ)) → IsIndexOf facets levels → IsCanonicalBasis facets n p (chains_at (level levels n) classes)
+
+-- the canonical relative classes of degree n of each pair with these levels
+pub record AreRelativeIn (p : ℕ) (full sub : List (List (List ℕ))) (n : ℕ) (classes : List (Cochain p)) : Type 0 where
+  pub placed : Each (IsPlaced p full n) classes
+  pub few : length classes < 2 ^ 32
+  pub basis : (facets parts : List (List ℕ)) → IsPairIndexOf facets parts full sub → IsCanonicalRelativeBasis facets parts n p (chains_at (level full n) classes)
 
 -- so in each degree, from n on
-abbrev pub ArePlacedFrom : {p : ℕ} → List (List (List ℕ)) → ℕ → List (Vec (Cochain p) Global) → Type 0
-ArePlacedFrom levels n [] = Unit {0}
-ArePlacedFrom levels n (v ∷ vs) = ArePlaced levels n v.items × ArePlacedFrom levels (suc n) vs
+abbrev pub AreRelativeFrom : (p : ℕ) → List (List (List ℕ)) → List (List (List ℕ)) → ℕ → List (Vec (Cochain p) Global) → Type 0
+AreRelativeFrom p full sub n vs = EachFrom (λ m (v : Vec (Cochain p) Global). AreRelativeIn p full sub m v.items) n vs
 
--- The table has a number for each simplex of degree n, which is not 0 exactly at the pivots of the coboundaries.
-pub record IsBoundTable (p : ℕ) (levels : List (List (List ℕ))) (n : ℕ) (bound : List ℕ) : Type 0 where
-  pub few : length (level levels n) < 2 ^ 32
-  pub full : length bound ≡ length (level levels n)
-  pub places : (facets : List (List ℕ)) → IsIndexOf facets levels → AreBoundPlaces facets n p (level levels n) (owned_in bound)
+-- what the data of degree n have of something, none past the last degree
+abbrev pub in_degree : {D X : Type 0} → (D → List X) → List D → ℕ → List X
+in_degree f [] n = []
+in_degree f (d ∷ ds) zero = f d
+in_degree f (d ∷ ds) (suc n) = in_degree f ds n
 
--- Classes of degree n, and a table of the bound places one degree up: for every complex with these levels
--- the classes are its canonical classes, and a place is bound where a coboundary has its pivot there.
-pub record AreClassesOf (p : ℕ) (levels : List (List (List ℕ))) (n : ℕ) (classes : List (Cochain p)) (bound : List ℕ) : Type 0 where
-  pub placed : ArePlaced levels n classes
-  pub few : length classes < 2 ^ 32
-  pub basis : (facets : List (List ℕ)) → IsIndexOf facets levels → IsCanonicalBasis facets n p (chains_at (level levels n) classes)
-  pub next : IsBoundTable p levels (n + 1) bound
+-- ---- what a walk keeps
+
+-- The table has a number for each simplex of degree n, which is not 0 exactly at the pivots of the relative coboundaries.
+pub record IsPivotTable (p : ℕ) (full sub : List (List (List ℕ))) (n : ℕ) (pivots : List ℕ) : Type 0 where
+  pub few : length (level full n) < 2 ^ 32
+  pub whole : length pivots ≡ length (level full n)
+  pub places : (facets parts : List (List ℕ)) → IsPairIndexOf facets parts full sub → AreRelativeBoundPlaces facets parts n p (level full n) (owned_in pivots)
+
+-- triangular rows of relative coboundaries of degree n, one for each pivot, which the table names
+pub record AreStoredBounds (p : ℕ) (full sub : List (List (List ℕ))) (n : ℕ) (stored : List (Stored p)) (pivots : List ℕ) : Type 0 where
+  pub triangular : AreTriangular p (length (level full n)) stored pivots
+  pub members : (facets parts : List (List ℕ)) → IsPairIndexOf facets parts full sub → Each (λ (s : Stored p). IsRelativeCoboundary facets parts n p (cochain_at (level full n) (stored_row s))) stored
+
+-- what the walks below degree n tell of its coboundaries
+pub record IsReachedIn (p : ℕ) (full sub : List (List (List ℕ))) (n : ℕ) (pivots : List ℕ) (stored : List (Stored p)) : Type 0 where
+  pub table : IsPivotTable p full sub n pivots
+  pub bounds : AreStoredBounds p full sub n stored pivots

@@ -1,75 +1,87 @@
--- The canonical data of a complex by degree: classes, coboundaries and primitives, as rows by place.
-use Rattle.std.specs.Prelude.{◌≡◌, ℕ, ◌+◌, ◌-◌, ◌^◌, ◌<◌, zero, suc, List, [], ◌∷◌, map, length, get_or}
+-- The canonical data of a complex and of a pair by degree: classes, coboundaries and primitives, as rows by place.
+use Rattle.std.specs.Prelude.{◌≡◌, ℕ, ◌+◌, ◌-◌, ◌^◌, ◌<◌, List, [], map, length, get_or, Vec}
+use Rattle.std.specs.declared.alloc.Global.{Global}
 use Rattle.linear_law.specs.Lists.{Among, Each, IsAscending}
 use Rattle.simplicial_law.specs.Canonical.{IsCanonicalCoboundary, IsCanonicalPrimitive, IsCoboundaryPivot}
-use Rattle.simplicial_law.specs.CanonicalClasses.{IsCanonicalBasis}
-use Rattle.sparse_rows.specs.Rows.{IsBelow}
-use Rattle.complex_index.specs.declared.indexed.Cochain.{Cochain}
 use Rattle.complex_index.specs.Levels.{IsIndexOf, level}
 use Rattle.row_reduce.specs.declared.EchelonRow.{EchelonRow}
-use Rattle.cohomology.specs.declared.data.Bound.{Bound}
-use Rattle.cohomology.specs.declared.data.DegreeData.{DegreeData}
-use Rattle.cohomology.specs.Classes.{ArePlaced, chains_at, cochain_in}
+use Rattle.relative_law.specs.RelativeClasses.{IsCanonicalRelativeCoboundary, IsCanonicalRelativePrimitive, IsRelativeCoboundaryPivot}
+use Rattle.cohomology.specs.declared.classes.DegreeClasses.{DegreeClasses}
+use Rattle.cohomology.specs.declared.data.Coboundary.{Coboundary}
+use Rattle.cohomology.specs.Pairs.{IsPairIndexOf}
+use Rattle.cohomology.specs.Classes.{IsPlaced, cochain_in, in_degree}
+use Rattle.cohomology.specs.Cycles.{AreClassesOf, AreClassesOfPair, classes_in}
 
 -- the simplex at which the coboundary has its pivot
-abbrev pub pivot_in : {p : ℕ} → List (List ℕ) → Bound p → List ℕ
+abbrev pub pivot_in : {p : ℕ} → List (List ℕ) → Coboundary p → List ℕ
 pivot_in here b = get_or here b.pivot []
 
 -- b is the canonical coboundary of degree n at its pivot, with its canonical primitive
-pub record IsBoundOf (facets : List (List ℕ)) (p : ℕ) (levels : List (List (List ℕ))) (n : ℕ) (b : Bound p) : Type 0 where
-  pub coboundary : IsCanonicalCoboundary facets n p (pivot_in (level levels n) b) (cochain_in levels n b.bound.row)
-  pub primitive : IsCanonicalPrimitive facets (n - 1) p (cochain_in levels n b.bound.row) (cochain_in levels (n - 1) b.below.row)
+pub record IsCoboundaryOf (facets : List (List ℕ)) (p : ℕ) (levels : List (List (List ℕ))) (n : ℕ) (b : Coboundary p) : Type 0 where
+  pub coboundary : IsCanonicalCoboundary facets n p (pivot_in (level levels n) b) (cochain_in levels n b.cochain.row)
+  pub primitive : IsCanonicalPrimitive facets (n - 1) p (cochain_in levels n b.cochain.row) (cochain_in levels (n - 1) b.primitive.row)
 
--- a coboundary of degree n and a primitive of degree n - 1, each at places of simplices of its degree
-pub record IsPlacedBound (p : ℕ) (levels : List (List (List ℕ))) (n : ℕ) (b : Bound p) : Type 0 where
+-- the same with relative cochains
+pub record IsRelativeCoboundaryOf (facets parts : List (List ℕ)) (p : ℕ) (full : List (List (List ℕ))) (n : ℕ) (b : Coboundary p) : Type 0 where
+  pub coboundary : IsCanonicalRelativeCoboundary facets parts n p (pivot_in (level full n) b) (cochain_in full n b.cochain.row)
+  pub primitive : IsCanonicalRelativePrimitive facets parts (n - 1) p (cochain_in full n b.cochain.row) (cochain_in full (n - 1) b.primitive.row)
+
+-- a coboundary of degree n and a primitive one degree below, with a pivot in range
+pub record IsPlacedCoboundary (p : ℕ) (levels : List (List (List ℕ))) (n : ℕ) (b : Coboundary p) : Type 0 where
   pub pivot : b.pivot < length (level levels n)
-  pub degree : b.bound.degree ≡ n
-  pub degree_below : b.below.degree ≡ n - 1
-  pub places : IsBelow (length (level levels n)) b.bound.row
-  pub places_below : IsBelow (length (level levels (n - 1))) b.below.row
+  pub cochain : IsPlaced p levels n b.cochain
+  pub primitive : IsPlaced p levels (n - 1) b.primitive
 
--- These are the canonical coboundaries of degree n of each complex with these levels: one for each
--- pivot of the coboundaries, in order.
-pub record AreBounds (p : ℕ) (levels : List (List (List ℕ))) (n : ℕ) (bounds : List (Bound p)) : Type 0 where
-  pub placed : Each (IsPlacedBound p levels n) bounds
-  pub ascends : IsAscending (map (λ b. b.pivot) bounds)
-  pub each : (facets : List (List ℕ)) → IsIndexOf facets levels → Each (IsBoundOf facets p levels n) bounds
-  pub all : (facets : List (List ℕ)) (s : List ℕ) → IsIndexOf facets levels → IsCoboundaryPivot facets n p s → Among s (map (pivot_in (level levels n)) bounds)
+-- coboundaries and primitives of degrees n and n - 1, in the order of their pivots
+pub record ArePlacedCoboundaries (p : ℕ) (levels : List (List (List ℕ))) (n : ℕ) (coboundaries : List (Coboundary p)) : Type 0 where
+  pub each : Each (IsPlacedCoboundary p levels n) coboundaries
+  pub ascends : IsAscending (map (λ b. b.pivot) coboundaries)
 
--- the classes and the coboundaries are the canonical data of degree n
-pub record AreDegreeData (p : ℕ) (levels : List (List (List ℕ))) (n : ℕ) (classes : List (Cochain p)) (bounds : List (Bound p)) : Type 0 where
-  pub placed : ArePlaced levels n classes
-  pub basis : (facets : List (List ℕ)) → IsIndexOf facets levels → IsCanonicalBasis facets n p (chains_at (level levels n) classes)
-  pub coboundaries : AreBounds p levels n bounds
+-- These are the canonical coboundaries of degree n of each complex with these levels: one for each pivot of the coboundaries, in order.
+pub record AreCoboundaries (p : ℕ) (levels : List (List (List ℕ))) (n : ℕ) (coboundaries : List (Coboundary p)) : Type 0 where
+  pub placed : ArePlacedCoboundaries p levels n coboundaries
+  pub each : (facets : List (List ℕ)) → IsIndexOf facets levels → Each (IsCoboundaryOf facets p levels n) coboundaries
+  pub all : (facets : List (List ℕ)) (s : List ℕ) → IsIndexOf facets levels → IsCoboundaryPivot facets n p s → Among s (map (pivot_in (level levels n)) coboundaries)
 
--- what the data of degree n have of something, none past the dimension
-abbrev pub in_degree : {p : ℕ} {X : Type 0} → (DegreeData p → List X) → List (DegreeData p) → ℕ → List X
-in_degree f [] n = []
-in_degree f (d ∷ ds) zero = f d
-in_degree f (d ∷ ds) (suc n) = in_degree f ds n
+-- the same for each pair with these levels
+pub record AreRelativeCoboundaries (p : ℕ) (full sub : List (List (List ℕ))) (n : ℕ) (coboundaries : List (Coboundary p)) : Type 0 where
+  pub placed : ArePlacedCoboundaries p full n coboundaries
+  pub each : (facets parts : List (List ℕ)) → IsPairIndexOf facets parts full sub → Each (IsRelativeCoboundaryOf facets parts p full n) coboundaries
+  pub all : (facets parts : List (List ℕ)) (s : List ℕ) → IsPairIndexOf facets parts full sub → IsRelativeCoboundaryPivot facets parts n p s → Among s (map (pivot_in (level full n)) coboundaries)
 
--- the classes of degree n, and the coboundaries
-abbrev pub classes_in : {p : ℕ} → List (DegreeData p) → ℕ → List (Cochain p)
-classes_in degrees n = in_degree (λ d. d.classes.items) degrees n
+-- what a complex or a pair has of canonical data, by degree
+pub record CohomologyData (p : ℕ) : Type 0 where
+  pub light : List (DegreeClasses p)
+  pub bounds : List (Vec (Coboundary p) Global)
 
-abbrev pub bounds_in : {p : ℕ} → List (DegreeData p) → ℕ → List (Bound p)
-bounds_in degrees n = in_degree (λ d. d.bounds.items) degrees n
+-- the coboundaries of degree n, none past the dimension
+abbrev pub bounds_in : {p : ℕ} → List (Vec (Coboundary p) Global) → ℕ → List (Coboundary p)
+bounds_in bounds n = in_degree (λ v. v.items) bounds n
 
--- These are the canonical data of the complex in each degree; past the dimension there are none.
-pub record IsCohomologyOf (p : ℕ) (levels : List (List (List ℕ))) (degrees : List (DegreeData p)) : Type 0 where
-  pub each : (n : ℕ) → AreDegreeData p levels n (classes_in degrees n) (bounds_in degrees n)
+abbrev pub coboundaries_in : {p : ℕ} → CohomologyData p → ℕ → List (Coboundary p)
+coboundaries_in d n = bounds_in d.bounds n
+
+-- these are the canonical data of the pair in each degree; past the dimension there are none
+pub record IsCohomologyOfPair (p : ℕ) (full sub : List (List (List ℕ))) (d : CohomologyData p) : Type 0 where
+  pub classes : AreClassesOfPair p full sub d.light
+  pub coboundaries : (n : ℕ) → AreRelativeCoboundaries p full sub n (coboundaries_in d n)
+
+-- these are the canonical data of the complex in each degree, which are those of the pair with no subcomplex
+pub record IsCohomologyOf (p : ℕ) (levels : List (List (List ℕ))) (d : CohomologyData p) : Type 0 where
+  pub classes : AreClassesOf p levels d.light
+  pub coboundaries : (n : ℕ) → AreCoboundaries p levels n (coboundaries_in d n)
+  pub pair : IsCohomologyOfPair p levels [] d
+
+-- the coboundaries of each degree can be counted in 32 bits
+pub record AreFewCoboundaries {p : ℕ} (bounds : List (Vec (Coboundary p) Global)) : Type 0 where
+  pub each : (n : ℕ) → length (bounds_in bounds n) < 2 ^ 32
 
 -- ---- what the code makes
 
 -- the coboundary of degree n + 1 of an echelon row of the coboundary rows of degree n
-pub record IsBoundFrom {p : ℕ} (n : ℕ) (e : EchelonRow p) (b : Bound p) : Type 0 where
+pub record IsCoboundaryFrom {p : ℕ} (n : ℕ) (e : EchelonRow p) (b : Coboundary p) : Type 0 where
   pub pivot : b.pivot ≡ e.pivot
-  pub row : b.bound.row ≡ e.row
-  pub degree : b.bound.degree ≡ n + 1
-  pub row_below : b.below.row ≡ e.combination
-  pub degree_below : b.below.degree ≡ n
-
--- the classes and the coboundaries of each degree can be counted in 32 bits
-pub record AreFew {p : ℕ} (degrees : List (DegreeData p)) : Type 0 where
-  pub classes : (n : ℕ) → length (classes_in degrees n) < 2 ^ 32
-  pub bounds : (n : ℕ) → length (bounds_in degrees n) < 2 ^ 32
+  pub row : b.cochain.row ≡ e.row
+  pub degree : b.cochain.degree ≡ n + 1
+  pub row_below : b.primitive.row ≡ e.combination
+  pub degree_below : b.primitive.degree ≡ n

@@ -1,6 +1,8 @@
+pub mod Pairs
 pub mod Classes
-pub mod Data
-pub mod Coordinates
-pub mod Clearing
 pub mod Cycles
-pub mod Refused
+pub mod Values
+pub mod Data
+pub mod Walk
+pub mod Coordinates
+pub mod Basis

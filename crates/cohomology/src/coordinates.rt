@@ -1,14 +1,15 @@
-ghost use Rattle.std.specs.Prelude.{◌≡◌, ◌==◌, ℕ, ◌+◌, ◌*◌, ◌-◌, ◌≤◌, ◌<◌, [], length, IfOk, IsTrue, MatchOption, MatchResult, OnOk};
-ghost use Rattle.std.specs.List.{AllZip, list_all};
-ghost use Rattle.linear_law.specs.Congruence.{Congruent, negated};
+ghost use Rattle.std.specs.Prelude.{◌≡◌, ◌==◌, ℕ, ◌+◌, ◌-◌, ◌≤◌, ◌<◌, List, length, IfOk, IsTrue, MatchOption, MatchResult};
+ghost use Rattle.std.specs.List.{list_all};
+ghost use Rattle.linear_law.specs.Congruence.{Congruent};
 ghost use Rattle.fp_field.specs.Served.{served};
-ghost use Rattle.sparse_rows.specs.Rows.{IsBelow, value_in};
+ghost use Rattle.sparse_rows.specs.Rows.{IsBelow, IsRow, value_in};
 ghost use Rattle.complex_index.specs.Levels.{level};
 ghost use Rattle.cohomology.specs.Classes.{cochain_in};
-ghost use Rattle.cohomology.specs.Clearing.{IsCleared, IsValueAtLead, bounds_sum, primitives_sum};
-ghost use Rattle.cohomology.specs.Coordinates.{AreCoordinates, IsNoCoboundary, IsOpenAt, IsPrimitiveOf, coboundary_at};
+ghost use Rattle.cohomology.specs.Coordinates.{AreCoordinates, AreRelativeCoordinates, IsNoCoboundary, IsOpenAt, IsPrimitiveOf, IsRelativeIn, RefusesCoordinates, coboundary_at, primitives_sum};
+ghost use Rattle.cohomology.specs.Cycles.{classes_in};
+ghost use Rattle.cohomology.specs.Data.{IsCohomologyOf, IsCohomologyOfPair};
 
-use crate::data::{Bound, Cohomology};
+use crate::data::{Coboundary, Cohomology};
 use complex_index::{Cochain, Indexed};
 use fp_field::Fp;
 use sparse_rows::Row;
@@ -32,67 +33,21 @@ fn open_at<const P: u32>(
     }
 }
 
-/// The value of a cochain at the least place of a class.
-fn value_at_lead<const P: u32>(rest: &Row<P>, class: &Cochain<P>) -> Fp<P>
-    requires { IsTrue (served P) }
-    ensures { IsValueAtLead P rest.now class.now.row result }
-{
-    match class.row.as_slice() {
-        [first, ..] => Fp::new(u64::from(rest.at(first.0).value())),
-        [] => Fp::new(0),
-    }
-}
-
-/// The values of a cochain at the least places of the classes.
-fn values_at_leads<const P: u32>(
+/// The sum of the primitives of the coboundaries, each times the value of the given row at its pivot.
+fn primitives<const P: u32>(
     alloc: Global,
-    rest: &Row<P>,
-    classes: &[Cochain<P>],
-) -> Result<Vec<Fp<P>>, AllocError>
-    requires { IsTrue (served P) }
-    ensures { IfOk result (λ v. AllZip (λ c w. IsValueAtLead P rest.now c.row w) classes.now v.items) }
-{
-    let mut values = Vec::new(alloc);
-    for class in classes {
-        values.push(value_at_lead(rest, class))?;
-    }
-    Ok(values)
-}
-
-/// Takes from `rest` a coboundary times the value of the given row at its pivot, and adds the same
-/// multiple of its primitive.
-fn take_bound<const P: u32>(
+    coboundaries: &[Coboundary<P>],
     given: &Row<P>,
-    bound: &Bound<P>,
-    rest: &mut Row<P>,
-    primitive: &mut Row<P>,
-) -> Result<(), AllocError>
+) -> Result<Row<P>, AllocError>
     requires { IsTrue (served P) }
-    ensures rest { OnOk result ((x : ℕ) → Congruent P (value_in rest.new x) (value_in rest.old x + negated P (value_in given.now bound.now.pivot * value_in bound.now.bound.row x))) }
-    ensures primitive { OnOk result ((x : ℕ) → Congruent P (value_in primitive.new x) (value_in primitive.old x + value_in given.now bound.now.pivot * value_in bound.now.below.row x)) }
+    ensures sum { IfOk result (λ r. (x : ℕ) → Congruent P (value_in r x) (primitives_sum coboundaries.now given.now x)) }
+    ensures row { IfOk result (λ r. IsRow P r) }
 {
-    let by = given.at(bound.pivot);
-    rest.add_scaled(&bound.bound.row, by.neg())?;
-    primitive.add_scaled(&bound.below.row, by)?;
-    Ok(())
-}
-
-/// Takes from `rest` all coboundaries, each times the value of the given row at its pivot, and adds the
-/// same multiples of their primitives.
-fn take_bounds<const P: u32>(
-    given: &Row<P>,
-    bounds: &[Bound<P>],
-    rest: &mut Row<P>,
-    primitive: &mut Row<P>,
-) -> Result<(), AllocError>
-    requires { IsTrue (served P) }
-    ensures rest { OnOk result ((x : ℕ) → Congruent P (value_in rest.new x) (value_in rest.old x + negated P (bounds_sum bounds.now given.now x))) }
-    ensures primitive { OnOk result ((x : ℕ) → Congruent P (value_in primitive.new x) (value_in primitive.old x + primitives_sum bounds.now given.now x)) }
-{
-    for bound in bounds {
-        take_bound(given, bound, rest, primitive)?;
+    let mut sum = Row::new(alloc);
+    for coboundary in coboundaries {
+        sum.add_scaled(&coboundary.primitive.row, given.at(coboundary.pivot))?;
     }
-    Ok(())
+    Ok(sum)
 }
 
 /// The coordinates of a cocycle for the canonical classes, and the canonical primitive of what is left
@@ -114,8 +69,6 @@ pub enum CoordinatesRefused {
 }
 
 ghost use Rattle.cohomology.specs.declared.coordinates.CoordinatesRefused.TheVariants.{OutOfMemory};
-ghost use Rattle.cohomology.specs.Data.{IsCohomologyOf, classes_in};
-ghost use Rattle.cohomology.specs.Refused.{RefusesCoordinates};
 
 impl From<AllocError> for CoordinatesRefused {
     ghost from_gives = { λ _ e. e ≡ OutOfMemory };
@@ -123,32 +76,6 @@ impl From<AllocError> for CoordinatesRefused {
     fn from(_: AllocError) -> Self {
         CoordinatesRefused::OutOfMemory
     }
-}
-
-/// The coordinates of a cocycle, from the data of its degree.
-fn cleared<const P: u32>(
-    alloc: Global,
-    classes: &[Cochain<P>],
-    bounds: &[Bound<P>],
-    cochain: &Cochain<P>,
-) -> Result<Coordinates<P>, AllocError>
-    requires { IsTrue (served P) }
-    ensures made { IfOk result (λ c. IsCleared P classes.now bounds.now cochain.now.row c.values.items c.primitive.row) }
-    ensures degree { IfOk result (λ c. c.primitive.degree ≡ cochain.now.degree - 1) }
-{
-    let mut rest = cochain.row.copy()?;
-    let mut primitive = Row::new(alloc);
-    take_bounds(&cochain.row, bounds, &mut rest, &mut primitive)?;
-    let values = values_at_leads(alloc, &rest, classes)?;
-    // The slice shows that the primitive is a row: a pair stands only where its value is not 0.
-    let _ = primitive.as_slice();
-    Ok(Coordinates {
-        values,
-        primitive: Cochain {
-            degree: cochain.degree.saturating_sub(1),
-            row: primitive,
-        },
-    })
 }
 
 /// Whether all values are 0.
@@ -163,6 +90,25 @@ fn are_zero<const P: u32>(values: &[Fp<P>]) -> bool
 }
 
 impl<const P: u32> Cohomology<P> {
+    /// The coordinates of a cochain that is a relative cocycle of the complex or pair that the data were made from,
+    /// with the canonical primitive of the rest: what is left without the classes. It is not looked at whether the cochain is one.
+    pub fn relative_coordinates(
+        &self,
+        alloc: Global,
+        cocycle: &Cochain<P>,
+    ) -> Result<Coordinates<P>, AllocError>
+        requires { IsTrue (served P) }
+        ensures { IfOk result (λ c. (full sub : List (List (List ℕ))) → IsCohomologyOfPair P full sub self.now → IsRelativeIn P full sub cocycle.now → AreRelativeCoordinates P full sub (classes_in self.now.light cocycle.now.degree) cocycle.now c.values.items c.primitive) }
+    {
+        Ok(Coordinates {
+            values: self.light().values(alloc, cocycle)?,
+            primitive: Cochain {
+                degree: cocycle.degree.saturating_sub(1),
+                row: primitives(alloc, self.coboundaries_in(cocycle.degree), &cocycle.row)?,
+            },
+        })
+    }
+
     /// The coordinates of a cocycle for the canonical classes of its degree, with the canonical primitive
     /// of the rest: what is left without the classes. `NotClosed` comes exactly where the coboundary is not
     /// zero, with the least simplex where it is not and its value there. The index is the one that the data
@@ -178,20 +124,16 @@ impl<const P: u32> Cohomology<P> {
         requires data { IsCohomologyOf P index.now self.now }
         requires low { cochain.now.degree ≤ 255 }
         requires inside { IsBelow (length (level index.now cochain.now.degree)) cochain.now.row }
-        ensures { MatchResult result (λ c. AreCoordinates P index.now (classes_in self.now cochain.now.degree) cochain.now c.values.items c.primitive) (RefusesCoordinates index.now cochain.now) }
+        ensures { MatchResult result (λ c. AreCoordinates P index.now (classes_in self.now.light cochain.now.degree) cochain.now c.values.items c.primitive) (RefusesCoordinates index.now cochain.now) }
     {
         match open_at(alloc, index, cochain)? {
             Some((place, value)) => Err(CoordinatesRefused::NotClosed { place, value }),
-            None => {
-                let classes = self.classes_in(cochain.degree);
-                let bounds = self.bounds_in(cochain.degree);
-                Ok(cleared(alloc, classes, bounds, cochain)?)
-            }
+            None => Ok(self.relative_coordinates(alloc, cochain)?),
         }
     }
 
     /// The canonical primitive of a coboundary: the one cochain below with this coboundary that vanishes at
-    /// the pivots of the cocycles. `None` comes exactly where the cochain is no coboundary. In degree 0 the
+    /// the pivots of the cocycles below. `None` exactly where the cochain is no coboundary. In degree 0 the
     /// one coboundary is zero, and its primitive is zero, of degree 0. The index is the one that the data
     /// were made from. The primitive has its places in range of its degree.
     pub fn primitive(

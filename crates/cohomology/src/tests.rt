@@ -1,28 +1,48 @@
-ghost use Rattle.std.specs.Prelude.{◌≡◌, IfOk};
+ghost use Rattle.std.specs.Prelude.{◌≡◌, [], ◌∷◌, IfOk};
 ghost use Rattle.sparse_rows.specs.Rows.{IsBelow};
+ghost use Rattle.complex_index.specs.Levels.{IsIndexOf};
 
-use crate::{Cohomology, CoordinatesRefused, classes_of};
+use crate::{Basis, Classes, Cohomology, Column, CoordinatesRefused, classes_of};
 use complex_index::{Cochain, Indexed};
 use fp_field::Fp;
-use simplex_set::Simplex;
+use simplex_set::{Complex, Simplex};
 use sparse_rows::Row;
 use std::alloc::{AllocError, Global};
 use std::test::Fail;
 
-// The boundary of a triangle.
-fn circle(alloc: Global) -> Result<Indexed, AllocError> {
-    let facets = [
-        Simplex::new(alloc, &[0, 1])?,
-        Simplex::new(alloc, &[0, 2])?,
-        Simplex::new(alloc, &[1, 2])?,
-    ];
-    Indexed::of(alloc, &facets)
+// The edges of a triangle.
+fn edges(alloc: Global) -> Result<Complex, AllocError>
+    ensures { IfOk result (λ c. c ≡ (0 ∷ 1 ∷ []) ∷ (0 ∷ 2 ∷ []) ∷ (1 ∷ 2 ∷ []) ∷ []) }
+{
+    let mut facets = Vec::new(alloc);
+    facets.push(Simplex::new(alloc, &[0, 1])?)?;
+    facets.push(Simplex::new(alloc, &[0, 2])?)?;
+    facets.push(Simplex::new(alloc, &[1, 2])?)?;
+    Complex::of(alloc, facets)
 }
 
 // A triangle.
-fn disc(alloc: Global) -> Result<Indexed, AllocError> {
-    let facets = [Simplex::new(alloc, &[0, 1, 2])?];
-    Indexed::of(alloc, &facets)
+fn triangle(alloc: Global) -> Result<Complex, AllocError>
+    ensures { IfOk result (λ c. c ≡ (0 ∷ 1 ∷ 2 ∷ []) ∷ []) }
+{
+    let mut facets = Vec::new(alloc);
+    facets.push(Simplex::new(alloc, &[0, 1, 2])?)?;
+    Complex::of(alloc, facets)
+}
+
+// The boundary of a triangle.
+fn circle(alloc: Global) -> Result<Indexed, AllocError>
+    ensures { IfOk result (λ x. IsIndexOf ((0 ∷ 1 ∷ []) ∷ (0 ∷ 2 ∷ []) ∷ (1 ∷ 2 ∷ []) ∷ []) x) }
+{
+    let complex = edges(alloc)?;
+    Indexed::of(alloc, &complex)
+}
+
+fn disc(alloc: Global) -> Result<Indexed, AllocError>
+    ensures { IfOk result (λ x. IsIndexOf ((0 ∷ 1 ∷ 2 ∷ []) ∷ []) x) }
+{
+    let complex = triangle(alloc)?;
+    Indexed::of(alloc, &complex)
 }
 
 // The cochain with these values at the edges 0.1, 0.2 and 1.2.
@@ -54,9 +74,6 @@ fn the_data_of_a_circle(rt: HostRuntime) -> Result<(), Fail> {
     assert!(rt; data.bounds(1) == 2);
     let one = Fp::new(1);
     assert_eq!(rt; data.class(1, 1).row.as_slice(), [(2, one)].as_slice());
-    let cycle = data.cycle(rt.alloc(), 1, 1)?;
-    let way_around = [(0, one), (1, Fp::new(2)), (2, one)];
-    assert_eq!(rt; cycle.row.as_slice(), way_around.as_slice());
     for t in 0..2u32 {
         assert_eq!(rt; data.bound(1, t).row.at(2).value(), 2 - t);
         assert_eq!(rt; data.below(1, t).row.as_slice(), [(t + 1, one)].as_slice());
@@ -98,5 +115,48 @@ fn coordinates_and_primitives(rt: HostRuntime) -> Result<(), Fail> {
         return Ok(());
     };
     assert_eq!(rt; below.row.as_slice(), [(2, one)].as_slice());
+    Ok(())
+}
+
+// The class and the cycle of the circle in degree 1, and the column of its first edge.
+fn around<B: Basis<3>>(rt: &HostRuntime, basis: &B, edge: &Cochain<3>) -> Result<Column<3>, Fail> {
+    let one = Fp::new(1);
+    assert!(rt; basis.rank(1) == 1);
+    assert_eq!(rt; basis.class(1, 1).row.as_slice(), [(2, one)].as_slice());
+    let cycle = basis.cycle(rt.alloc(), 1, 1)?;
+    let way_around = [(0, one), (1, Fp::new(2)), (2, one)];
+    assert_eq!(rt; cycle.row.as_slice(), way_around.as_slice());
+    let column = basis.column(rt.alloc(), edge)?;
+    assert_eq!(rt; column.values.as_slice(), [one].as_slice());
+    Ok(column)
+}
+
+// Both depths tell the same, and the full one has the primitive, which is vertex 1.
+#[test]
+fn the_depths_of_a_circle(rt: HostRuntime) -> Result<(), Fail> {
+    let circle = circle(rt.alloc())?;
+    let edge = on_edges(rt.alloc(), [1, 0, 0])?;
+    let light = Classes::<3>::of(rt.alloc(), &circle)?;
+    assert!(rt; around(&rt, &light, &edge)?.primitive.is_none());
+    let full = Cohomology::<3>::of(rt.alloc(), &circle)?;
+    let Some(below) = around(&rt, &full, &edge)?.primitive else {
+        assert!(rt; false);
+        return Ok(());
+    };
+    assert_eq!(rt; below.row.as_slice(), [(1, Fp::new(1))].as_slice());
+    Ok(())
+}
+
+// The triangle is the one class of the disc relative to its boundary.
+#[test]
+fn a_disc_and_its_boundary(rt: HostRuntime) -> Result<(), Fail> {
+    let circle = circle(rt.alloc())?;
+    let disc = disc(rt.alloc())?;
+    let pair = Cohomology::<3>::of_pair(rt.alloc(), &disc, &circle)?;
+    assert_eq!(rt; (pair.rank(0), pair.rank(1), pair.bounds(2)), (0, 0, 0));
+    assert!(rt; pair.rank(2) == 1);
+    let class = pair.class(2, 1);
+    let found = pair.relative_coordinates(rt.alloc(), class)?;
+    assert_eq!(rt; found.values.as_slice(), [Fp::new(1)].as_slice());
     Ok(())
 }

@@ -1,10 +1,19 @@
-use Rattle.std.proofs.Common.{◌<◌, ◌^◌, [], ◌∷◌, length, lit<}
-use Rattle.simplicial_law.specs.ListedSimplices.{simplices, with_facet}
+use Rattle.std.proofs.Common.{◌<◌, ◌≤◌, ◌^◌, List, ℕ, length, sym, subst}
+use Rattle.std.proofs.lemmas.Result.{IfOk-weaker}
+use Rattle.linear_law.specs.Lists.{Each, IsAscending}
+use Rattle.simplicial_law.specs.ListedSimplices.{simplices}
+use Rattle.complex_index.specs.Levels.{IsIndexOf}
+use Rattle.cohomology.proofs.PartLemmas.{triangle_ascend, triangle_few, triangle_short}
 use Rattle.cohomology.proofs.tests.disc.Goals as goal
 
-triangle_few : length (simplices ((0 ∷ 1 ∷ 2 ∷ []) ∷ [])) < 2 ^ 32
-unfolding simplices with_facet
-triangle_few = lit< tt
+pub of-requires-clause-ascending : goal.of-requires-clause-ascending
+of-requires-clause-ascending c = subst (Each IsAscending) (sym c.in_ok-complex.ensures) triangle_ascend
+
+pub of-requires-clause-short : goal.of-requires-clause-short
+of-requires-clause-short c = subst (Each (λ (f : List ℕ). length f ≤ 16)) (sym c.in_ok-complex.ensures) triangle_short
 
 pub of-requires-clause-few : goal.of-requires-clause-few
-of-requires-clause-few c = rw c.in_ok-new.ensures triangle_few
+of-requires-clause-few c = subst (λ (fs : List (List ℕ)). length (simplices fs) < 2 ^ 32) (sym c.in_ok-complex.ensures) triangle_few
+
+pub returns : goal.returns
+returns c = IfOk-weaker c.of.result _ _ (λ x is. subst (λ (fs : List (List ℕ)). IsIndexOf fs x) c.in_ok-complex.ensures is) c.of.ensures

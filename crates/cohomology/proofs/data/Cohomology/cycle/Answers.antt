@@ -1,9 +1,18 @@
-use Rattle.std.proofs.Common.{◌-◌, refl}
-use Rattle.fp_field.proofs.ServedLemmas.{served_field}
-use Rattle.cohomology.proofs.CycleLemmas.{cycle_made}
+use Rattle.std.proofs.Common.{◌-◌, List, [], sym, subst}
+use Rattle.std.proofs.lemmas.Result.{IfOk-weaker}
+use Rattle.cohomology.specs.declared.classes.DegreeClasses.{DegreeClasses}
+use Rattle.cohomology.specs.Cycles.{AreClassesOfPair, IsRelativeCycle, classes_in}
+use Rattle.cohomology.proofs.BasisLemmas.{cycle_absolute}
 use Rattle.cohomology.proofs.data.Cohomology.cycle.Goals as goal
 
-pub returns : goal.returns
-returns g c =
-    cycle_made g.row.P (served_field g.row.P c.requires.prime) c.args.self.now c.args.n (c.args.i - 1) c.class.result.now c.bounds_in.result.now (record { degree = c.args.n; row = c.in_ok-row.row }) c.class.ensures
-    c.bounds_in.ensures.value refl c.in_ok-row.ensures
+pub returns-clause-pair : goal.returns-clause-pair
+returns-clause-pair g c =
+    IfOk-weaker c.cycle.result _ _
+    (λ y h full sub whole.
+    subst (λ (ds : List (DegreeClasses g.row.P)). IsRelativeCycle g.row.P full sub c.args.n (classes_in ds c.args.n) (c.args.i - 1) y) c.light.ensures
+    (h full sub (subst (λ (ds : List (DegreeClasses g.row.P)). AreClassesOfPair g.row.P full sub ds) (sym c.light.ensures) whole.classes)))
+    c.cycle.ensures
+
+pub returns-clause-complex : goal.returns-clause-complex
+returns-clause-complex g c =
+    IfOk-weaker c.cycle.result _ _ (λ y h levels whole. cycle_absolute g.row.P levels c.args.n (classes_in c.args.self.now.light c.args.n) (c.args.i - 1) y (h levels [] whole.pair)) (returns-clause-pair g c)

@@ -1,0 +1,19 @@
+use Rattle.std.proofs.Common.{List, ℕ, subst}
+use Rattle.std.proofs.lemmas.Result.{IfOk-weaker}
+use Rattle.linear_law.specs.Congruence.{Congruent}
+use Rattle.fp_field.proofs.ServedLemmas.{served_field}
+use Rattle.sparse_rows.specs.Rows.{value_in}
+use Rattle.row_reduce.specs.Walk.{combined}
+use Rattle.cohomology.specs.Cycles.{IsSpread}
+use Rattle.cohomology.proofs.ValueLemmas.{values_tell}
+use Rattle.cohomology.proofs.classes.Classes.values.Goals as goal
+
+pub returns : goal.returns
+returns g c =
+    let p = g.row.P in
+    let table = c.table_in.result.now in
+    let sum = c.in_ok-sum.sum in
+    IfOk-weaker c.spread.result _ _
+    (λ v h. values_tell p (served_field p c.requires) c.args.self.now c.args.cochain.now table sum v.items c.table_in.ensures.value (subst (λ m. IsSpread p sum m v.items) c.rank.ensures h)
+    (subst (λ (row : List (ℕ × ℕ)). (y : ℕ) → Congruent p (value_in sum y) (combined table (value_in row) y)) c.as_slice.ensures.same c.in_ok-sum.ensures))
+    c.spread.ensures

@@ -1,0 +1,5 @@
+use Rattle.cohomology.specs.Cycles.{IsColumnRow}
+use Rattle.cohomology.proofs.classes.column_pairs.Given as goal
+
+abbrev pub invariant-loop-at : goal.invariant-loop-at
+invariant-loop-at g l = IsColumnRow l.table l.i l.at l.pairs.items

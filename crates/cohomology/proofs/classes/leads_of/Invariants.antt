@@ -1,0 +1,8 @@
+use Rattle.std.proofs.Common.{ℕ, take}
+use Rattle.std.specs.List.{AllZip}
+use Rattle.complex_index.specs.declared.indexed.Cochain.{Cochain}
+use Rattle.cohomology.specs.Cycles.{IsLeadOf}
+use Rattle.cohomology.proofs.classes.leads_of.Given as goal
+
+abbrev pub invariant-loop-class : goal.invariant-loop-class
+invariant-loop-class g l = AllZip (λ (c : Cochain g.row.P) (s : ℕ). IsLeadOf c.row s) (take l.class-index l.classes) l.leads.items

@@ -1,0 +1,9 @@
+use Rattle.std.proofs.Common.{ℕ, take}
+use Rattle.linear_law.specs.Congruence.{Congruent}
+use Rattle.sparse_rows.specs.Rows.{IsRow, value_in}
+use Rattle.cohomology.specs.Coordinates.{primitives_sum}
+use Rattle.cohomology.proofs.coordinates.primitives.Given as goal
+
+abbrev pub invariant-loop-coboundary : goal.invariant-loop-coboundary
+invariant-loop-coboundary g l =
+    IsRow g.row.P l.sum × ((x : ℕ) → Congruent g.row.P (value_in l.sum x) (primitives_sum {p = g.row.P} (take l.coboundary-index l.coboundaries) l.given x))

@@ -1,0 +1,150 @@
+ghost use Rattle.std.specs.Prelude.{◌≡◌, ℕ, ◌+◌, ◌<◌, ◌^◌, List, [], map, length, IfOk, IsTrue};
+ghost use Rattle.linear_law.specs.Lists.{Each};
+ghost use Rattle.fp_field.specs.Served.{served};
+ghost use Rattle.simplicial_law.specs.CanonicalClasses.{AreCanonicalBases};
+ghost use Rattle.complex_index.specs.Levels.{IsIndexOf};
+ghost use Rattle.row_reduce.specs.Walk.{owned_in};
+ghost use Rattle.cohomology.specs.Pairs.{IsPairIndex, IsSubIndex};
+ghost use Rattle.cohomology.specs.Classes.{ArePlacedFrom, AreRelativeFrom, AreRelativeIn, IsPivotTable, IsReachedIn, chains_of};
+ghost use Rattle.cohomology.specs.Walk.{AreRowsOf, TellCoboundaries};
+
+use crate::pairs::{blanked, joined, marks};
+use complex_index::{Cochain, Indexed};
+use row_reduce::{Stored, kernel_and_stored};
+use simplex_set::Complex;
+use sparse_rows::Row;
+use std::alloc::{AllocError, Global};
+
+/// What the walks below a degree tell of its coboundaries.
+#[derive(Drop)]
+pub(crate) struct Reached<const P: u32> {
+    /// A table of their pivots.
+    pub pivots: Vec<u32>,
+    /// Triangular rows of coboundaries, one for each pivot.
+    pub stored: Vec<Stored<P>>,
+}
+
+/// The rows as cochains of one degree.
+fn of_degree<const P: u32>(
+    alloc: Global,
+    degree: u32,
+    rows: Vec<Row<P>>,
+) -> Result<Vec<Cochain<P>>, AllocError>
+    ensures rows { IfOk result (λ v. map (λ c. c.row) v.items ≡ rows.entry.items) }
+    ensures degrees { IfOk result (λ v. Each (λ c. c.degree ≡ degree) v.items) }
+{
+    let mut cochains = Vec::new(alloc);
+    for row in rows {
+        cochains.push(Cochain { degree, row })?;
+    }
+    Ok(cochains)
+}
+
+/// A table of `count` places, none of which is a pivot.
+fn no_pivots(alloc: Global, count: usize) -> Result<Vec<u32>, AllocError>
+    ensures len { IfOk result (λ v. length v.items ≡ count) }
+    ensures clear { IfOk result (λ v. (x : ℕ) → owned_in v.items x → ⊥) }
+{
+    vec![in alloc; 0; count]
+}
+
+/// What is known below degree 0: no place is a pivot.
+pub(crate) fn start<const P: u32>(alloc: Global, full: &Indexed) -> Result<Reached<P>, AllocError>
+    ensures { IfOk result (λ r. (sub : List (List (List ℕ))) → IsReachedIn P full.now sub 0 r.pivots.items r.stored.items) }
+{
+    Ok(Reached {
+        pivots: no_pivots(alloc, full.count(0) as usize)?,
+        stored: Vec::new(alloc),
+    })
+}
+
+/// The index of no simplices.
+pub(crate) fn nothing(alloc: Global) -> Result<Indexed, AllocError>
+    ensures { IfOk result (λ i. i ≡ []) }
+{
+    let none = Complex::of(alloc, Vec::new(alloc))?;
+    Indexed::of(alloc, &none)
+}
+
+/// The coboundary rows of a degree, empty at the simplices of the subcomplex, and a table of the places that
+/// may be skipped: those of the pivots of the coboundaries, and those of the subcomplex.
+fn rows_at<const P: u32>(
+    alloc: Global,
+    full: &Indexed,
+    sub: &Indexed,
+    degree: u32,
+    pivots: &[u32],
+) -> Result<(Vec<Row<P>>, Vec<u32>), AllocError>
+    requires prime { IsTrue (served P) }
+    requires pair { IsPairIndex full.now sub.now }
+    requires inside { degree + 1 < 2 ^ 32 }
+    requires pivots { IsPivotTable P full.now sub.now degree pivots.now }
+    ensures { IfOk result (λ r. AreRowsOf P full.now sub.now degree pivots.now r.0.items r.1.items) }
+{
+    let table = marks(alloc, full, sub, degree)?;
+    let given = full.coboundary_rows::<P>(alloc, degree)?;
+    let rows = blanked(alloc, given, table.as_slice())?;
+    let skip = joined(alloc, pivots, table.as_slice())?;
+    Ok((rows, skip))
+}
+
+/// The canonical classes of one degree, from what the walks below it tell, and what is then told of the next degree.
+pub(crate) fn step_at<const P: u32>(
+    alloc: Global,
+    full: &Indexed,
+    sub: &Indexed,
+    degree: u32,
+    reached: &Reached<P>,
+) -> Result<(Vec<Cochain<P>>, Reached<P>), AllocError>
+    requires prime { IsTrue (served P) }
+    requires pair { IsPairIndex full.now sub.now }
+    requires inside { degree + 1 < 2 ^ 32 }
+    requires reached { IsReachedIn P full.now sub.now degree reached.now.pivots.items reached.now.stored.items }
+    ensures classes { IfOk result (λ s. AreRelativeIn P full.now sub.now degree s.0.items) }
+    ensures next { IfOk result (λ s. IsReachedIn P full.now sub.now (degree + 1) s.1.pivots.items s.1.stored.items) }
+    ensures coboundaries { IfOk result (λ s. TellCoboundaries P full.now sub.now degree s.1.stored.items s.1.pivots.items) }
+{
+    let (rows, skip) = rows_at(alloc, full, sub, degree, reached.pivots.as_slice())?;
+    let width = full.count(degree + 1) as usize;
+    let (kernel, pivots, stored) = kernel_and_stored(
+        alloc,
+        rows.as_slice(),
+        width,
+        skip.as_slice(),
+    )?;
+    let classes = of_degree(alloc, degree, kernel)?;
+    Ok((classes, Reached { pivots, stored }))
+}
+
+/// The canonical relative classes of each degree, from degree 0 to the dimension of the complex.
+fn relative_classes_of<const P: u32>(
+    alloc: Global,
+    full: &Indexed,
+    sub: &Indexed,
+) -> Result<Vec<Vec<Cochain<P>>>, AllocError>
+    requires prime { IsTrue (served P) }
+    requires pair { IsSubIndex full.now sub.now }
+    ensures { IfOk result (λ c. (length c.items ≡ length full.now) × AreRelativeFrom P full.now sub.now 0 c.items) }
+{
+    let mut classes = Vec::new(alloc);
+    let mut reached = start(alloc, full)?;
+    for degree in 0..full.degrees() {
+        let (found, next) = step_at(alloc, full, sub, degree, &reached)?;
+        classes.push(found)?;
+        reached = next;
+    }
+    Ok(classes)
+}
+
+/// The canonical classes of each degree, from degree 0 to the dimension.
+pub fn classes_of<const P: u32>(
+    alloc: Global,
+    index: &Indexed,
+) -> Result<Vec<Vec<Cochain<P>>>, AllocError>
+    requires { IsTrue (served P) }
+    ensures bases { IfOk result (λ c. (facets : List (List ℕ)) → IsIndexOf facets index.now → AreCanonicalBases facets P (chains_of index.now c.items)) }
+    ensures placed { IfOk result (λ c. ArePlacedFrom P index.now 0 c.items) }
+{
+    let nothing = nothing(alloc)?;
+    relative_classes_of(alloc, index, &nothing)
+}
