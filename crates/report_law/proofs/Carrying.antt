@@ -10,7 +10,7 @@ use Rattle.linear_law.specs.Lists.{Among, Each}
 use Rattle.linear_law.proofs.CongruenceLemmas.{Congruent_refl}
 use Rattle.linear_law.proofs.ListLemmas.{among_map, each_among}
 use Rattle.simplicial_law.specs.Cochains.{Chain, Cochain, HasCoordinates, IsCocycle, IsCohomologyBasis}
-use Rattle.simplicial_law.specs.CanonicalClasses.{AreCanonicalBases, cochain_of}
+use Rattle.simplicial_law.specs.CanonicalClasses.{cochain_of}
 use Rattle.steenrod_law.proofs.ClassLaws.{matrix-law, product-closed, product-matrix}
 use Rattle.steenrod_law.proofs.OrbitTables.{orbit_tables}
 use Rattle.linear_law.specs.Matrices.{matrix_times}
@@ -31,11 +31,11 @@ use Rattle.report_law.specs.Matrices.{IsOperationColumn, classes_in, ranks}
 use Rattle.report_law.specs.Parts.{block_of, classes_of, matrix_of, op_of, operation_matrix, unnumbered}
 use Rattle.report_law.specs.Reports.{IsOperationPart, IsProductPart}
 use Rattle.report_law.proofs.Blocks.{in-blocks, matrix-found, of-blocks, rank-or-none}
-use Rattle.report_law.proofs.Coordinates.{agrees-sym, basis-of, coordinates-alike, no-coordinates}
+use Rattle.report_law.proofs.Coordinates.{AreBases, agrees-sym, coordinates-alike, no-coordinates}
 use Rattle.report_law.proofs.Lists.{each-of}
 use Rattle.report_law.proofs.ScaledForms.{IsScaled, scaled, scaled-closed}
 
-module _ (facets : List (List ℕ)) (p : ℕ) (is_served : IsTrue (served p)) (c : ComplexPart) (are : AreCanonicalBases facets p (classes_of c)) where
+module _ (facets : List (List ℕ)) (p : ℕ) (is_served : IsTrue (served p)) (c : ComplexPart) (are : AreBases facets p (classes_of c)) where
   abbrev field : IsField p
   field = served_field p is_served
 
@@ -43,7 +43,7 @@ module _ (facets : List (List ℕ)) (p : ℕ) (is_served : IsTrue (served p)) (c
 
   -- also past the dimension
   pub any_basis : (n : ℕ) → IsCohomologyBasis facets n p (listed c n)
-  any_basis = basis-of facets p (classes_of c) are
+  any_basis = are.basis
 
   pub bases_promise : BasesPromise facets p c
   bases_promise = record { whole = λ n s on. (let w = are.whole n s on in let k = length-map c.degrees (λ d. d.classes) in omega (arith, k, w)); basis = λ n l. any_basis n }

@@ -118,13 +118,23 @@ module _ (facets : List (List ℕ)) (n p : ℕ) (large : 1 < p) where
 
 -- ---- the bases of all degrees
 
-module _ (facets : List (List ℕ)) (p : ℕ) (classes : Classes) (are : AreCanonicalBases facets p classes) where
-  -- also past the dimension
-  pub basis-of : (n : ℕ) → IsCohomologyBasis facets n p (cochains_in classes n)
-  basis-of n = elim (cases_lt n (length classes)) [
-    | inl l ↦ (are.each n l).basis
+-- a basis in each degree, also past the dimension
+pub record AreBases (facets : List (List ℕ)) (p : ℕ) (classes : Classes) : Type 0 where
+  pub whole : (n : ℕ) (s : List ℕ) → IsSimplex facets n s → n < length classes
+  pub basis : (n : ℕ) → IsCohomologyBasis facets n p (cochains_in classes n)
+
+pub bases-from : (facets : List (List ℕ)) (p : ℕ) (classes : Classes) → ((n : ℕ) (s : List ℕ) → IsSimplex facets n s → n < length classes)
+    → ((n : ℕ) → n < length classes → IsCohomologyBasis facets n p (cochains_in classes n)) → AreBases facets p classes
+bases-from facets p classes whole each = record {
+  whole = whole;
+  basis = λ n. elim (cases_lt n (length classes)) [
+    | inl l ↦ each n l
     | inr g ↦
         let past : classes_in classes n ≡ [] = get_or-past classes n [] (omega (arith, g)) in
         subst (λ (ts : List Chain). IsCohomologyBasis facets n p (map cochain_of ts)) (sym past)
-        (empty-basis facets n p (λ s on. let w = are.whole n s on in absurd (omega (arith, w, g))))
-  ]
+        (empty-basis facets n p (λ s on. let w = whole n s on in absurd (omega (arith, w, g))))
+  ];
+}
+
+pub canonical-are : (facets : List (List ℕ)) (p : ℕ) (classes : Classes) → AreCanonicalBases facets p classes → AreBases facets p classes
+canonical-are facets p classes are = bases-from facets p classes are.whole (λ n l. (are.each n l).basis)

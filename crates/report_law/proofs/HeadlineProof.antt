@@ -18,24 +18,26 @@ use Rattle.report.specs.Forms.{has_details, has_tables}
 use Rattle.report_law.specs.Headline.{ComplexPromise, MapPromise}
 use Rattle.report_law.specs.Laws.{HeadlineLaw}
 use Rattle.report_law.specs.Live.{induced_degrees}
-use Rattle.report_law.specs.Matrices.{Classes, ranks}
+use Rattle.report_law.specs.Matrices.{AreClasses, Classes, ranks}
 use Rattle.report_law.specs.Parts.{classes_of, part_at}
 use Rattle.report_law.specs.Reports.{IsComplexPart, IsInducedPart, IsMapPart}
 use Rattle.report_law.proofs.CanonicalData.{bases-of}
 use Rattle.report_law.proofs.Carrying.{bases_promise, operation_promises, product_promise}
-use Rattle.report_law.proofs.Maps.{IsMapOf, job-complexes, job-maps, job-prime, simplicial}
+use Rattle.report_law.proofs.Coordinates.{AreBases, canonical-are}
+use Rattle.report_law.proofs.Maps.{IsMapOf, job-complexes, job-maps, job-prime, no-end-fault, simplicial}
 use Rattle.report_law.proofs.Naturality.{induced_promise}
 use Rattle.report_law.proofs.Verdicts.{cartan_promises}
 
 module _ (form : Form) (p : ℕ) (is_served : IsTrue (served p)) where
   complex-promise : (block : ComplexBlock) (c : ComplexPart) → Each IsAscending block.facets → IsComplexPart (has_tables form) (has_details form) p block c → ComplexPromise form p block c
   complex-promise block c ascending h =
-      let are = bases-of block.facets ascending p (served_field p is_served) (classes_of c) h.classes in record {
+      let canonical = bases-of block.facets ascending p (served_field p is_served) (classes_of c) h.classes in
+      let are = canonical-are block.facets p (classes_of c) canonical in record {
         bases = bases_promise block.facets p is_served c are;
         tables = λ has. (let t = h.tables has in record {
           products = each_map (λ x b. product_promise block.facets p is_served c are (has_details form) x b) c.products t.product_parts;
           operations = operation_promises block.facets p is_served c are (has_details form) t.operations t.operation_parts;
-          cartans = cartan_promises form block.facets ascending p is_served c are t.cartans t.cartan_parts;
+          cartans = cartan_promises form block.facets ascending p is_served c canonical t.cartans t.cartan_parts;
         });
       }
 
@@ -58,6 +60,9 @@ classes-at (c ∷ cs) (suc k) = classes-at cs k
 
 module _ (form : Form) (has : IsTrue (has_tables form)) (job : Spelled) (parts : List ComplexPart) (is_served : IsTrue (served job.prime)) (ascending : Each (λ b. Each IsAscending b.facets) job.complexes)
     (are : AllZip (IsComplexPart (has_tables form) (has_details form) job.prime) job.complexes parts) where
+  bases : {facets : List (List ℕ)} → Each IsAscending facets → (c : ComplexPart) → AreClasses facets job.prime (classes_of c) → AreBases facets job.prime (classes_of c)
+  bases {facets} a c k = canonical-are facets job.prime (classes_of c) (bases-of facets a job.prime (served_field job.prime is_served) (classes_of c) k)
+
   map-promise : (block : MapBlock) (m : MapPart) → IsMapOf job.complexes block → IsMapPart (has_details form) job (map classes_of parts) block m → MapPromise job parts block m
   map-promise block m is h =
       let K = part-of form job.prime is_served job.complexes parts block.from is.from are in
@@ -65,9 +70,9 @@ module _ (form : Form) (has : IsTrue (has_tables form)) (job : Spelled) (parts :
       let a = each_get_or (λ b. Each IsAscending b.facets) job.complexes block.from (record { name = []; facets = [] }) is.from ascending in
       let b = each_get_or (λ b. Each IsAscending b.facets) job.complexes block.to (record { name = []; facets = [] }) is.to ascending in
       induced_promise job.prime is_served (image block.sends)
-      (facets_at job.complexes block.from) (part_at parts block.from) (bases-of (facets_at job.complexes block.from) a job.prime (served_field job.prime is_served) (classes_of (part_at parts block.from)) K.classes)
-      (facets_at job.complexes block.to) (part_at parts block.to) (bases-of (facets_at job.complexes block.to) b job.prime (served_field job.prime is_served) (classes_of (part_at parts block.to)) L.classes)
-      (simplicial (facets_at job.complexes block.from) (facets_at job.complexes block.to) a b block.sends is.free) (has_details form) m
+      (facets_at job.complexes block.from) (part_at parts block.from) (bases a (part_at parts block.from) K.classes)
+      (facets_at job.complexes block.to) (part_at parts block.to) (bases b (part_at parts block.to) L.classes)
+      (simplicial (facets_at job.complexes block.from) (facets_at job.complexes block.to) a b block.sends (no-end-fault (facets_at job.complexes block.from) (facets_at job.complexes block.to) [] 0 block.sends is.free)) (has_details form) m
       (subst (λ (cs : Classes). map (λ x. x.q) m.induced ≡ induced_degrees (ranks cs) (ranks (classes_of (part_at parts block.to)))) (classes-at parts block.from)
       (subst (λ (cs : Classes). map (λ x. x.q) m.induced ≡ induced_degrees (ranks (get_or (map classes_of parts) block.from [])) (ranks cs)) (classes-at parts block.to) h.induced))
       (subst (λ (cs : Classes). Each (IsInducedPart (has_details form) (image block.sends) (facets_at job.complexes block.from) job.prime cs (classes_of (part_at parts block.to))) m.induced) (classes-at parts block.from)

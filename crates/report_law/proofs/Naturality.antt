@@ -8,7 +8,7 @@ use Rattle.linear_law.specs.Congruence.{IsField}
 use Rattle.linear_law.specs.Lists.{Among, Each}
 use Rattle.linear_law.proofs.ListLemmas.{each_among}
 use Rattle.simplicial_law.specs.Cochains.{Chain, Cochain, HasCoordinates, IsCocycle, IsCohomologyBasis}
-use Rattle.simplicial_law.specs.CanonicalClasses.{AreCanonicalBases, cochain_of}
+use Rattle.simplicial_law.specs.CanonicalClasses.{cochain_of}
 use Rattle.steenrod_law.proofs.InducedMaps.{matrices-commute, pull_back-cocycle, pull_back-matrix}
 use Rattle.steenrod_law.proofs.OrbitTables.{orbit_tables}
 use Rattle.steenrod_law.specs.Operations.{IsSimplicial, pull_back}
@@ -24,12 +24,12 @@ use Rattle.report_law.specs.Parts.{block_of, classes_of, induced_matrix, matrix_
 use Rattle.report_law.specs.Reports.{IsInducedPart, IsOperationPart}
 use Rattle.report_law.proofs.Blocks.{in-induced, induced-found, rank-or-none}
 use Rattle.report_law.proofs.Carrying.{any_basis, matrix-columns}
-use Rattle.report_law.proofs.Coordinates.{no-coordinates}
+use Rattle.report_law.proofs.Coordinates.{AreBases, no-coordinates}
 use Rattle.report_law.proofs.ScaledForms.{scaled}
 
 module _ (p : ℕ) (is_served : IsTrue (served p)) (f : ℕ → ℕ)
-    (K : List (List ℕ)) (from : ComplexPart) (are_K : AreCanonicalBases K p (classes_of from))
-    (L : List (List ℕ)) (to : ComplexPart) (are_L : AreCanonicalBases L p (classes_of to))
+    (K : List (List ℕ)) (from : ComplexPart) (are_K : AreBases K p (classes_of from))
+    (L : List (List ℕ)) (to : ComplexPart) (are_L : AreBases L p (classes_of to))
     (simplicial : IsSimplicial f K L) (detailed : Bool) (m : MapPart)
     (are_induced : map (λ x. x.q) m.induced ≡ induced_degrees (ranks (classes_of from)) (ranks (classes_of to))) (each : Each (IsInducedPart detailed f K p (classes_of from) (classes_of to)) m.induced) where
   abbrev field : IsField p

@@ -48,7 +48,7 @@ use Rattle.report_law.specs.Parts.{below_in, block_of, classes_of, line_of, numb
 use Rattle.report_law.specs.Reports.{AreTables, IsCartanPart, IsComplexPart, IsInducedPart, IsMapPart, IsOperationPart, IsProductPart, IsReportOf}
 use Rattle.report_law.proofs.Blocks.{IsLiveBlock, of-blocks}
 use Rattle.report_law.proofs.CanonicalData.{bases-of}
-use Rattle.report_law.proofs.Coordinates.{basis-of}
+use Rattle.report_law.proofs.Coordinates.{canonical-are}
 use Rattle.report_law.proofs.HeadlineProof.{classes-at, part-of}
 use Rattle.report_law.proofs.Lists.{each-of}
 use Rattle.report_law.proofs.Maps.{IsMapOf, job-complexes, job-maps, job-prime}
@@ -94,7 +94,7 @@ module _ (form : Form) (facets : List (List ℕ)) (ascending : Each IsAscending 
   field = served_field p is_served
 
   abbrev basis : (n : ℕ) → IsCohomologyBasis facets n p (cochains_in classes n)
-  basis n = basis-of facets p classes are n
+  basis n = (canonical-are facets p classes are).basis n
 
   -- columns for two cochains that agree
   column-alike : (n : ℕ) (z w : Cochain) (x y : Column) → AgreesOnSimplices facets n p z w → IsColumn (has_details form) facets n p (cochains_in classes n) z x.values x.primitive
