@@ -1,0 +1,95 @@
+-- The laws of certificates.
+use Rattle.std.specs.Prelude.{◌≡◌, ℕ, ◌+◌, ◌^◌, true, None, List, map, length, IsTrue}
+use Rattle.linear_law.specs.Lists.{Each, IsAscending}
+use Rattle.fp_field.specs.Served.{served}
+use Rattle.complex_file.specs.declared.block.ComplexBlock.{ComplexBlock}
+use Rattle.report.specs.declared.columns.CartanAnswer.{CartanAnswer}
+use Rattle.report.specs.declared.columns.CartanAnswer.TheVariants.{Yes, No}
+use Rattle.report.specs.declared.columns.CartanPart.{CartanPart}
+use Rattle.report.specs.declared.complex.ComplexPart.{ComplexPart}
+use Rattle.report.specs.declared.form.Form.TheVariants.{Certificate}
+use Rattle.report.specs.declared.job.Report.{Report}
+use Rattle.report.specs.declared.map.MapPart.{MapPart}
+use Rattle.report_law.specs.Headline.{ComplexPromise, InducedPromise}
+use Rattle.report_law.specs.Live.{induced_degrees}
+use Rattle.report_law.specs.Parts.{classes_of, ranks_of}
+use Rattle.report_law.specs.Reports.{IsComplexPart, IsInducedPart}
+use Rattle.report_law.specs.Terms.{passing_sum, sizes_of}
+use Rattle.report_text_law.specs.declared.line.Line.{Line}
+use Rattle.report_text_law.specs.declared.line.Line.TheVariants.{Below as below_line, CartanNo as cartan_no, CartanYes as cartan_yes, Class as class_line, Column as column_line, Complex as complex_line, Cycle as cycle_line, Degree as degree_line, Done as done_line, End as end_line, Facet as facet_line, Heading as heading_line, Induced as induced_line, Map as map_line, Operation as operation_line, Pair as pair_line, Prime as prime_line, Product as product_line, With as with_line}
+use Rattle.report_text_law.specs.Lines.{certificate_lines, send_of}
+use Rattle.report_text_law.specs.WellFormed.{is_well_formed}
+use Rattle.certificate_law.specs.Certifies.{Certifies, FailsFirst, Holds}
+use Rattle.certificate_law.specs.Parts.{complex_named, itself, sent_by}
+use Rattle.certificate_law.specs.Stated.{Stated, stated, heading, prime_is, complex_opens, facet_stands, degree_opens, below_stands, class_stands, product_opens, product_column, operation_opens, operation_column, cartan_stands, with_stands, cycle_stands, complex_ends, map_opens, send_stands, induced_opens, induced_column, map_ends, finish}
+
+-- A report that certifies has no failure, and another has one first failure.
+pub record FirstFailureLaw : Type 0 where
+  pub none : (r : Report) (condition line : ℕ) → Certifies r → FailsFirst r condition line → ⊥
+  pub condition : (r : Report) (c d k l : ℕ) → FailsFirst r c k → FailsFirst r d l → c ≡ d
+  pub line : (r : Report) (c k l : ℕ) → FailsFirst r c k → FailsFirst r c l → k ≡ l
+
+-- What is shown of a map between two complexes: its induced matrices, and how they go with the matrices of operations.
+abbrev pub MapShown : Report → MapPart → Type 0
+MapShown r m = InducedPromise (sent_by m) (complex_named r.complexes m.from).facets (complex_named r.complexes m.to).facets r.prime
+    (complex_named r.complexes m.from) (complex_named r.complexes m.to) m
+
+-- Where a report certifies, all that the headline promises holds of what it lists, of the complexes that its facets give
+-- and of its maps: the printed classes are bases of cohomology, whichever they are; the printed matrices carry the
+-- coordinates of every cocycle; and the Cartan answers are right, which the chains under them show.
+pub record CertifiedLaw : Type 0 where
+  pub complexes : (r : Report) → is_well_formed r ≡ true → Certifies r → Each (λ c. ComplexPromise Certificate r.prime (itself c) c) r.complexes
+  pub maps : (r : Report) → is_well_formed r ≡ true → Certifies r → Each (MapShown r) r.maps
+
+abbrev pub verdict_said : CartanPart → CartanAnswer → Line
+verdict_said x (Yes primitive) = cartan_yes x.a x.i x.b x.j x.n
+verdict_said x (No value cycle) = cartan_no x.a x.i x.b x.j x.n value
+
+-- the line of a certificate that is meant
+abbrev pub line_said : Stated → Line
+line_said heading = heading_line
+line_said (prime_is p) = prime_line p
+line_said (complex_opens before c) = complex_line c.name
+line_said (facet_stands before f) = facet_line f
+line_said (degree_opens c n d) = degree_line n (length d.classes)
+line_said (below_stands c n before y) = below_line y
+line_said (class_stands c n before z) = class_line z
+line_said (product_opens c k x) = product_line x.a x.b
+line_said (product_column c x k y) = pair_line y.i y.j y.values
+line_said (operation_opens c k x) = operation_line x.word x.number x.from x.to
+line_said (operation_column c x k y) = column_line (k + 1) y.values
+line_said (cartan_stands c k x) = verdict_said x x.answer
+line_said (with_stands chain) = with_line chain
+line_said (cycle_stands chain) = cycle_line chain
+line_said (complex_ends c) = end_line
+line_said (map_opens cs before m) = map_line m.name m.from m.to
+line_said (send_stands from to before s) = send_of s
+line_said (induced_opens from to k x) = induced_line x.q
+line_said (induced_column from to m x k y) = column_line (k + 1) y.values
+line_said (map_ends from to m) = end_line
+line_said (finish cs) = done_line
+
+-- What the conditions are asked of are the lines of the certificate, in their order: so the number of a line at which
+-- a condition fails is its number in the text.
+abbrev pub StatedLinesLaw : Type 0
+StatedLinesLaw = (r : Report) → map line_said (stated r) ≡ certificate_lines r.prime r.complexes r.maps
+
+-- The facets that lie in no other give the same complex: what is listed of a complex is listed of the one that the
+-- listed facets give.
+abbrev pub OwnFacetsLaw : Type 0
+OwnFacetsLaw = (p : ℕ) (block : ComplexBlock) (c : ComplexPart) → Each IsAscending block.facets → IsComplexPart true true p block c →
+    Each IsAscending c.facets × IsComplexPart true true p (itself c) c
+
+-- What is listed are the canonical data of the complexes that the listed facets give, and of the maps between them.
+pub record IsCanonical (r : Report) : Type 0 where
+  pub prime : IsTrue (served r.prime)
+  pub facets : Each (λ c. Each IsAscending c.facets) r.complexes
+  pub complexes : Each (λ c. IsComplexPart true true r.prime (itself c) c) r.complexes
+  pub induced : Each (λ m. map (λ x. x.q) m.induced
+      ≡ induced_degrees (ranks_of (complex_named r.complexes m.from)) (ranks_of (complex_named r.complexes m.to))) r.maps
+  pub induced_parts : Each (λ m. Each (IsInducedPart true (sent_by m) (complex_named r.complexes m.from).facets r.prime
+      (classes_of (complex_named r.complexes m.from)) (classes_of (complex_named r.complexes m.to))) m.induced) r.maps
+
+-- Canonical data certify, where the blocks are those of a job and the counted terms are within the limit.
+abbrev pub CompleteLaw : Type 0
+CompleteLaw = (r : Report) → IsCanonical r → Holds 1 r → passing_sum r.prime (10 ^ 12) (map (λ c. sizes_of c.facets c) r.complexes) ≡ None → Certifies r

@@ -1,0 +1,35 @@
+//! When a report certifies, and what it shows then: definitions and laws.
+#![tactic(auto)]
+
+ghost use Rattle.certificate_law.specs.Laws.{CertifiedLaw, CompleteLaw, FirstFailureLaw, OwnFacetsLaw, StatedLinesLaw};
+ghost use Rattle.certificate_law.specs.Sections.{SectionLaw};
+
+/// A report that certifies does not fail, and another fails first at one line of one condition.
+pub fn first_failure_law()
+    ensures { FirstFailureLaw }
+{}
+
+/// Where a report certifies, the headline holds of what it lists.
+pub fn certified_law()
+    ensures { CertifiedLaw }
+{}
+
+/// The conditions are asked of the lines of the certificate, in their order.
+pub fn stated_lines_law()
+    ensures { StatedLinesLaw }
+{}
+
+/// Lines that are walked in two sections.
+pub fn section_law()
+    ensures { SectionLaw }
+{}
+
+/// Canonical data certify.
+pub fn complete_law()
+    ensures { CompleteLaw }
+{}
+
+/// The facets that lie in no other give the same complex.
+pub fn own_facets_law()
+    ensures { OwnFacetsLaw }
+{}
