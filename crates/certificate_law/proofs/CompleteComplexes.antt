@@ -122,8 +122,8 @@ module _ (p : ℕ) (is_served : IsTrue (served p)) (c : ComplexPart) (ascending 
   degree_right n b =
       let d : DegreePart = get_or c.degrees n no_degree in
       let counted =
-          subst (λ (ys : List Chain). simplex_count c.facets n ≡ length ys + length d.classes + length (below_in c (n + 1))) (sym (below_at c n))
-          (subst (λ (zs : List Chain). simplex_count c.facets n ≡ length (below_in c n) + length zs + length (below_in c (n + 1))) (sym (classes_at c n)) (well.counts n b)) in (
+      subst (λ (ys : List Chain). simplex_count c.facets n ≡ length ys + length d.classes + length (below_in c (n + 1))) (sym (below_at c n))
+      (subst (λ (zs : List Chain). simplex_count c.facets n ≡ length (below_in c n) + length zs + length (below_in c (n + 1))) (sym (classes_at c n)) (well.counts n b)) in (
         (tt, tt, tt, counted, tt, tt, tt),
         each_append (IsRight p) (after (λ b y. below_stands c n b y ∷ []) [] d.below) (after (λ b z. class_stands c n b z ∷ []) [] d.classes)
             (subst (λ (ys : List Chain). Each (IsRight p) (after (λ b y. below_stands c n b y ∷ []) [] ys)) (sym (below_at c n)) (below_back n [] (below_in c n) (well.coboundaries n b).degrees (well.coboundaries n b).least))
