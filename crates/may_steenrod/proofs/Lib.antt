@@ -8,3 +8,4 @@ pub mod CupLemmas
 pub mod OperationLemmas
 pub mod PowerLemmas
 mod SquareLemmas
+mod TriangleLemmas

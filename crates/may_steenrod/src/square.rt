@@ -25,7 +25,6 @@ fn square_values<const P: u32, V: Values<P>>(
     degree: u32,
 ) -> Result<Vec<Fp<P>>, AllocError>
     requires two { P ≡ 2 }
-    requires few { length index.now ≤ 16 }
     ensures long { IfOk result (λ v. length v.items ≡ length (level index.now degree)) }
     ensures few { IfOk result (λ v. length v.items < 2 ^ 32) }
     ensures values { IfOk result (λ v. (x : ℕ) → x < length (level index.now degree) →
@@ -48,8 +47,7 @@ pub fn sq<const P: u32>(
     k: u32,
 ) -> Result<Cochain<P>, AllocError>
     requires two { P ≡ 2 }
-    requires few { length index.now ≤ 16 }
-    requires low { alpha.now.degree ≤ 15 }
+    requires low { alpha.now.degree ≤ 255 }
     requires defined { k ≤ alpha.now.degree }
     requires inside { IsBelow (length (level index.now alpha.now.degree)) alpha.now.row }
     ensures degree { IfOk result (λ r. r.degree ≡ alpha.now.degree + k) }
