@@ -25,7 +25,13 @@ fn plan_of_a_circle_at_three(rt: HostRuntime) -> Result<(), Fail> {
     let want = [line(0, 0, 0), line(0, 1, 0), line(1, 0, 0)];
     assert_eq!(rt; lines(alloc, 3, &ranks)?.as_slice(), want.as_slice());
     let want = [(0u32, 1u32), (1, 0)];
-    assert_eq!(rt; cartan_pairs(alloc, 3, 2, 2, 1)?.as_slice(), want.as_slice());
-    assert_eq!(rt; (may_degree(3, op, 2), target(3, op, 2)), (Some(4), Some(2)));
+    assert_eq!(rt;
+        cartan_pairs(alloc, 3, 2, 2, 1)?.as_slice(),
+        want.as_slice()
+    );
+    assert_eq!(rt;
+        (may_degree(3, op, 2), target(3, op, 2)),
+        (Some(4), Some(2))
+    );
     Ok(())
 }
