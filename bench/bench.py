@@ -4,7 +4,8 @@
 usage: bench/bench.py PROGRAM [PRIME] [GROUP ..]
 
 PROGRAM is the built program (crates/comch/out/comch, after `rt run` in crates/comch), PRIME is 2, 3
-or 5 (default 2), and the groups are torus, random, dense, sphere, wide, strip and may (default: all).
+or 5 (default 2), and the groups are torus, random, dense, sphere, wide, strip, ground, hostile and
+may (default: all).
 
 Each input is made here, written to the program's standard input, and run RUNS times. One line is
 printed for each: simplices, bytes of input and of output, the least of the processor seconds, the
@@ -60,6 +61,37 @@ def wide(facets):
         yield range(13 * i, 13 * i + 13)
 
 
+def flag(vertices, percent, seed):
+    """The simplices of degree 3 of a random flag complex: each edge is there with this chance."""
+    source = random.Random(seed)
+    above = {v: set() for v in range(vertices)}
+    for v, w in itertools.combinations(range(vertices), 2):
+        if source.randrange(100) < percent:
+            above[v].add(w)
+    for v in range(vertices):
+        for w in sorted(above[v]):
+            for x in sorted(above[v] & above[w]):
+                for y in sorted(above[v] & above[w] & above[x]):
+                    yield (v, w, x, y)
+
+
+def some_triangles(vertices, count, seed):
+    """A random complex of degree 2 with this many distinct triangles."""
+    source = random.Random(seed)
+    found = set()
+    while len(found) < count:
+        found.add(tuple(sorted(source.sample(range(vertices), 3))))
+    return sorted(found)
+
+
+def repeated(facets, times, last=()):
+    """Wide facets, all of them again and again, and then the last ones."""
+    made = [tuple(facet) for facet in wide(facets)]
+    for _ in range(times):
+        yield from made
+    yield from last
+
+
 def text_of(prime, facets):
     lines = ["comch 1", f"prime {prime}", "complex x"]
     lines += ["facet " + " ".join(map(str, facet)) for facet in facets]
@@ -69,7 +101,9 @@ def text_of(prime, facets):
 
 def count_simplices(facets):
     found = set()
-    for facet in facets:
+    for facet in set(facets):
+        if len(found) > 100000:
+            break
         for size in range(1, len(facet) + 1):
             found.update(itertools.combinations(facet, size))
     return len(found)
@@ -83,6 +117,18 @@ GROUPS = {
     "sphere": [(f"sphere {k - 2}", lambda k=k: sphere(k)) for k in (9, 11, 13, 15)],
     "wide": [(f"wide {k}", lambda k=k: wide(k)) for k in (1, 3, 12)],
     "strip": [(f"strip {k}", lambda k=k: strip(k)) for k in (3000, 12000, 24000)],
+    "ground": [
+        ("torus 15000", lambda: torus(15000)),
+        ("sphere 14", lambda: sphere(16)),
+        ("flag 160", lambda: flag(160, 25, 1)),
+        ("triangles 220", lambda: some_triangles(220, 22264, 1)),
+    ],
+    # inputs of about a megabyte: repetitions, one facet too many at the end, facets too wide to count
+    "hostile": [
+        ("repeated 12", lambda: repeated(12, 1700)),
+        ("one too many", lambda: repeated(12, 1700, [range(900000, 900012)])),
+        ("too wide", lambda: [range(16 * i, 16 * i + 16) for i in range(9000)]),
+    ],
 }
 
 
