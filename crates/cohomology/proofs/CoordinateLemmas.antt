@@ -144,6 +144,12 @@ module _ (facets parts : List (List ℕ)) (ls sls : List (List (List ℕ))) (is 
         go [] h = refl
         go (b ∷ bs) h = ap₂ ◌+◌ (ap₂ ◌*◌ (value_here z b.pivot h.0.pivot) (value_here b.cochain.row x c)) (go bs h.1)
 
+    part_at : Each (λ (b : Coboundary p). Congruent p (part (pivot_in (level ls n) b)) (cochain_in ls n z (pivot_in (level ls n) b))) bounds
+    part_at =
+        each_zip
+        (λ b h picked. Congruent_trans (Congruent_of (part_value b.pivot h.pivot)) (Congruent_trans picked (Congruent_of (sym (value_here z b.pivot h.pivot)))))
+        bounds are.placed.each (sum_picks p (λ (b : Coboundary p). b.pivot) (λ b. value_in b.cochain.row) (λ b. value_in z b.pivot) bounds reduced_here)
+
     less : Cochain
     less s = left s + (p - 1) * part s
 
@@ -151,13 +157,11 @@ module _ (facets parts : List (List ℕ)) (ls sls : List (List (List ℕ))) (is 
     unfolding less left
     less_zero =
         each_zip
-        (λ b h k.
+        (λ b same k.
         let u = pivot_in (level ls n) b in
-        let none = combination_none p u values (cochains_at ls n classes) (classes_zero b k.0) in
-        let same : Congruent p (part u) (cochain_in ls n z u) = Congruent_trans (Congruent_of (part_value b.pivot h.pivot)) (Congruent_trans k.1 (Congruent_of (sym (value_here z b.pivot h.pivot)))) in
+        let none = combination_none p u values (cochains_at ls n classes) (classes_zero b k) in
         Congruent_from (Congruent_add (Congruent_scale (p - 1) none) (Congruent_add (Congruent_scale (p - 1) same) (add-negated p (cochain_in ls n z u) field.large))) (omega arith))
-        bounds are.placed.each
-        (each_zip (λ b k picked. (k, picked)) bounds (are.each facets parts is) (sum_picks p (λ (b : Coboundary p). b.pivot) (λ b. value_in b.cochain.row) (λ b. value_in z b.pivot) bounds reduced_here))
+        bounds part_at (are.each facets parts is)
 
     left_is : AgreesOnSimplices facets n p left part
     unfolding less left
