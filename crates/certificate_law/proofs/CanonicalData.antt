@@ -33,7 +33,7 @@ use Rattle.certificate_law.proofs.PivotCounts.{pivot_lists, simplex_same_or_not}
 
 -- ---- lists
 
-in_order_apart : (ss : List (List ℕ)) → IsInOrder ss → IsApart ss
+pub in_order_apart : (ss : List (List ℕ)) → IsInOrder ss → IsApart ss
 in_order_apart [] h = tt
 in_order_apart (s ∷ ss) h = (
   λ m. (let q = place_of_among s ss m in lists_strict s (subst (λ (t : List ℕ). Precedes s t) (q.2 []) (h 0 (suc q.0) (omega arith) (let b = q.1 in omega arith)))),

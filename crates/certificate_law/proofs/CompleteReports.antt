@@ -22,8 +22,8 @@ use Rattle.report_law.specs.Matrices.{classes_in}
 use Rattle.report_law.specs.Parts.{classes_of, ranks_of}
 use Rattle.report_law.specs.Reports.{IsComplexPart, IsInducedPart}
 use Rattle.report_law.specs.Terms.{passing_sum, sizes_of}
+use Rattle.certificate_law.specs.Certifies.{Certifies}
 use Rattle.certificate_law.specs.Conditions.{Asks, IsBlockLine}
-use Rattle.certificate_law.specs.Laws.{CompleteLaw, IsCanonical}
 use Rattle.certificate_law.specs.Parts.{complex_named, itself, rank_in, sent_by}
 use Rattle.certificate_law.specs.Stated.{Stated, behind, complex_stated, finish, induced_column, induced_stated, map_between, map_ends, map_stated, numbered, send_stands, stated, with_stands}
 use Rattle.certificate_law.proofs.Building.{at_both, at_of_each, each_behind, each_numbered, placed, zip_places}
@@ -111,7 +111,17 @@ asks p s b h (suc (suc (suc (suc (suc (suc (suc zero))))))) = h.5
 asks p s b h (suc (suc (suc (suc (suc (suc (suc (suc zero)))))))) = h.6
 asks p s b h (suc (suc (suc (suc (suc (suc (suc (suc (suc k))))))))) = tt
 
-lines_right : (r : Report) → IsCanonical r → passing_sum r.prime (10 ^ 12) (map (λ c. sizes_of c.facets c) r.complexes) ≡ None → Each (IsRight r.prime) (stated r)
+-- what is listed are the canonical data of the complexes that the listed facets give, and of the maps between them
+pub record IsCanonical (p : ℕ) (r : Report) : Type 0 where
+  pub prime : IsTrue (served p)
+  pub facets : Each (λ c. Each IsAscending c.facets) r.complexes
+  pub complexes : Each (λ c. IsComplexPart true true p (itself c) c) r.complexes
+  pub induced : Each (λ m. map (λ x. x.q) m.induced
+      ≡ induced_degrees (ranks_of (complex_named r.complexes m.from)) (ranks_of (complex_named r.complexes m.to))) r.maps
+  pub induced_parts : Each (λ m. Each (IsInducedPart true (sent_by m) (complex_named r.complexes m.from).facets p
+      (classes_of (complex_named r.complexes m.from)) (classes_of (complex_named r.complexes m.to))) m.induced) r.maps
+
+lines_right : (r : Report) → IsCanonical r.prime r → passing_sum r.prime (10 ^ 12) (map (λ c. sizes_of c.facets c) r.complexes) ≡ None → Each (IsRight r.prime) (stated r)
 lines_right r h within =
     let P : Stated → Type 0 = IsRight r.prime in (
       (tt, tt, tt, tt, tt, tt, tt),
@@ -129,5 +139,5 @@ lines_right r h within =
       ),
     )
 
-pub complete_law : CompleteLaw
-complete_law r h blocks within = record { holds = λ condition. each_zip (λ s b q. asks r.prime s b q condition) (stated r) blocks (lines_right r h within) }
+pub canonical_certifies : (r : Report) → IsCanonical r.prime r → Each IsBlockLine (stated r) → passing_sum r.prime (10 ^ 12) (map (λ c. sizes_of c.facets c) r.complexes) ≡ None → Certifies r
+canonical_certifies r h blocks within = record { holds = λ condition. each_zip (λ s b q. asks r.prime s b q condition) (stated r) blocks (lines_right r h within) }

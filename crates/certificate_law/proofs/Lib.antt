@@ -18,3 +18,6 @@ pub mod CompleteComplexes
 pub mod CompleteReports
 pub mod SameSimplices
 pub mod MaximalFacets
+pub mod JobMaps
+pub mod JobBlocks
+pub mod JobLaw

@@ -6,9 +6,11 @@ use Rattle.linear_law.specs.Lists.{Among, Each, IsAscending}
 use Rattle.linear_law.proofs.Counting.{apart_all}
 use Rattle.linear_law.proofs.ListLemmas.{each_among, each_map}
 use Rattle.linear_law.proofs.TriangularBases.{each_of_index}
+use Rattle.complex_file.specs.declared.block.ComplexBlock.{ComplexBlock}
+use Rattle.report.specs.declared.complex.ComplexPart.{ComplexPart}
 use Rattle.report_law.specs.Parts.{below_in, classes_of}
-use Rattle.report_law.specs.Reports.{AreMaximalFacets, IsMaximal, IsWithin}
-use Rattle.certificate_law.specs.Laws.{OwnFacetsLaw}
+use Rattle.report_law.specs.Reports.{AreMaximalFacets, IsComplexPart, IsMaximal, IsWithin}
+use Rattle.certificate_law.specs.Parts.{itself}
 use Rattle.certificate_law.proofs.PivotCounts.{ascending_apart}
 use Rattle.certificate_law.proofs.SameSimplices.{SameSimplices, are_primitives, classes_there, tables_there}
 
@@ -87,7 +89,7 @@ module _ (facets : List (List ℕ)) (ascending : Each IsAscending facets) where
         )
       ]
 
-  same_simplices : (listed : List (List ℕ)) → AreMaximalFacets facets listed → SameSimplices facets listed
+  pub same_simplices : (listed : List (List ℕ)) → AreMaximalFacets facets listed → SameSimplices facets listed
   same_simplices listed h = record {
     there = λ n s on.
         let total : ℕ = sum_over (λ (g : List ℕ). length g) facets in
@@ -96,8 +98,9 @@ module _ (facets : List (List ℕ)) (ascending : Each IsAscending facets) where
     back = λ n s on. record { ascending = on.ascending; size = on.size; facet = on.facet; listed = (each_among (IsMaximal facets) on.facet listed h.each on.listed).given; within = on.within };
   }
 
-pub own_facets_law : OwnFacetsLaw
-own_facets_law p block c ascending part =
+-- so what is listed of a complex is listed of the one that the listed facets give
+pub own_facets : (p : ℕ) (block : ComplexBlock) (c : ComplexPart) → Each IsAscending block.facets → IsComplexPart true true p block c → Each IsAscending c.facets × IsComplexPart true true p (itself c) c
+own_facets p block c ascending part =
     let listed = part.facets refl in
     let same = same_simplices block.facets ascending c.facets listed in
     let given : (f : List ℕ) → Among f c.facets → Among f block.facets = λ f m. (each_among (IsMaximal block.facets) f c.facets listed.each m).given in (

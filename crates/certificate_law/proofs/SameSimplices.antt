@@ -103,7 +103,7 @@ are_primitives {F} {G} h n p below a = record {
 coordinates_there : {F G : List (List ℕ)} → SameSimplices F G → (n p : ℕ) (zs : List Cochain) (z : Cochain) (cs : List ℕ) → HasCoordinates F n p zs z cs → HasCoordinates G n p zs z cs
 coordinates_there h n p zs z cs c = record { count = c.count; small = c.small; rest = coboundary_there h n p _ c.rest }
 
-column_there : {F G : List (List ℕ)} → SameSimplices F G → (d : Bool) (n p : ℕ) (zs : List Cochain) (z : Cochain) (values : List ℕ) (primitive : Chain) → IsColumn d F n p zs z values primitive → IsColumn d G n p zs z values primitive
+pub column_there : {F G : List (List ℕ)} → SameSimplices F G → (d : Bool) (n p : ℕ) (zs : List Cochain) (z : Cochain) (values : List ℕ) (primitive : Chain) → IsColumn d F n p zs z values primitive → IsColumn d G n p zs z values primitive
 column_there h d n p zs z values primitive c = record { coordinates = coordinates_there h n p zs z values c.coordinates; rest = λ t. primitive_there h n p _ primitive (c.rest t) }
 
 operation_there : {F G : List (List ℕ)} → SameSimplices F G → (p : ℕ) (op : Op) (q : ℕ) (a b : Cochain) → IsOperation F p op q a b → IsOperation G p op q a b

@@ -1,8 +1,8 @@
 -- The laws of certificates.
-use Rattle.std.specs.Prelude.{◌≡◌, ℕ, ◌+◌, ◌^◌, true, None, List, map, length, IsTrue}
-use Rattle.linear_law.specs.Lists.{Each, IsAscending}
-use Rattle.fp_field.specs.Served.{served}
-use Rattle.complex_file.specs.declared.block.ComplexBlock.{ComplexBlock}
+use Rattle.std.specs.Prelude.{◌≡◌, ℕ, ◌+◌, ◌^◌, true, List, map, length}
+use Rattle.linear_law.specs.Lists.{Each}
+use Rattle.complex_file.specs.Input.{Spelled}
+use Rattle.complex_file.specs.Jobs.{is_job}
 use Rattle.report.specs.declared.columns.CartanAnswer.{CartanAnswer}
 use Rattle.report.specs.declared.columns.CartanAnswer.TheVariants.{Yes, No}
 use Rattle.report.specs.declared.columns.CartanPart.{CartanPart}
@@ -11,15 +11,13 @@ use Rattle.report.specs.declared.form.Form.TheVariants.{Certificate}
 use Rattle.report.specs.declared.job.Report.{Report}
 use Rattle.report.specs.declared.map.MapPart.{MapPart}
 use Rattle.report_law.specs.Headline.{ComplexPromise, InducedPromise}
-use Rattle.report_law.specs.Live.{induced_degrees}
-use Rattle.report_law.specs.Parts.{classes_of, ranks_of}
-use Rattle.report_law.specs.Reports.{IsComplexPart, IsInducedPart}
-use Rattle.report_law.specs.Terms.{passing_sum, sizes_of}
+use Rattle.report_law.specs.Reports.{IsReportOf}
+use Rattle.report_law.specs.Terms.{IsWithinLimit}
 use Rattle.report_text_law.specs.declared.line.Line.{Line}
 use Rattle.report_text_law.specs.declared.line.Line.TheVariants.{Below as below_line, CartanNo as cartan_no, CartanYes as cartan_yes, Class as class_line, Column as column_line, Complex as complex_line, Cycle as cycle_line, Degree as degree_line, Done as done_line, End as end_line, Facet as facet_line, Heading as heading_line, Induced as induced_line, Map as map_line, Operation as operation_line, Pair as pair_line, Prime as prime_line, Product as product_line, With as with_line}
 use Rattle.report_text_law.specs.Lines.{certificate_lines, send_of}
 use Rattle.report_text_law.specs.WellFormed.{is_well_formed}
-use Rattle.certificate_law.specs.Certifies.{Certifies, FailsFirst, Holds}
+use Rattle.certificate_law.specs.Certifies.{Certifies, FailsFirst}
 use Rattle.certificate_law.specs.Parts.{complex_named, itself, sent_by}
 use Rattle.certificate_law.specs.Stated.{Stated, stated, heading, prime_is, complex_opens, facet_stands, degree_opens, below_stands, class_stands, product_opens, product_column, operation_opens, operation_column, cartan_stands, with_stands, cycle_stands, complex_ends, map_opens, send_stands, induced_opens, induced_column, map_ends, finish}
 
@@ -74,22 +72,6 @@ line_said (finish cs) = done_line
 abbrev pub StatedLinesLaw : Type 0
 StatedLinesLaw = (r : Report) → map line_said (stated r) ≡ certificate_lines r.prime r.complexes r.maps
 
--- The facets that lie in no other give the same complex: what is listed of a complex is listed of the one that the
--- listed facets give.
-abbrev pub OwnFacetsLaw : Type 0
-OwnFacetsLaw = (p : ℕ) (block : ComplexBlock) (c : ComplexPart) → Each IsAscending block.facets → IsComplexPart true true p block c →
-    Each IsAscending c.facets × IsComplexPart true true p (itself c) c
-
--- What is listed are the canonical data of the complexes that the listed facets give, and of the maps between them.
-pub record IsCanonical (r : Report) : Type 0 where
-  pub prime : IsTrue (served r.prime)
-  pub facets : Each (λ c. Each IsAscending c.facets) r.complexes
-  pub complexes : Each (λ c. IsComplexPart true true r.prime (itself c) c) r.complexes
-  pub induced : Each (λ m. map (λ x. x.q) m.induced
-      ≡ induced_degrees (ranks_of (complex_named r.complexes m.from)) (ranks_of (complex_named r.complexes m.to))) r.maps
-  pub induced_parts : Each (λ m. Each (IsInducedPart true (sent_by m) (complex_named r.complexes m.from).facets r.prime
-      (classes_of (complex_named r.complexes m.from)) (classes_of (complex_named r.complexes m.to))) m.induced) r.maps
-
--- Canonical data certify, where the blocks are those of a job and the counted terms are within the limit.
+-- The certificate of a job certifies, where the counted terms are within the limit.
 abbrev pub CompleteLaw : Type 0
-CompleteLaw = (r : Report) → IsCanonical r → Holds 1 r → passing_sum r.prime (10 ^ 12) (map (λ c. sizes_of c.facets c) r.complexes) ≡ None → Certifies r
+CompleteLaw = (job : Spelled) (r : Report) → is_job job.prime job.complexes job.maps ≡ true → IsReportOf Certificate job r → IsWithinLimit job (10 ^ 12) → Certifies r

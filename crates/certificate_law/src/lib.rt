@@ -1,7 +1,7 @@
 //! When a report certifies, and what it shows then: definitions and laws.
 #![tactic(auto)]
 
-ghost use Rattle.certificate_law.specs.Laws.{CertifiedLaw, CompleteLaw, FirstFailureLaw, OwnFacetsLaw, StatedLinesLaw};
+ghost use Rattle.certificate_law.specs.Laws.{CertifiedLaw, CompleteLaw, FirstFailureLaw, StatedLinesLaw};
 ghost use Rattle.certificate_law.specs.Sections.{SectionLaw};
 
 /// A report that certifies does not fail, and another fails first at one line of one condition.
@@ -24,12 +24,7 @@ pub fn section_law()
     ensures { SectionLaw }
 {}
 
-/// Canonical data certify.
+/// The certificate of a job certifies.
 pub fn complete_law()
     ensures { CompleteLaw }
-{}
-
-/// The facets that lie in no other give the same complex.
-pub fn own_facets_law()
-    ensures { OwnFacetsLaw }
 {}

@@ -1,0 +1,367 @@
+-- The certificate of a job certifies.
+use Rattle.std.proofs.Common.{◌≡◌, ℕ, zero, suc, ◌+◌, ◌-◌, ◌^◌, ◌<◌, ◌≤◌, ◌&&◌, ◌⊎◌, not, nat_le, true, false, None, IsTrue, inl, inr, refl, sym, ◌∙◌, ap, ap₂, subst, arith, List, [], ◌∷◌, ◌++◌, length, map, get_or}
+use Rattle.std.specs.List.{AllZip, list_all}
+use Rattle.std.proofs.lemmas.Bool.{and_parts, leb-true}
+use Rattle.std.proofs.lemmas.List.{length-append}
+use Rattle.signed_sum.specs.Lists.{numbers_from}
+use Rattle.fp_field.specs.Served.{served}
+use Rattle.linear_law.specs.Lists.{Among, Each, IsApart, IsAscending}
+use Rattle.linear_law.proofs.ListLemmas.{among_left, among_right, each_among, each_append, each_map, each_right, zip_change}
+use Rattle.linear_law.proofs.TriangularBases.{each_of_index}
+use Rattle.simplicial_law.specs.Cochains.{Chain}
+use Rattle.simplicial_law.specs.ListedSimplices.{of_degree, simplices}
+use Rattle.simplicial_law.proofs.ListedSimplices.{simplices_sorted, simplices_sound, simplices_whole, sorted_in_order}
+use Rattle.complex_file.specs.declared.block.ComplexBlock.{ComplexBlock}
+use Rattle.complex_file.specs.declared.block.MapBlock.{MapBlock}
+use Rattle.complex_file.specs.declared.block.Sent.{Sent}
+use Rattle.complex_file.specs.Complexes.{complex_fault, is_complex, is_facet}
+use Rattle.complex_file.specs.Input.{Spelled}
+use Rattle.complex_file.specs.Jobs.{are_distinct, block_names, facets_at, has_name, is_job, is_map}
+use Rattle.complex_file.specs.Maps.{end_fault, image, is_vertex}
+use Rattle.complex_file.specs.Text.{is_name}
+use Rattle.complex_file.specs.Written.{name_at}
+use Rattle.std.specs.Prelude.{is_none}
+use Rattle.report.specs.declared.complex.ComplexPart.{ComplexPart}
+use Rattle.report.specs.declared.complex.DegreePart.{DegreePart}
+use Rattle.report.specs.declared.columns.CartanAnswer.{CartanAnswer}
+use Rattle.report.specs.declared.columns.CartanAnswer.TheVariants.{Yes, No}
+use Rattle.report.specs.declared.columns.CartanPart.{CartanPart}
+use Rattle.report.specs.declared.columns.Column.{Column}
+use Rattle.report.specs.declared.columns.OperationPart.{OperationPart}
+use Rattle.report.specs.declared.columns.PairColumn.{PairColumn}
+use Rattle.report.specs.declared.columns.ProductPart.{ProductPart}
+use Rattle.report.specs.declared.job.Report.{Report}
+use Rattle.report.specs.declared.map.InducedPart.{InducedPart}
+use Rattle.report.specs.declared.map.MapPart.{MapPart}
+use Rattle.report.specs.declared.plan.Sizes.{Sizes}
+use Rattle.report_law.specs.Live.{induced_degrees}
+use Rattle.report_law.specs.Matrices.{Classes, ranks}
+use Rattle.report_law.specs.Parts.{classes_of, part_at, ranks_of}
+use Rattle.report_law.specs.Reports.{AreMaximalFacets, IsComplexPart, IsInducedPart, IsMapPart, IsMaximal}
+use Rattle.report_law.specs.Terms.{AreSizes, passing_sum, sizes_of}
+use Rattle.report_law.proofs.HeadlineProof.{classes-at}
+use Rattle.report_law.proofs.Maps.{IsMapOf, any-among, job-complexes, job-maps, job-prime, no-end-fault, no-fault}
+use Rattle.report_law.proofs.OneSize.{sizes_law}
+use Rattle.report_law.proofs.Unique.{same-order}
+use Rattle.certificate_law.specs.Conditions.{IsBlockLine, complex_names, map_names}
+use Rattle.certificate_law.specs.Laws.{CompleteLaw}
+use Rattle.certificate_law.specs.Parts.{complex_named, itself, sent_by}
+use Rattle.certificate_law.specs.Stated.{Stated, after, answer_stated, behind, below_stands, cartan_stated, class_stands, complex_ends, complex_stated, degree_stated, facet_stands, finish, induced_column, induced_stated, map_between, map_ends, map_stated, numbered, operation_column, operation_stated, product_column, product_stated, send_stands, stated, with_stands}
+use Rattle.certificate_law.proofs.CompleteReports.{IsCanonical, canonical_certifies}
+use Rattle.certificate_law.proofs.JobBlocks.{FacetsFit, end_there, facet_lines, facets_fit, known_vertices, send_lines, vertex_there}
+use Rattle.certificate_law.proofs.JobMaps.{among-any, distinct_head, distinct_rest, induced_there, is_function, name_among, named_at, not_true, same_image}
+use Rattle.certificate_law.proofs.MaximalFacets.{own_facets, same_simplices}
+use Rattle.certificate_law.proofs.Places.{in_append}
+use Rattle.certificate_law.proofs.SameSimplices.{SameSimplices}
+
+-- ---- what a job keeps
+
+record Kept (cs : List ComplexBlock) (ms : List MapBlock) : Type 0 where
+  complexes : length cs ≤ 8
+  maps : length ms ≤ 8
+  distinct : are_distinct (block_names cs ms) ≡ true
+  fit : Each (λ b. FacetsFit b.facets) cs
+
+fit_of : (bs : List ComplexBlock) → list_all (λ b. is_complex b.facets) bs ≡ true → Each (λ b. FacetsFit b.facets) bs
+fit_of [] h = tt
+fit_of (b ∷ bs) h =
+    let parts = and_parts (is_complex b.facets) (list_all (λ (b : ComplexBlock). is_complex b.facets) bs) h in
+    (facets_fit b.facets (no-fault (complex_fault b.facets) (and_parts (list_all is_facet b.facets) (is_none (complex_fault b.facets)) parts.0).1), fit_of bs parts.1)
+
+kept_of : (p : ℕ) (cs : List ComplexBlock) (ms : List MapBlock) → is_job p cs ms ≡ true → Kept cs ms
+unfolding is_job
+kept_of p cs ms h =
+    let a = (and_parts (served p) _ h).1 in
+    let b = and_parts (nat_le (length cs) 8 && nat_le (length ms) 8) _ a in
+    let counts = and_parts (nat_le (length cs) 8) (nat_le (length ms) 8) b.0 in
+    let c = and_parts (list_all is_name (block_names cs ms) && are_distinct (block_names cs ms)) _ b.1 in
+    record {
+      complexes = leb-true (length cs) 8 counts.0;
+      maps = leb-true (length ms) 8 counts.1;
+      distinct = (and_parts (list_all is_name (block_names cs ms)) (are_distinct (block_names cs ms)) c.0).1;
+      fit = fit_of cs (and_parts (list_all (λ (b : ComplexBlock). is_complex b.facets) cs) (list_all (is_map cs) ms) c.1).0;
+    }
+
+not_among : (x : List ℕ) (xs : List (List ℕ)) → (Among x xs → ⊥) → not (has_name xs x) ≡ true
+not_among x xs n = ap not (not_true (has_name xs x) (λ e. n (any-among x xs e)))
+
+-- the names of complexes, and then of maps, each once
+record Names (cs ms : List (List ℕ)) : Type 0 where
+  complexes : are_distinct cs ≡ true
+  each : IsApart cs
+  maps : IsApart ms
+  apart : Each (λ m. Among m cs → ⊥) ms
+
+distinct_apart : (ns : List (List ℕ)) → are_distinct ns ≡ true → IsApart ns
+distinct_apart [] h = tt
+distinct_apart (n ∷ ns) h = (distinct_head n ns h, distinct_apart ns (distinct_rest n ns h))
+
+names_of : (cs ms : List (List ℕ)) → are_distinct (cs ++ ms) ≡ true → Names cs ms
+names_of [] ms h = record { complexes = refl; each = tt; maps = distinct_apart ms h; apart = each_of_index (λ (m : List ℕ). Among m [] → ⊥) ms (λ m k n. n) }
+names_of (c ∷ cs) ms h =
+    let rest = names_of cs ms (distinct_rest c (cs ++ ms) h) in
+    let none : Among c (cs ++ ms) → ⊥ = distinct_head c (cs ++ ms) h in
+    record {
+      complexes = ap₂ (λ a b. a && b) (not_among c cs (λ m. none (among_left c cs ms m))) rest.complexes;
+      each = ((λ m. none (among_left c cs ms m)), rest.each);
+      maps = rest.maps;
+      apart = each_of_index (λ (m : List ℕ). Among m (c ∷ cs) → ⊥) ms (λ m k n. elim n [
+        | inl e ↦ none (among_right c cs ms (subst (λ (x : List ℕ). Among x ms) (sym e) k))
+        | inr i ↦ each_among (λ (m : List ℕ). Among m cs → ⊥) m ms rest.apart k i
+      ]);
+    }
+
+-- ---- what is listed of a complex
+
+record IsListed (p : ℕ) (b : ComplexBlock) (c : ComplexPart) : Type 0 where
+  name : c.name ≡ b.name
+  ascending : Each IsAscending c.facets
+  part : IsComplexPart true true p (itself c) c
+  given_part : IsComplexPart true true p b c
+  same : SameSimplices b.facets c.facets
+  given : (f : List ℕ) → Among f c.facets → Among f b.facets
+  fit : FacetsFit b.facets
+  block_ascending : Each IsAscending b.facets
+
+listed_one : (p : ℕ) (b : ComplexBlock) (c : ComplexPart) → Each IsAscending b.facets → FacetsFit b.facets → IsComplexPart true true p b c → IsListed p b c
+listed_one p b c ascending fit part =
+    let own = own_facets p b c ascending part in
+    record {
+      name = part.name;
+      ascending = own.0;
+      part = own.1;
+      given_part = part;
+      same = same_simplices b.facets ascending c.facets (part.facets refl);
+      given = λ f m. (each_among (IsMaximal b.facets) f c.facets (part.facets refl).each m).given;
+      fit = fit;
+      block_ascending = ascending;
+    }
+
+all_listed : (p : ℕ) (bs : List ComplexBlock) (cs : List ComplexPart) → Each (λ b. Each IsAscending b.facets) bs → Each (λ b. FacetsFit b.facets) bs → AllZip (IsComplexPart true true p) bs cs → AllZip (IsListed p) bs cs
+all_listed p [] [] a f h = tt
+all_listed p [] (c ∷ cs) a f h = absurd h
+all_listed p (b ∷ bs) [] a f h = absurd h
+all_listed p (b ∷ bs) (c ∷ cs) a f h = (listed_one p b c a.0 f.0 h.0, all_listed p bs cs a.1 f.1 h.1)
+
+listed_at : (p : ℕ) (bs : List ComplexBlock) (cs : List ComplexPart) (k : ℕ) → k < length bs → AllZip (IsListed p) bs cs → IsListed p (get_or bs k (record { name = []; facets = [] })) (part_at cs k)
+listed_at p [] cs k l h = absurd (omega (arith, l))
+listed_at p (b ∷ bs) [] k l h = absurd h
+listed_at p (b ∷ bs) (c ∷ cs) zero l h = h.0
+listed_at p (b ∷ bs) (c ∷ cs) (suc k) l h = listed_at p bs cs k (omega (arith, l)) h.1
+
+-- the sizes of the job are those of the complexes that the listed facets give
+same_sizes : (p : ℕ) → IsTrue (served p) → (bs : List ComplexBlock) (cs : List ComplexPart) (zs : List Sizes) → AllZip (IsListed p) bs cs → AllZip (λ b z. AreSizes p b.facets z) bs zs → zs ≡ map (λ c. sizes_of c.facets c) cs
+same_sizes p s [] [] [] h k = refl
+same_sizes p s [] [] (z ∷ zs) h k = absurd k
+same_sizes p s [] (c ∷ cs) zs h k = absurd h
+same_sizes p s (b ∷ bs) [] zs h k = absurd h
+same_sizes p s (b ∷ bs) (c ∷ cs) [] h k = absurd k
+same_sizes p s (b ∷ bs) (c ∷ cs) (z ∷ zs) h k =
+    let F = b.facets in
+    let G = c.facets in
+    let there : (x : List ℕ) → Among x (simplices F) → Among x (simplices G) =
+    λ x m. simplices_whole G (length x - 1) x h.0.ascending (h.0.same.there (length x - 1) x (simplices_sound F x h.0.block_ascending m)) in
+    let back : (x : List ℕ) → Among x (simplices G) → Among x (simplices F) =
+    λ x m. simplices_whole F (length x - 1) x h.0.block_ascending (h.0.same.back (length x - 1) x (simplices_sound G x h.0.ascending m)) in
+    let e : simplices F ≡ simplices G = same-order (simplices F) (simplices G) (sorted_in_order (simplices F) (simplices_sorted F)) (sorted_in_order (simplices G) (simplices_sorted G)) there back in
+    ap₂ ◌∷◌
+    (sizes_law.one p F z (sizes_of F c) s h.0.block_ascending k.0 (sizes_law.listed true true p b c h.0.given_part)
+    ∙ ap (λ (ss : List (List ℕ)). record { simplices = map (λ n. length (of_degree n ss)) (numbers_from 0 (length c.degrees)); ranks = ranks_of c }) e)
+    (same_sizes p s bs cs zs h.1 k.1)
+
+-- ---- lines of which the first condition asks nothing
+
+free_columns : {X : Type 0} (line : ℕ → X → Stated) (chain : X → Chain) → ((j : ℕ) (x : X) → IsBlockLine (line j x)) → (j : ℕ) (xs : List X) → Each IsBlockLine (numbered (λ j y. line j y ∷ with_stands (chain y) ∷ []) j xs)
+free_columns line chain f j [] = tt
+free_columns line chain f j (x ∷ xs) = (f j x, (tt, free_columns line chain f (j + 1) xs))
+
+free_after : (line : List Chain → Chain → Stated) → ((b : List Chain) (y : Chain) → IsBlockLine (line b y)) → (b ys : List Chain) → Each IsBlockLine (after (λ b y. line b y ∷ []) b ys)
+free_after line f b [] = tt
+free_after line f b (y ∷ ys) = (f b y, free_after line f (y ∷ b) ys)
+
+free_numbered : {X : Type 0} (line : ℕ → X → List Stated) → ((k : ℕ) (x : X) → Each IsBlockLine (line k x)) → (k : ℕ) (xs : List X) → Each IsBlockLine (numbered line k xs)
+free_numbered line f k [] = tt
+free_numbered line f k (x ∷ xs) = each_append IsBlockLine (line k x) (numbered line (k + 1) xs) (f k x) (free_numbered line f (k + 1) xs)
+
+free_answer : (answer : CartanAnswer) → IsBlockLine (answer_stated answer)
+free_answer (Yes primitive) = tt
+free_answer (No value cycle) = tt
+
+complex_free : (c : ComplexPart) → Each IsBlockLine (numbered (degree_stated c) 0 c.degrees ++ (numbered (product_stated c) 0 c.products ++ (numbered (operation_stated c) 0 c.operations ++ (numbered (cartan_stated c) 0 c.cartans ++ complex_ends c ∷ []))))
+complex_free c =
+    let ds = numbered (degree_stated c) 0 c.degrees in
+    let xs = numbered (product_stated c) 0 c.products in
+    let os = numbered (operation_stated c) 0 c.operations in
+    let cs = numbered (cartan_stated c) 0 c.cartans in
+    let es : List Stated = complex_ends c ∷ [] in
+    each_append IsBlockLine ds (xs ++ (os ++ (cs ++ es)))
+    (free_numbered (degree_stated c) (λ n d. (tt, each_append IsBlockLine (after (λ b y. below_stands c n b y ∷ []) [] d.below) (after (λ b z. class_stands c n b z ∷ []) [] d.classes)
+    (free_after (below_stands c n) (λ b y. tt) [] d.below) (free_after (class_stands c n) (λ b z. tt) [] d.classes))) 0 c.degrees)
+    (each_append IsBlockLine xs (os ++ (cs ++ es)) (free_numbered (product_stated c) (λ k x. (tt, free_columns (product_column c x) (λ y. y.primitive) (λ j y. tt) 0 x.columns)) 0 c.products)
+    (each_append IsBlockLine os (cs ++ es) (free_numbered (operation_stated c) (λ k x. (tt, free_columns (operation_column c x) (λ y. y.primitive) (λ j y. tt) 0 x.columns)) 0 c.operations)
+    (each_append IsBlockLine cs es (free_numbered (cartan_stated c) (λ k x. (tt, (free_answer x.answer, tt))) 0 c.cartans) (tt, tt))))
+
+-- ---- complexes
+
+complexes_fit : (p : ℕ) (before : List ComplexPart) (bs : List ComplexBlock) (cs : List ComplexPart) → AllZip (IsListed p) bs cs → length before + length bs ≤ 8 → IsApart (map (λ b. b.name) bs) → Each (λ n. Among n (complex_names before) → ⊥) (map (λ b. b.name) bs)
+    → Each IsBlockLine (behind complex_stated before cs)
+complexes_fit p before [] [] h l a n = tt
+complexes_fit p before [] (c ∷ cs) h l a n = absurd h
+complexes_fit p before (b ∷ bs) [] h l a n = absurd h
+complexes_fit p before (b ∷ bs) (c ∷ cs) h l a n =
+    let q = h.0 in
+    let fs = behind (λ (fs : List (List ℕ)) f. facet_stands fs f ∷ []) [] c.facets in
+    each_append IsBlockLine (complex_stated before c) (behind complex_stated (before ++ c ∷ []) cs)
+    (
+      record { few = omega (arith, l); new = not_true (has_name (complex_names before) c.name) (λ e. n.0 (subst (λ (x : List ℕ). Among x (complex_names before)) q.name (any-among c.name (complex_names before) e))) },
+      each_append IsBlockLine fs _ (facet_lines b.facets q.fit [] c.facets q.given) (complex_free c),
+    )
+    (complexes_fit p (before ++ c ∷ []) bs cs h.1 (let k = length-append before (c ∷ []) in omega (arith, l, k)) a.1
+    (each_of_index (λ (x : List ℕ). Among x (complex_names (before ++ c ∷ [])) → ⊥) (map (λ (b : ComplexBlock). b.name) bs) (λ x m i.
+    elim (names_push before c x i) [
+      | inl k ↦ each_among (λ (x : List ℕ). Among x (complex_names before) → ⊥) x (map (λ (b : ComplexBlock). b.name) bs) n.1 m k
+      | inr e ↦ a.0 (subst (λ (y : List ℕ). Among y (map (λ (b : ComplexBlock). b.name) bs)) (sym e ∙ q.name) m)
+    ])))
+  where
+    names_push : (cs : List ComplexPart) (c : ComplexPart) (x : List ℕ) → Among x (complex_names (cs ++ c ∷ [])) → Among x (complex_names cs) ⊎ (c.name ≡ x)
+    names_push [] c x m = elim m [ inl e ↦ inr e | inr none ↦ elim none [ ] ]
+    names_push (d ∷ cs) c x m = elim m [ inl e ↦ inl (inl e) | inr k ↦ elim (names_push cs c x k) [ inl i ↦ inl (inr i) | inr e ↦ inr e ] ]
+
+same_names : (p : ℕ) (bs : List ComplexBlock) (cs : List ComplexPart) → AllZip (IsListed p) bs cs → complex_names cs ≡ map (λ b. b.name) bs
+same_names p [] [] h = refl
+same_names p [] (c ∷ cs) h = absurd h
+same_names p (b ∷ bs) [] h = absurd h
+same_names p (b ∷ bs) (c ∷ cs) h = ap₂ ◌∷◌ h.0.name (same_names p bs cs h.1)
+
+-- ---- maps
+
+-- what is listed of a map between two of the complexes
+record MapFits (p : ℕ) (cs : List ComplexPart) (b : MapBlock) (m : MapPart) (from to : ComplexPart) : Type 0 where
+  name : m.name ≡ b.name
+  from_named : has_name (complex_names cs) m.from ≡ true
+  to_named : has_name (complex_names cs) m.to ≡ true
+  known : Each (λ s. (is_vertex from.facets s.from ≡ true) × (is_vertex to.facets s.to ≡ true)) m.sends
+  ascending : IsAscending (map (λ s. s.from) m.sends)
+  ends : end_fault from.facets to.facets m.sends ≡ None
+  induced : map (λ x. x.q) m.induced ≡ induced_degrees (ranks_of from) (ranks_of to)
+  parts : Each (IsInducedPart true (sent_by m) from.facets p (classes_of from) (classes_of to)) m.induced
+
+module _ (job : Spelled) (cs : List ComplexPart) (all : AllZip (IsListed job.prime) job.complexes cs) (distinct : are_distinct (map (λ b. b.name) job.complexes) ≡ true) where
+  abbrev IsMapFit : MapBlock → MapPart → Type 0
+  IsMapFit b m = MapFits job.prime cs b m (complex_named cs m.from) (complex_named cs m.to)
+
+  at_name : (k : ℕ) → k < length job.complexes → complex_named cs (name_at job.complexes k) ≡ part_at cs k
+  at_name k l =
+      named_at job.prime job.complexes cs k l distinct
+      (zip_change (IsListed job.prime) (IsComplexPart true true job.prime) (λ b c (q : IsListed job.prime b c). q.given_part) job.complexes cs all)
+
+  is_named : (k : ℕ) → k < length job.complexes → has_name (complex_names cs) (name_at job.complexes k) ≡ true
+  is_named k l =
+      among-any (name_at job.complexes k) (complex_names cs)
+      (subst (λ (ns : List (List ℕ)). Among (name_at job.complexes k) ns) (sym (same_names job.prime job.complexes cs all)) (name_among job.complexes k l))
+
+  map_fits : (b : MapBlock) (m : MapPart) → IsMapOf job.complexes b → IsMapPart true job (map classes_of cs) b m → IsMapFit b m
+  map_fits b m is h =
+      let F = facets_at job.complexes b.from in
+      let H = facets_at job.complexes b.to in
+      let K = part_at cs b.from in
+      let L = part_at cs b.to in
+      let from = listed_at job.prime job.complexes cs b.from is.from all in
+      let to = listed_at job.prime job.complexes cs b.to is.to all in
+      let sends = h.sends refl in
+      let images = same_image b.sends m.sends (is_function F H [] 0 b.sends is.free) sends in
+      let vertices = known_vertices F H [] 0 b.sends is.free in
+      let P : Sent → Type 0 = λ s. (is_vertex F s.from ≡ true) × (is_vertex H s.to ≡ true) in
+      let fits : MapFits job.prime cs b m K L = record {
+        name = h.name;
+        from_named = ap (has_name (complex_names cs)) h.from_name ∙ is_named b.from is.from;
+        to_named = ap (has_name (complex_names cs)) h.to_name ∙ is_named b.to is.to;
+        known = each_of_index (λ (s : Sent). (is_vertex K.facets s.from ≡ true) × (is_vertex L.facets s.to ≡ true)) m.sends (λ s k.
+            let v = each_among P s b.sends vertices (each_among (λ (s : Sent). Among s b.sends) s m.sends sends.each k) in
+            (vertex_there from.same from.block_ascending s.from v.0, vertex_there to.same to.block_ascending s.to v.1));
+        ascending = sends.ascending;
+        ends = end_there F K.facets from.given to.same to.block_ascending to.ascending b.sends m.sends images (λ s k. each_among (λ (s : Sent). Among s m.sends) s b.sends sends.all k)
+            (no-end-fault F H [] 0 b.sends is.free);
+        induced = subst (λ (k : Classes). map (λ x. x.q) m.induced ≡ induced_degrees (ranks k) (ranks (classes_of L))) (classes-at cs b.from)
+            (subst (λ (k : Classes). map (λ x. x.q) m.induced ≡ induced_degrees (ranks (get_or (map classes_of cs) b.from [])) (ranks k)) (classes-at cs b.to) h.induced);
+        parts = each_map (λ x k. induced_there from.same (image b.sends) (sent_by m) (λ v. sym (images v)) job.prime (classes_of K) (classes_of L) x k) m.induced
+            (subst (λ (k : Classes). Each (IsInducedPart true (image b.sends) F job.prime k (classes_of L)) m.induced) (classes-at cs b.from)
+            (subst (λ (k : Classes). Each (IsInducedPart true (image b.sends) F job.prime (get_or (map classes_of cs) b.from []) k) m.induced) (classes-at cs b.to) h.induced_parts));
+      } in
+      subst (λ (c : ComplexPart). MapFits job.prime cs b m c (complex_named cs m.to)) (sym (ap (complex_named cs) h.from_name ∙ at_name b.from is.from))
+      (subst (λ (c : ComplexPart). MapFits job.prime cs b m K c) (sym (ap (complex_named cs) h.to_name ∙ at_name b.to is.to)) fits)
+
+  all_fit : (bs : List MapBlock) (ms : List MapPart) → Each (IsMapOf job.complexes) bs → AllZip (IsMapPart true job (map classes_of cs)) bs ms → AllZip IsMapFit bs ms
+  all_fit [] [] is h = tt
+  all_fit [] (m ∷ ms) is h = absurd h
+  all_fit (b ∷ bs) [] is h = absurd h
+  all_fit (b ∷ bs) (m ∷ ms) is h = (map_fits b m is.0 h.0, all_fit bs ms is.1 h.1)
+
+  maps_fit : (before : List MapPart) (bs : List MapBlock) (ms : List MapPart) → AllZip IsMapFit bs ms → length before + length bs ≤ 8 → IsApart (map (λ b. b.name) bs) → Each (λ n. Among n (complex_names cs) → ⊥) (map (λ b. b.name) bs)
+      → Each (λ n. Among n (map_names before) → ⊥) (map (λ b. b.name) bs) → Each IsBlockLine (behind (map_stated cs) before ms)
+  maps_fit before [] [] h l a c n = tt
+  maps_fit before [] (m ∷ ms) h l a c n = absurd h
+  maps_fit before (b ∷ bs) [] h l a c n = absurd h
+  maps_fit before (b ∷ bs) (m ∷ ms) h l a c n =
+      let q = h.0 in
+      let from = complex_named cs m.from in
+      let to = complex_named cs m.to in
+      let ss = behind (λ (ss : List Sent) s. send_stands from to ss s ∷ []) [] m.sends in
+      let is = numbered (induced_stated from to m) 0 m.induced in
+      let new : has_name (complex_names cs ++ map_names before) m.name ≡ false =
+      not_true (has_name (complex_names cs ++ map_names before) m.name) (λ e. elim (in_append m.name (complex_names cs) (map_names before) (any-among m.name (complex_names cs ++ map_names before) e)) [
+        | inl k ↦ c.0 (subst (λ (x : List ℕ). Among x (complex_names cs)) q.name k)
+        | inr k ↦ n.0 (subst (λ (x : List ℕ). Among x (map_names before)) q.name k)
+      ]) in
+      each_append IsBlockLine (map_stated cs before m) (behind (map_stated cs) (before ++ m ∷ []) ms)
+      (
+        record { few = omega (arith, l); new = new; from = q.from_named; to = q.to_named },
+        each_append IsBlockLine ss (is ++ map_ends from to m ∷ []) (send_lines from to [] m.sends q.known q.ascending (λ x k. elim k [ ]))
+            (each_append IsBlockLine is (map_ends from to m ∷ []) (free_numbered (induced_stated from to m) (λ k x. (tt, free_columns (induced_column from to m x) (λ y. y.primitive) (λ j y. tt) 0 x.columns)) 0 m.induced) (q.ends, tt)),
+      )
+      (maps_fit (before ++ m ∷ []) bs ms h.1 (let k = length-append before (m ∷ []) in omega (arith, l, k)) a.1 c.1
+      (each_of_index (λ (x : List ℕ). Among x (map_names (before ++ m ∷ [])) → ⊥) (map (λ (b : MapBlock). b.name) bs) (λ x k i.
+      elim (map_names_push before m x i) [
+        | inl j ↦ each_among (λ (x : List ℕ). Among x (map_names before) → ⊥) x (map (λ (b : MapBlock). b.name) bs) n.1 k j
+        | inr e ↦ a.0 (subst (λ (y : List ℕ). Among y (map (λ (b : MapBlock). b.name) bs)) (sym e ∙ q.name) k)
+      ])))
+    where
+      map_names_push : (ms : List MapPart) (m : MapPart) (x : List ℕ) → Among x (map_names (ms ++ m ∷ [])) → Among x (map_names ms) ⊎ (m.name ≡ x)
+      map_names_push [] m x k = elim k [ inl e ↦ inr e | inr none ↦ elim none [ ] ]
+      map_names_push (d ∷ ms) m x k = elim k [ inl e ↦ inl (inl e) | inr k ↦ elim (map_names_push ms m x k) [ inl i ↦ inl (inr i) | inr e ↦ inr e ] ]
+
+-- ---- the job
+
+pub complete_law : CompleteLaw
+complete_law job r is h limit =
+    let p : ℕ = job.prime in
+    let kept = kept_of p job.complexes job.maps is in
+    let s : IsTrue (served p) = job-prime p job.complexes job.maps is in
+    let names = names_of (map (λ (b : ComplexBlock). b.name) job.complexes) (map (λ (b : MapBlock). b.name) job.maps) kept.distinct in
+    let all = all_listed p job.complexes r.complexes (job-complexes p job.complexes job.maps is) kept.fit h.complexes in
+    let maps = all_fit job r.complexes all names.complexes job.maps r.maps (job-maps p job.complexes job.maps is) (h.maps refl) in
+    let fit : MapBlock → MapPart → Type 0 = λ b m. MapFits p r.complexes b m (complex_named r.complexes m.from) (complex_named r.complexes m.to) in
+    let canonical : IsCanonical p r = record {
+      prime = s;
+      facets = each_right (IsListed p) (λ (c : ComplexPart). Each IsAscending c.facets) (λ b c q. q.ascending) job.complexes r.complexes all;
+      complexes = each_right (IsListed p) (λ (c : ComplexPart). IsComplexPart true true p (itself c) c) (λ b c q. q.part) job.complexes r.complexes all;
+      induced = each_right fit (λ (m : MapPart). map (λ x. x.q) m.induced ≡ induced_degrees (ranks_of (complex_named r.complexes m.from)) (ranks_of (complex_named r.complexes m.to))) (λ b m q. q.induced) job.maps r.maps maps;
+      induced_parts = each_right fit (λ (m : MapPart). Each (IsInducedPart true (sent_by m) (complex_named r.complexes m.from).facets p (classes_of (complex_named r.complexes m.from)) (classes_of (complex_named r.complexes m.to))) m.induced)
+          (λ b m q. q.parts) job.maps r.maps maps;
+    } in
+    let sizes : limit.sizes ≡ map (λ c. sizes_of c.facets c) r.complexes = same_sizes p s job.complexes r.complexes limit.sizes all limit.are in
+    let within : passing_sum p (10 ^ 12) (map (λ c. sizes_of c.facets c) r.complexes) ≡ None = subst (λ (zs : List Sizes). passing_sum p (10 ^ 12) zs ≡ None) sizes limit.within in
+    let nothing : (ns : List (List ℕ)) → Each (λ n. Among n [] → ⊥) ns = λ ns. each_of_index (λ (n : List ℕ). Among n [] → ⊥) ns (λ n m k. k) in
+    let apart = subst (λ (ns : List (List ℕ)). Each (λ m. Among m ns → ⊥) (map (λ (b : MapBlock). b.name) job.maps)) (sym (same_names p job.complexes r.complexes all)) names.apart in
+    canonical_certifies r (subst (λ (q : ℕ). IsCanonical q r) (sym h.prime) canonical)
+    (
+      tt,
+      (
+        tt,
+        each_append IsBlockLine (behind complex_stated [] r.complexes) (behind (map_stated r.complexes) [] r.maps ++ finish r.complexes ∷ [])
+            (complexes_fit p [] job.complexes r.complexes all (let k = kept.complexes in omega (arith, k)) names.each (nothing (map (λ (b : ComplexBlock). b.name) job.complexes)))
+            (each_append IsBlockLine (behind (map_stated r.complexes) [] r.maps) (finish r.complexes ∷ [])
+            (maps_fit job r.complexes all names.complexes [] job.maps r.maps maps (let k = kept.maps in omega (arith, k)) names.maps apart (nothing (map (λ (b : MapBlock). b.name) job.maps))) (tt, tt)),
+      ),
+    )
+    (subst (λ (q : ℕ). passing_sum q (10 ^ 12) (map (λ c. sizes_of c.facets c) r.complexes) ≡ None) (sym h.prime) within)

@@ -1,0 +1,183 @@
+-- The complexes of a job by their names, and the maps between them, as a certificate lists them.
+use Rattle.std.proofs.Common.{◌≡◌, ℕ, zero, suc, ◌+◌, ◌<◌, ◌≤◌, ◌⊎◌, inl, inr, ◌&&◌, ◌||◌, ◌==◌, Bool, true, false, not, cond, IsTrue, refl, sym, ◌∙◌, ap, ap₂, subst, arith, List, [], ◌∷◌, ◌++◌, length, map, get_or, None, Some}
+use Rattle.std.specs.Prelude.{if◌then◌else◌}
+use Rattle.std.specs.List.{AllZip, list_any}
+use Rattle.std.specs.Str.{bytes_eq}
+use Rattle.std.proofs.lemmas.Bool.{and_parts, eq-eqb, eqb-true}
+use Rattle.linear_law.specs.Lists.{Among, Each}
+use Rattle.linear_law.proofs.ListLemmas.{among_left, among_map, among_right, each_among, each_map, zip_change}
+use Rattle.simplicial_law.specs.Cochains.{Cochain}
+use Rattle.steenrod_law.specs.Operations.{pull_back}
+use Rattle.complex_file.specs.declared.block.ComplexBlock.{ComplexBlock}
+use Rattle.complex_file.specs.declared.block.MapBlock.{MapBlock}
+use Rattle.complex_file.specs.declared.block.Sent.{Sent}
+use Rattle.complex_file.specs.declared.kind.InputKind.{InputKind}
+use Rattle.complex_file.specs.declared.kind.InputKind.TheVariants.{VertexSentTwice, VertexUnknown}
+use Rattle.complex_file.specs.Jobs.{are_distinct, facets_at, has_name}
+use Rattle.complex_file.specs.Maps.{first_send_fault, image, is_sent, is_vertex, send_fault}
+use Rattle.complex_file.specs.Written.{name_at}
+use Rattle.report.specs.declared.columns.Column.{Column}
+use Rattle.report.specs.declared.complex.ComplexPart.{ComplexPart}
+use Rattle.report.specs.declared.map.InducedPart.{InducedPart}
+use Rattle.report_law.specs.Columns.{IsColumn}
+use Rattle.report_law.specs.Matrices.{Classes, cochains_in}
+use Rattle.report_law.specs.Parts.{part_at}
+use Rattle.report_law.specs.Reports.{AreOrderedSends, IsComplexPart, IsInducedPart}
+use Rattle.report_law.proofs.Maps.{no-earlier, same-bytes}
+use Rattle.certificate_law.specs.Parts.{complex_named}
+use Rattle.certificate_law.proofs.SameSimplices.{SameSimplices, column_there}
+
+-- ---- names
+
+pub eqb_same : (n : ℕ) → (n == n) ≡ true
+eqb_same n = eq-eqb n n refl
+
+bytes_same : (bs : List ℕ) → bytes_eq bs bs ≡ true
+bytes_same [] = refl
+bytes_same (b ∷ bs) = ap₂ (λ x y. x && y) (eqb_same b) (bytes_same bs)
+
+pub or_right : (a b : Bool) → b ≡ true → (a || b) ≡ true
+or_right true b h = refl
+or_right false b h = h
+
+pub among-any : (x : List ℕ) (ys : List (List ℕ)) → Among x ys → list_any (bytes_eq x) ys ≡ true
+among-any x [] m = elim m [ ]
+among-any x (y ∷ ys) m = elim m [
+  | inl e ↦ ap (λ b. b || list_any (bytes_eq x) ys) (ap (bytes_eq x) e ∙ bytes_same x)
+  | inr k ↦ or_right (bytes_eq x y) (list_any (bytes_eq x) ys) (among-any x ys k)
+]
+
+pub true_or_false : (b : Bool) → (b ≡ true) ⊎ (b ≡ false)
+true_or_false true = inl refl
+true_or_false false = inr refl
+
+pub not_true : (b : Bool) → (b ≡ true → ⊥) → b ≡ false
+not_true b n = elim (true_or_false b) [ inl e ↦ absurd (n e) | inr e ↦ e ]
+
+pub not_both : (b : Bool) → b ≡ true → b ≡ false → ⊥
+not_both true h k = cc
+not_both false h k = cc
+
+pub distinct_head : (n : List ℕ) (ns : List (List ℕ)) → are_distinct (n ∷ ns) ≡ true → Among n ns → ⊥
+distinct_head n ns h m = go (has_name ns n) (among-any n ns m) (and_parts (not (has_name ns n)) (are_distinct ns) h).0
+  where
+    go : (b : Bool) → b ≡ true → not b ≡ true → ⊥
+    go true e k = cc
+    go false e k = cc
+
+pub distinct_rest : (n : List ℕ) (ns : List (List ℕ)) → are_distinct (n ∷ ns) ≡ true → are_distinct ns ≡ true
+distinct_rest n ns h = (and_parts (not (has_name ns n)) (are_distinct ns) h).1
+
+pub name_among : (bs : List ComplexBlock) (k : ℕ) → k < length bs → Among (name_at bs k) (map (λ b. b.name) bs)
+name_among [] k l = absurd (omega (arith, l))
+name_among (b ∷ bs) zero l = inl refl
+name_among (b ∷ bs) (suc k) l = inr (name_among bs k (omega (arith, l)))
+
+-- the complex with the name of a block is what is listed of the block
+pub named_at : (p : ℕ) (bs : List ComplexBlock) (cs : List ComplexPart) (k : ℕ) → k < length bs → are_distinct (map (λ b. b.name) bs) ≡ true → AllZip (IsComplexPart true true p) bs cs → complex_named cs (name_at bs k) ≡ part_at cs k
+named_at p [] cs k l d h = absurd (omega (arith, l))
+named_at p (b ∷ bs) [] k l d h = absurd h
+named_at p (b ∷ bs) (c ∷ cs) zero l d h = ap (λ t. cond t c (complex_named cs b.name)) (ap (bytes_eq b.name) h.0.name ∙ bytes_same b.name)
+named_at p (b ∷ bs) (c ∷ cs) (suc k) l d h =
+    let name = name_at bs k in
+    let m = name_among bs k (omega (arith, l)) in
+    let other : bytes_eq name c.name ≡ false = not_true (bytes_eq name c.name) (λ e. distinct_head b.name (map (λ (b : ComplexBlock). b.name) bs) d
+        (subst (λ (n : List ℕ). Among n (map (λ (b : ComplexBlock). b.name) bs)) (same-bytes name c.name e ∙ h.0.name) m)) in
+    ap (λ t. cond t c (complex_named cs name)) other ∙ named_at p bs cs k (omega (arith, l)) (distinct_rest b.name (map (λ (b : ComplexBlock). b.name) bs) d) h.1
+
+-- ---- sends
+
+pub any_sent : (before : List Sent) (v : ℕ) (x : Sent) → Among x before → v ≡ x.from → is_sent before v ≡ true
+any_sent [] v x m e = elim m [ ]
+any_sent (s ∷ before) v x m e = elim m [
+  | inl q ↦ ap (λ b. b || is_sent before v) (subst (λ (w : ℕ). (v == w) ≡ true) (e ∙ ap (λ (t : Sent). t.from) (sym q)) (eqb_same v))
+  | inr k ↦ or_right (v == s.from) (is_sent before v) (any_sent before v x k e)
+]
+
+-- a send that has no fault is of a vertex that was not sent before
+unsent : (a b : Bool) → if not a then Some VertexUnknown else (if b then Some VertexSentTwice else None) ≡ None → b ≡ true → ⊥
+unsent true true h e = cc
+unsent true false h e = cc
+unsent false true h e = cc
+unsent false false h e = cc
+
+-- sends of one vertex are one
+pub IsFunction : List Sent → Type 0
+IsFunction ss = (s t : Sent) → Among s ss → Among t ss → s.from ≡ t.from → s.to ≡ t.to
+
+-- where no send has a fault, sends of one vertex are one
+module _ (from to : List (List ℕ)) where
+  fresh : (before : List Sent) (at : ℕ) (ss : List Sent) → first_send_fault from to before at ss ≡ None → (t : Sent) → Among t ss → (x : Sent) → Among x before → t.from ≡ x.from → ⊥
+  fresh before at [] h t m x k e = elim m [ ]
+  fresh before at (s ∷ ss) h t m x k e =
+      let parts = no-earlier (send_fault from to before s) at (first_send_fault from to (before ++ s ∷ []) (at + 1) ss) h in
+      elim m [
+        | inl q ↦ unsent (is_vertex from s.from && is_vertex to s.to) (is_sent before s.from) parts.0 (any_sent before s.from x k (ap (λ (u : Sent). u.from) q ∙ e))
+        | inr n ↦ fresh (before ++ s ∷ []) (at + 1) ss parts.1 t n x (among_left x before (s ∷ []) k) e
+      ]
+
+  pub is_function : (before : List Sent) (at : ℕ) (ss : List Sent) → first_send_fault from to before at ss ≡ None → IsFunction ss
+  unfolding IsFunction
+  is_function before at [] h s t m k e = elim m [ ]
+  is_function before at (x ∷ ss) h s t m k e =
+      let rest = (no-earlier (send_fault from to before x) at (first_send_fault from to (before ++ x ∷ []) (at + 1) ss) h).1 in
+      let here = among_right x before (x ∷ []) (inl refl) in
+      elim m [
+        | inl a ↦ elim k [
+          | inl b ↦ ap (λ (u : Sent). u.to) (sym a ∙ b)
+          | inr b ↦ absurd (fresh (before ++ x ∷ []) (at + 1) ss rest t b x here (sym e ∙ ap (λ (u : Sent). u.from) (sym a)))
+        ]
+        | inr a ↦ elim k [
+          | inl b ↦ absurd (fresh (before ++ x ∷ []) (at + 1) ss rest s a x here (e ∙ ap (λ (u : Sent). u.from) (sym b)))
+          | inr b ↦ is_function (before ++ x ∷ []) (at + 1) ss rest s t a b e
+        ]
+      ]
+
+image_is : (ss : List Sent) → IsFunction ss → (s : Sent) → Among s ss → image ss s.from ≡ s.to
+unfolding IsFunction
+image_is [] f s m = elim m [ ]
+image_is (x ∷ ss) f s m = elim (true_or_false (s.from == x.from)) [
+  | inl e ↦ ap (λ t. cond t x.to (image ss s.from)) e ∙ f x s (inl refl) m (sym (eqb-true s.from x.from e))
+  | inr e ↦ ap (λ t. cond t x.to (image ss s.from)) e ∙ elim m [
+    | inl q ↦ absurd (not_both (s.from == x.from) (subst (λ (u : Sent). (s.from == u.from) ≡ true) (sym q) (eqb_same s.from)) e)
+    | inr k ↦ image_is ss (λ a b i j. f a b (inr i) (inr j)) s k
+  ]
+]
+
+image_none : (ss : List Sent) (v : ℕ) → ((s : Sent) → Among s ss → v ≡ s.from → ⊥) → image ss v ≡ 0
+image_none [] v h = refl
+image_none (x ∷ ss) v h = ap (λ t. cond t x.to (image ss v)) (not_true (v == x.from) (λ e. h x (inl refl) (eqb-true v x.from e))) ∙ image_none ss v (λ s m. h s (inr m))
+
+sent_or_not : (ss : List Sent) (v : ℕ) → ((s : Sent) × Among s ss × (v ≡ s.from)) ⊎ ((s : Sent) → Among s ss → v ≡ s.from → ⊥)
+sent_or_not [] v = inr (λ s m e. elim m [ ])
+sent_or_not (x ∷ ss) v = elim (true_or_false (v == x.from)) [
+  | inl e ↦ inl (x, inl refl, eqb-true v x.from e)
+  | inr n ↦ elim (sent_or_not ss v) [
+    | inl f ↦ inl (f.0, inr f.1, f.2)
+    | inr none ↦ inr (λ s m e. elim m [
+      | inl q ↦ not_both (v == x.from) (subst (λ (w : ℕ). (v == w) ≡ true) (e ∙ ap (λ (u : Sent). u.from) (sym q)) (eqb_same v)) n
+      | inr k ↦ none s k e
+    ])
+  ]
+]
+
+-- ordered sends are the same map
+pub same_image : (sends listed : List Sent) → IsFunction sends → AreOrderedSends sends listed → (v : ℕ) → image listed v ≡ image sends v
+unfolding IsFunction
+same_image sends listed f h v =
+    let given : (s : Sent) → Among s listed → Among s sends = λ s m. each_among (λ (s : Sent). Among s sends) s listed h.each m in
+    elim (sent_or_not listed v) [
+      | inl q ↦
+          ap (image listed) q.2 ∙ image_is listed (λ a b i j. f a b (given a i) (given b j)) q.0 q.1
+          ∙ sym (ap (image sends) q.2 ∙ image_is sends f q.0 (given q.0 q.1))
+      | inr none ↦ image_none listed v none ∙ sym (image_none sends v (λ s m. none s (each_among (λ (s : Sent). Among s listed) s sends h.all m)))
+    ]
+
+-- ---- induced matrices
+
+-- of the complex that the listed facets give, and of the listed sends
+pub induced_there : {F G : List (List ℕ)} → SameSimplices F G → (f g : ℕ → ℕ) → ((v : ℕ) → f v ≡ g v) → (p : ℕ) (from to : Classes) (x : InducedPart) → IsInducedPart true f F p from to x → IsInducedPart true g G p from to x
+induced_there {F} {G} h f g same p from to x b =
+    subst (λ (k : ℕ → ℕ). IsInducedPart true k G p from to x) (λ i v. same v i)
+    (zip_change (λ (z : Cochain) (y : Column). IsColumn true F x.q p (cochains_in from x.q) (pull_back f z) y.values y.primitive) (λ z y. IsColumn true G x.q p (cochains_in from x.q) (pull_back f z) y.values y.primitive)
+    (λ z y k. column_there h true x.q p (cochains_in from x.q) (pull_back f z) y.values y.primitive k) (cochains_in to x.q) x.columns b)
