@@ -83,7 +83,7 @@ facet_lines facets h before (f ∷ fs) within =
     let wide : nat_lt 16 (length f) ≡ false = h.narrow f here in
     let many : nat_lt 100000 (length (simplices (before ++ f ∷ []))) ≡ false = le-ltb 100000 (length (simplices (before ++ f ∷ []))) (omega (arith, few, total)) in (
       ap (λ (b : Bool). cond b (Some FacetTooWide) (cond (nat_lt 100000 (length (simplices (before ++ f ∷ [])))) (Some TooManySimplices) None)) wide
-      ∙ ap (λ (b : Bool). cond b (Some TooManySimplices) None) many,
+          ∙ ap (λ (b : Bool). cond b (Some TooManySimplices) None) many,
       facet_lines facets h (before ++ f ∷ []) fs (λ g m. within g (subst (λ (gs : List (List ℕ)). Among g gs) (append_assoc before (f ∷ []) fs) m)),
     )
 
@@ -148,7 +148,7 @@ send_lines from to before [] known ascending below = tt
 send_lines from to before (s ∷ ss) known ascending below =
     let unsent : is_sent before s.from ≡ false = not_true (is_sent before s.from) (λ e. let q = sent_among before s.from e in let l = (below q.0 q.1).0 in let same = q.2 in absurd (omega (arith, l, same))) in (
       ap (λ b. cond (not b) (Some VertexUnknown) (cond (is_sent before s.from) (Some VertexSentTwice) None)) (ap₂ (λ a b. a && b) known.0.0 known.0.1)
-      ∙ ap (λ b. cond b (Some VertexSentTwice) None) unsent,
+          ∙ ap (λ b. cond b (Some VertexSentTwice) None) unsent,
       send_lines from to (before ++ s ∷ []) ss known.1 ascending.1 (λ x m. elim (in_append x before (s ∷ []) m) [
         | inl k ↦ (below x k).1
         | inr k ↦ elim k [

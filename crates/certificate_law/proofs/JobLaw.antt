@@ -195,8 +195,11 @@ complex_free c =
     let cs = numbered (cartan_stated c) 0 c.cartans in
     let es : List Stated = complex_ends c ∷ [] in
     each_append IsBlockLine ds (xs ++ (os ++ (cs ++ es)))
-    (free_numbered (degree_stated c) (λ n d. (tt, each_append IsBlockLine (after (λ b y. below_stands c n b y ∷ []) [] d.below) (after (λ b z. class_stands c n b z ∷ []) [] d.classes)
-    (free_after (below_stands c n) (λ b y. tt) [] d.below) (free_after (class_stands c n) (λ b z. tt) [] d.classes))) 0 c.degrees)
+    (free_numbered (degree_stated c) (λ n d. (
+      tt,
+      each_append IsBlockLine (after (λ b y. below_stands c n b y ∷ []) [] d.below) (after (λ b z. class_stands c n b z ∷ []) [] d.classes)
+          (free_after (below_stands c n) (λ b y. tt) [] d.below) (free_after (class_stands c n) (λ b z. tt) [] d.classes),
+    )) 0 c.degrees)
     (each_append IsBlockLine xs (os ++ (cs ++ es)) (free_numbered (product_stated c) (λ k x. (tt, free_columns (product_column c x) (λ y. y.primitive) (λ j y. tt) 0 x.columns)) 0 c.products)
     (each_append IsBlockLine os (cs ++ es) (free_numbered (operation_stated c) (λ k x. (tt, free_columns (operation_column c x) (λ y. y.primitive) (λ j y. tt) 0 x.columns)) 0 c.operations)
     (each_append IsBlockLine cs es (free_numbered (cartan_stated c) (λ k x. (tt, (free_answer x.answer, tt))) 0 c.cartans) (tt, tt))))
@@ -211,8 +214,7 @@ complexes_fit p before (b ∷ bs) [] h l a n = absurd h
 complexes_fit p before (b ∷ bs) (c ∷ cs) h l a n =
     let q = h.0 in
     let fs = behind (λ (fs : List (List ℕ)) f. facet_stands fs f ∷ []) [] c.facets in
-    each_append IsBlockLine (complex_stated before c) (behind complex_stated (before ++ c ∷ []) cs)
-    (
+    each_append IsBlockLine (complex_stated before c) (behind complex_stated (before ++ c ∷ []) cs) (
       record { few = omega (arith, l); new = not_true (has_name (complex_names before) c.name) (λ e. n.0 (subst (λ (x : List ℕ). Among x (complex_names before)) q.name (any-among c.name (complex_names before) e))) },
       each_append IsBlockLine fs _ (facet_lines b.facets q.fit [] c.facets q.given) (complex_free c),
     )
@@ -313,8 +315,7 @@ module _ (job : Spelled) (cs : List ComplexPart) (all : AllZip (IsListed job.pri
         | inl k ↦ c.0 (subst (λ (x : List ℕ). Among x (complex_names cs)) q.name k)
         | inr k ↦ n.0 (subst (λ (x : List ℕ). Among x (map_names before)) q.name k)
       ]) in
-      each_append IsBlockLine (map_stated cs before m) (behind (map_stated cs) (before ++ m ∷ []) ms)
-      (
+      each_append IsBlockLine (map_stated cs before m) (behind (map_stated cs) (before ++ m ∷ []) ms) (
         record { few = omega (arith, l); new = new; from = q.from_named; to = q.to_named },
         each_append IsBlockLine ss (is ++ map_ends from to m ∷ []) (send_lines from to [] m.sends q.known q.ascending (λ x k. elim k [ ]))
             (each_append IsBlockLine is (map_ends from to m ∷ []) (free_numbered (induced_stated from to m) (λ k x. (tt, free_columns (induced_column from to m x) (λ y. y.primitive) (λ j y. tt) 0 x.columns)) 0 m.induced) (q.ends, tt)),
@@ -353,8 +354,7 @@ complete_law job r is h limit =
     let within : passing_sum p (10 ^ 12) (map (λ c. sizes_of c.facets c) r.complexes) ≡ None = subst (λ (zs : List Sizes). passing_sum p (10 ^ 12) zs ≡ None) sizes limit.within in
     let nothing : (ns : List (List ℕ)) → Each (λ n. Among n [] → ⊥) ns = λ ns. each_of_index (λ (n : List ℕ). Among n [] → ⊥) ns (λ n m k. k) in
     let apart = subst (λ (ns : List (List ℕ)). Each (λ m. Among m ns → ⊥) (map (λ (b : MapBlock). b.name) job.maps)) (sym (same_names p job.complexes r.complexes all)) names.apart in
-    canonical_certifies r (subst (λ (q : ℕ). IsCanonical q r) (sym h.prime) canonical)
-    (
+    canonical_certifies r (subst (λ (q : ℕ). IsCanonical q r) (sym h.prime) canonical) (
       tt,
       (
         tt,

@@ -82,7 +82,7 @@ named_at p (b ∷ bs) (c ∷ cs) (suc k) l d h =
     let name = name_at bs k in
     let m = name_among bs k (omega (arith, l)) in
     let other : bytes_eq name c.name ≡ false = not_true (bytes_eq name c.name) (λ e. distinct_head b.name (map (λ (b : ComplexBlock). b.name) bs) d
-        (subst (λ (n : List ℕ). Among n (map (λ (b : ComplexBlock). b.name) bs)) (same-bytes name c.name e ∙ h.0.name) m)) in
+    (subst (λ (n : List ℕ). Among n (map (λ (b : ComplexBlock). b.name) bs)) (same-bytes name c.name e ∙ h.0.name) m)) in
     ap (λ t. cond t c (complex_named cs name)) other ∙ named_at p bs cs k (omega (arith, l)) (distinct_rest b.name (map (λ (b : ComplexBlock). b.name) bs) d) h.1
 
 -- ---- sends
