@@ -1,6 +1,6 @@
 ghost use Rattle.std.specs.Prelude.{◌≡◌, [], ◌∷◌, IfOk};
 
-use crate::{Cochain, Indexed};
+use crate::{Cochain, Indexed, MapOn, pull};
 use fp_field::Fp;
 use simplex_set::{Complex, Simplex};
 use sparse_rows::Row;
@@ -55,5 +55,22 @@ fn a_circle_has_coboundaries_and_boundaries(rt: HostRuntime) -> Result<(), Fail>
     assert_eq!(rt; ends.degree, 0);
     assert!(rt; ends.row.is_zero());
     assert_eq!(rt; circle.coboundary_rows::<3>(rt.alloc(), 0)?.len(), 3);
+    Ok(())
+}
+
+#[test]
+fn a_constant_map_pulls_back_zero(rt: HostRuntime) -> Result<(), Fail> {
+    let circle = Indexed::of(rt.alloc(), &circle(rt.alloc())?)?;
+    assert!(rt; circle.count(1) == 3);
+    let mut row = Row::new(rt.alloc());
+    row.push_last(2, Fp::<3>::new(1))?;
+    let edge = Cochain { degree: 1, row };
+    let constant = MapOn::of(rt.alloc(), &[(0, 0), (1, 0), (2, 0)])?;
+    let zero = pull(rt.alloc(), &constant, &circle, &circle, &edge)?;
+    assert_eq!(rt; zero.degree, 1);
+    assert!(rt; zero.row.is_zero());
+    let identity = MapOn::of(rt.alloc(), &[(0, 0), (1, 1), (2, 2)])?;
+    let same = pull(rt.alloc(), &identity, &circle, &circle, &edge)?;
+    assert_eq!(rt; same.row.at(2).value(), 1);
     Ok(())
 }
