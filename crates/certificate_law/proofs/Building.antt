@@ -53,10 +53,6 @@ zip_unmap R g (y ∷ ys) (x ∷ xs) h = (h.0, zip_unmap R g ys xs h.1)
 pub zip_places : {X Y Z : Type 0} (R : Z → X → Type 0) (g : Y → Z) (d : Y) (ys : List Y) (xs : List X) → AllZip R (map g ys) xs → EachAt (λ j x. (j < length ys) × R (g (get_or ys j d)) x) 0 xs
 zip_places R g d ys xs h = zip_at (λ y x. R (g y) x) d ys 0 ys xs (omega arith) (λ i. let e : 0 + i ≡ i = omega arith in ap (λ j. get_or ys j d) e) (zip_unmap R g ys xs h)
 
-pub zip_self : {X Y Z : Type 0} (R : Z → Y → Type 0) (g : X → Z) (f : X → Y) (xs : List X) → AllZip R (map g xs) (map f xs) → Each (λ x. R (g x) (f x)) xs
-zip_self R g f [] h = tt
-zip_self R g f (x ∷ xs) h = (h.0, zip_self R g f xs h.1)
-
 -- ---- lines
 
 pub each_numbered : {X : Type 0} (P : Stated → Type 0) (line : ℕ → X → List Stated) (k : ℕ) (xs : List X) → EachAt (λ j x. Each P (line j x)) k xs → Each P (numbered line k xs)

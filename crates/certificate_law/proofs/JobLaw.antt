@@ -204,6 +204,18 @@ complex_free c =
     (each_append IsBlockLine os (cs ++ es) (free_numbered (operation_stated c) (λ k x. (tt, free_columns (operation_column c x) (λ y. y.primitive) (λ j y. tt) 0 x.columns)) 0 c.operations)
     (each_append IsBlockLine cs es (free_numbered (cartan_stated c) (λ k x. (tt, (free_answer x.answer, tt))) 0 c.cartans) (tt, tt))))
 
+-- names that are new stay so behind another
+still_new : {X : Type 0} (f : X → List ℕ) (before : List X) (x : X) (ns : List (List ℕ)) → Each (λ n. Among n (map f before) → ⊥) ns → (Among (f x) ns → ⊥) → Each (λ n. Among n (map f (before ++ x ∷ [])) → ⊥) ns
+still_new f before x ns new other =
+    each_of_index (λ (n : List ℕ). Among n (map f (before ++ x ∷ [])) → ⊥) ns (λ n m i. elim (of_push before n i) [
+      | inl k ↦ each_among (λ (n : List ℕ). Among n (map f before) → ⊥) n ns new m k
+      | inr e ↦ other (subst (λ (y : List ℕ). Among y ns) (sym e) m)
+    ])
+  where
+    of_push : (xs : List _) (n : List ℕ) → Among n (map f (xs ++ x ∷ [])) → Among n (map f xs) ⊎ (f x ≡ n)
+    of_push [] n m = elim m [ inl e ↦ inr e | inr none ↦ elim none [ ] ]
+    of_push (y ∷ xs) n m = elim m [ inl e ↦ inl (inl e) | inr k ↦ elim (of_push xs n k) [ inl i ↦ inl (inr i) | inr e ↦ inr e ] ]
+
 -- ---- complexes
 
 complexes_fit : (p : ℕ) (before : List ComplexPart) (bs : List ComplexBlock) (cs : List ComplexPart) → AllZip (IsListed p) bs cs → length before + length bs ≤ 8 → IsApart (map (λ b. b.name) bs) → Each (λ n. Among n (complex_names before) → ⊥) (map (λ b. b.name) bs)
@@ -219,15 +231,7 @@ complexes_fit p before (b ∷ bs) (c ∷ cs) h l a n =
       each_append IsBlockLine fs _ (facet_lines b.facets q.fit [] c.facets q.given) (complex_free c),
     )
     (complexes_fit p (before ++ c ∷ []) bs cs h.1 (let k = length-append before (c ∷ []) in omega (arith, l, k)) a.1
-    (each_of_index (λ (x : List ℕ). Among x (complex_names (before ++ c ∷ [])) → ⊥) (map (λ (b : ComplexBlock). b.name) bs) (λ x m i.
-    elim (names_push before c x i) [
-      | inl k ↦ each_among (λ (x : List ℕ). Among x (complex_names before) → ⊥) x (map (λ (b : ComplexBlock). b.name) bs) n.1 m k
-      | inr e ↦ a.0 (subst (λ (y : List ℕ). Among y (map (λ (b : ComplexBlock). b.name) bs)) (sym e ∙ q.name) m)
-    ])))
-  where
-    names_push : (cs : List ComplexPart) (c : ComplexPart) (x : List ℕ) → Among x (complex_names (cs ++ c ∷ [])) → Among x (complex_names cs) ⊎ (c.name ≡ x)
-    names_push [] c x m = elim m [ inl e ↦ inr e | inr none ↦ elim none [ ] ]
-    names_push (d ∷ cs) c x m = elim m [ inl e ↦ inl (inl e) | inr k ↦ elim (names_push cs c x k) [ inl i ↦ inl (inr i) | inr e ↦ inr e ] ]
+    (still_new (λ (c : ComplexPart). c.name) before c (map (λ (b : ComplexBlock). b.name) bs) n.1 (λ m. a.0 (subst (λ (x : List ℕ). Among x (map (λ (b : ComplexBlock). b.name) bs)) q.name m))))
 
 same_names : (p : ℕ) (bs : List ComplexBlock) (cs : List ComplexPart) → AllZip (IsListed p) bs cs → complex_names cs ≡ map (λ b. b.name) bs
 same_names p [] [] h = refl
@@ -321,15 +325,7 @@ module _ (job : Spelled) (cs : List ComplexPart) (all : AllZip (IsListed job.pri
             (each_append IsBlockLine is (map_ends from to m ∷ []) (free_numbered (induced_stated from to m) (λ k x. (tt, free_columns (induced_column from to m x) (λ y. y.primitive) (λ j y. tt) 0 x.columns)) 0 m.induced) (q.ends, tt)),
       )
       (maps_fit (before ++ m ∷ []) bs ms h.1 (let k = length-append before (m ∷ []) in omega (arith, l, k)) a.1 c.1
-      (each_of_index (λ (x : List ℕ). Among x (map_names (before ++ m ∷ [])) → ⊥) (map (λ (b : MapBlock). b.name) bs) (λ x k i.
-      elim (map_names_push before m x i) [
-        | inl j ↦ each_among (λ (x : List ℕ). Among x (map_names before) → ⊥) x (map (λ (b : MapBlock). b.name) bs) n.1 k j
-        | inr e ↦ a.0 (subst (λ (y : List ℕ). Among y (map (λ (b : MapBlock). b.name) bs)) (sym e ∙ q.name) k)
-      ])))
-    where
-      map_names_push : (ms : List MapPart) (m : MapPart) (x : List ℕ) → Among x (map_names (ms ++ m ∷ [])) → Among x (map_names ms) ⊎ (m.name ≡ x)
-      map_names_push [] m x k = elim k [ inl e ↦ inr e | inr none ↦ elim none [ ] ]
-      map_names_push (d ∷ ms) m x k = elim k [ inl e ↦ inl (inl e) | inr k ↦ elim (map_names_push ms m x k) [ inl i ↦ inl (inr i) | inr e ↦ inr e ] ]
+      (still_new (λ (m : MapPart). m.name) before m (map (λ (b : MapBlock). b.name) bs) n.1 (λ k. a.0 (subst (λ (x : List ℕ). Among x (map (λ (b : MapBlock). b.name) bs)) q.name k))))
 
 -- ---- the job
 
