@@ -2,7 +2,9 @@
 use Rattle.std.proofs.Common.{◌≡◌, ℕ, suc, ◌+◌, ◌-◌, ◌<◌, ◌≤◌, refl, sym, ◌∙◌, ap, ap₂, subst, arith, ◌&&◌, true, false, List, [], ◌∷◌, ◌++◌, length, map, get_or, flat_map, slice_get, Some}
 use Rattle.std.specs.List.{AllZip}
 use Rattle.std.proofs.lemmas.Bool.{and_parts}
-use Rattle.std.proofs.lemmas.List.{length-map}
+use Rattle.std.proofs.lemmas.List.{length-map, map-append}
+use Rattle.std.proofs.lemmas.List.Folds.{flat_map-map}
+use Rattle.std.proofs.lemmas.Simd.{map-map}
 use Rattle.signed_sum.specs.Lists.{numbers_from}
 use Rattle.linear_law.specs.Lists.{Each}
 use Rattle.linear_law.specs.ReducedBases.{combination}
@@ -55,25 +57,13 @@ map_numbers f d full k (x ∷ xs) h =
     let rest = map_numbers f d full (suc k) xs (λ i b. let g : suc k + i ≡ k + suc i = omega arith in ap (λ j. get_or full j d) g ∙ h (suc i) (omega arith)) in
     ap₂ (λ y ys. f y ∷ ys) here rest
 
-map_append : {X Y : Type 0} (f : X → Y) (xs ys : List X) → map f (xs ++ ys) ≡ map f xs ++ map f ys
-map_append f [] ys = refl
-map_append f (x ∷ xs) ys = ap (λ zs. f x ∷ zs) (map_append f xs ys)
-
-map_map : {X Y Z : Type 0} (g : Y → Z) (f : X → Y) (xs : List X) → map g (map f xs) ≡ map (λ x. g (f x)) xs
-map_map g f [] = refl
-map_map g f (x ∷ xs) = ap (λ zs. g (f x) ∷ zs) (map_map g f xs)
-
 map_flat : {X Y Z : Type 0} (g : Y → Z) (F : X → List Y) (xs : List X) → map g (flat_map F xs) ≡ flat_map (λ x. map g (F x)) xs
 map_flat g F [] = refl
-map_flat g F (x ∷ xs) = map_append g (F x) (flat_map F xs) ∙ ap (λ zs. map g (F x) ++ zs) (map_flat g F xs)
+map_flat g F (x ∷ xs) = map-append g (F x) (flat_map F xs) ∙ ap (λ zs. map g (F x) ++ zs) (map_flat g F xs)
 
 flat_same : {X Y : Type 0} (F G : X → List Y) → ((x : X) → F x ≡ G x) → (xs : List X) → flat_map F xs ≡ flat_map G xs
 flat_same F G h [] = refl
 flat_same F G h (x ∷ xs) = ap₂ (λ ys zs. ys ++ zs) (h x) (flat_same F G h xs)
-
-flat_of_map : {X Y Z : Type 0} (F : Y → List Z) (f : X → Y) (xs : List X) → flat_map F (map f xs) ≡ flat_map (λ x. F (f x)) xs
-flat_of_map F f [] = refl
-flat_of_map F f (x ∷ xs) = ap (λ zs. F (f x) ++ zs) (flat_of_map F f xs)
 
 -- the products of the cochains of chains, by the numbers of the pairs
 pub products_by_pairs : (p q k : ℕ) (zs ws : List Chain) →
@@ -83,13 +73,13 @@ products_by_pairs p q k zs ws =
     let g : ℕ × ℕ → Cochain = λ t. cup_product p q k (cochain_of (get_or zs (t.0 - 1) [])) (cochain_of (get_or ws (t.1 - 1) [])) in
     let right : Cochain → List Cochain = λ z. map (cup_product p q k z) (map cochain_of ws) in
     let row : (i : ℕ) → map g (map (λ j. (i, j)) (numbers_from 1 (length ws))) ≡ right (cochain_of (get_or zs (i - 1) [])) =
-    λ i. map_map g (λ j. (i, j)) (numbers_from 1 (length ws))
+    λ i. map-map g (λ j. (i, j)) (numbers_from 1 (length ws))
     ∙ map_numbers (λ w. cup_product p q k (cochain_of (get_or zs (i - 1) [])) (cochain_of w)) [] ws 0 ws (λ j b. at_start ws [] j)
-    ∙ sym (map_map (cup_product p q k (cochain_of (get_or zs (i - 1) []))) cochain_of ws) in
+    ∙ sym (map-map (cup_product p q k (cochain_of (get_or zs (i - 1) []))) cochain_of ws) in
     map_flat g (λ i. map (λ j. (i, j)) (numbers_from 1 (length ws))) (numbers_from 1 (length zs))
     ∙ flat_same (λ i. map g (map (λ j. (i, j)) (numbers_from 1 (length ws)))) (λ i. right (cochain_of (get_or zs (i - 1) []))) row (numbers_from 1 (length zs))
     ∙ flat_numbers (λ z. right (cochain_of z)) [] zs 0 zs (λ j b. at_start zs [] j)
-    ∙ sym (flat_of_map right cochain_of zs)
+    ∙ sym (flat_map-map right cochain_of zs)
 
 -- ---- columns
 

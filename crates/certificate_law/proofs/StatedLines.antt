@@ -1,5 +1,6 @@
 -- The lines of which something is asked are those of the certificate, in their order.
 use Rattle.std.proofs.Common.{◌≡◌, ℕ, ◌+◌, refl, ◌∙◌, ap, ap₂, List, [], ◌∷◌, ◌++◌, map, flat_map}
+use Rattle.std.proofs.lemmas.List.{map-append}
 use Rattle.simplicial_law.specs.Cochains.{Chain}
 use Rattle.complex_file.specs.declared.block.Sent.{Sent}
 use Rattle.report.specs.declared.columns.CartanAnswer.{CartanAnswer}
@@ -23,17 +24,13 @@ use Rattle.certificate_law.specs.Stated.{Stated, complex_opens, degree_opens, he
 abbrev said : List Stated → List Line
 said xs = map line_said xs
 
-said_append : (xs ys : List Stated) → said (xs ++ ys) ≡ said xs ++ said ys
-said_append [] ys = refl
-said_append (x ∷ xs) ys = ap (λ zs. line_said x ∷ zs) (said_append xs ys)
-
 said_numbered : {X : Type 0} (line : ℕ → X → List Stated) (g : X → List Line) → ((k : ℕ) (x : X) → said (line k x) ≡ g x) → (k : ℕ) (xs : List X) → said (numbered line k xs) ≡ flat_map g xs
 said_numbered line g h k [] = refl
-said_numbered line g h k (x ∷ xs) = said_append (line k x) (numbered line (k + 1) xs) ∙ ap₂ (λ ys zs. ys ++ zs) (h k x) (said_numbered line g h (k + 1) xs)
+said_numbered line g h k (x ∷ xs) = map-append line_said (line k x) (numbered line (k + 1) xs) ∙ ap₂ (λ ys zs. ys ++ zs) (h k x) (said_numbered line g h (k + 1) xs)
 
 said_behind : {X : Type 0} (line : List X → X → List Stated) (g : X → List Line) → ((b : List X) (x : X) → said (line b x) ≡ g x) → (before xs : List X) → said (behind line before xs) ≡ flat_map g xs
 said_behind line g h before [] = refl
-said_behind line g h before (x ∷ xs) = said_append (line before x) (behind line (before ++ x ∷ []) xs) ∙ ap₂ (λ ys zs. ys ++ zs) (h before x) (said_behind line g h (before ++ x ∷ []) xs)
+said_behind line g h before (x ∷ xs) = map-append line_said (line before x) (behind line (before ++ x ∷ []) xs) ∙ ap₂ (λ ys zs. ys ++ zs) (h before x) (said_behind line g h (before ++ x ∷ []) xs)
 
 facets_said : (before fs : List (List ℕ)) → said (behind (λ fs f. facet_stands fs f ∷ []) before fs) ≡ map facet_line fs
 facets_said before [] = refl
@@ -54,10 +51,10 @@ classes_said c n before (z ∷ zs) = ap (λ ws. class_line z ∷ ws) (classes_sa
 degrees_said : (c : ComplexPart) (n : ℕ) (ds : List DegreePart) → said (numbered (degree_stated c) n ds) ≡ degrees_from n ds
 degrees_said c n [] = refl
 degrees_said c n (d ∷ ds) =
-    said_append (degree_stated c n d) (numbered (degree_stated c) (n + 1) ds)
+    map-append line_said (degree_stated c n d) (numbered (degree_stated c) (n + 1) ds)
     ∙ ap₂ (λ ys zs. ys ++ zs)
     (ap (λ zs. line_said (degree_opens c n d) ∷ zs)
-    (said_append (after (λ before y. below_stands c n before y ∷ []) [] d.below) (after (λ before z. class_stands c n before z ∷ []) [] d.classes)
+    (map-append line_said (after (λ before y. below_stands c n before y ∷ []) [] d.below) (after (λ before z. class_stands c n before z ∷ []) [] d.classes)
     ∙ ap₂ (λ ys zs. ys ++ zs) (belows_said c n [] d.below) (classes_said c n [] d.classes)))
     (degrees_said c (n + 1) ds)
 
@@ -88,11 +85,11 @@ complex_said before c =
     let cs = numbered (cartan_stated c) 0 c.cartans in
     let es : List Stated = complex_ends c ∷ [] in
     ap (λ zs. line_said (complex_opens before c) ∷ zs)
-    (said_append fs (ds ++ (xs ++ (os ++ (cs ++ es)))) ∙ ap₂ (λ a b. a ++ b) (facets_said [] c.facets)
-    (said_append ds (xs ++ (os ++ (cs ++ es))) ∙ ap₂ (λ a b. a ++ b) (degrees_said c 0 c.degrees)
-    (said_append xs (os ++ (cs ++ es)) ∙ ap₂ (λ a b. a ++ b) (said_numbered (product_stated c) product_lines (λ k x. ap (λ zs. line_said (product_opens c k x) ∷ zs) (pairs_said c x 0 x.columns)) 0 c.products)
-    (said_append os (cs ++ es) ∙ ap₂ (λ a b. a ++ b) (said_numbered (operation_stated c) operation_lines (λ k x. ap (λ zs. line_said (operation_opens c k x) ∷ zs) (operation_columns_said c x 0 x.columns)) 0 c.operations)
-    (said_append cs es ∙ ap (λ a. a ++ said es) (said_numbered (cartan_stated c) cartan_lines (cartan_said c) 0 c.cartans))))))
+    (map-append line_said fs (ds ++ (xs ++ (os ++ (cs ++ es)))) ∙ ap₂ (λ a b. a ++ b) (facets_said [] c.facets)
+    (map-append line_said ds (xs ++ (os ++ (cs ++ es))) ∙ ap₂ (λ a b. a ++ b) (degrees_said c 0 c.degrees)
+    (map-append line_said xs (os ++ (cs ++ es)) ∙ ap₂ (λ a b. a ++ b) (said_numbered (product_stated c) product_lines (λ k x. ap (λ zs. line_said (product_opens c k x) ∷ zs) (pairs_said c x 0 x.columns)) 0 c.products)
+    (map-append line_said os (cs ++ es) ∙ ap₂ (λ a b. a ++ b) (said_numbered (operation_stated c) operation_lines (λ k x. ap (λ zs. line_said (operation_opens c k x) ∷ zs) (operation_columns_said c x 0 x.columns)) 0 c.operations)
+    (map-append line_said cs es ∙ ap (λ a. a ++ said es) (said_numbered (cartan_stated c) cartan_lines (cartan_said c) 0 c.cartans))))))
 
 map_said : (from to : ComplexPart) (cs : List ComplexPart) (before : List MapPart) (m : MapPart) → said (map_between from to cs before m) ≡ map_lines m
 map_said from to cs before m =
@@ -100,8 +97,8 @@ map_said from to cs before m =
     let is = numbered (induced_stated from to m) 0 m.induced in
     let es : List Stated = map_ends from to m ∷ [] in
     ap (λ zs. line_said (map_opens cs before m) ∷ zs)
-    (said_append ss (is ++ es) ∙ ap₂ (λ a b. a ++ b) (sends_said from to [] m.sends)
-    (said_append is es ∙ ap (λ a. a ++ said es) (said_numbered (induced_stated from to m) induced_lines (λ k x. ap (λ zs. line_said (induced_opens from to k x) ∷ zs) (induced_columns_said from to m x 0 x.columns)) 0 m.induced)))
+    (map-append line_said ss (is ++ es) ∙ ap₂ (λ a b. a ++ b) (sends_said from to [] m.sends)
+    (map-append line_said is es ∙ ap (λ a. a ++ said es) (said_numbered (induced_stated from to m) induced_lines (λ k x. ap (λ zs. line_said (induced_opens from to k x) ∷ zs) (induced_columns_said from to m x 0 x.columns)) 0 m.induced)))
 
 pub stated_lines_law : StatedLinesLaw
 stated_lines_law r =
@@ -109,5 +106,5 @@ stated_lines_law r =
     let ms = behind (map_stated r.complexes) [] r.maps in
     let es : List Stated = finish r.complexes ∷ [] in
     ap (λ zs. line_said heading ∷ line_said (prime_is r.prime) ∷ zs)
-    (said_append cs (ms ++ es) ∙ ap₂ (λ a b. a ++ b) (said_behind complex_stated complex_lines complex_said [] r.complexes)
-    (said_append ms es ∙ ap (λ a. a ++ said es) (said_behind (map_stated r.complexes) map_lines (λ b m. map_said (complex_named r.complexes m.from) (complex_named r.complexes m.to) r.complexes b m) [] r.maps)))
+    (map-append line_said cs (ms ++ es) ∙ ap₂ (λ a b. a ++ b) (said_behind complex_stated complex_lines complex_said [] r.complexes)
+    (map-append line_said ms es ∙ ap (λ a. a ++ said es) (said_behind (map_stated r.complexes) map_lines (λ b m. map_said (complex_named r.complexes m.from) (complex_named r.complexes m.to) r.complexes b m) [] r.maps)))
