@@ -21,7 +21,7 @@ use Rattle.certificate_law.specs.Certifies.{Certifies, FailsFirst}
 use Rattle.certificate_law.specs.Parts.{complex_named, itself, sent_by}
 use Rattle.certificate_law.specs.Stated.{Stated, stated, heading, prime_is, complex_opens, facet_stands, degree_opens, below_stands, class_stands, product_opens, product_column, operation_opens, operation_column, cartan_stands, with_stands, cycle_stands, complex_ends, map_opens, send_stands, induced_opens, induced_column, map_ends, finish}
 
--- A report that certifies has no failure, and another has one first failure.
+-- A report that certifies has no failure, and no report has two first failures.
 pub record FirstFailureLaw : Type 0 where
   pub none : (r : Report) (condition line : ℕ) → Certifies r → FailsFirst r condition line → ⊥
   pub condition : (r : Report) (c d k l : ℕ) → FailsFirst r c k → FailsFirst r d l → c ≡ d

@@ -4,7 +4,7 @@
 ghost use Rattle.certificate_law.specs.Laws.{CertifiedLaw, CompleteLaw, FirstFailureLaw, StatedLinesLaw};
 ghost use Rattle.certificate_law.specs.Sections.{SectionLaw};
 
-/// A report that certifies does not fail, and another fails first at one line of one condition.
+/// A report that certifies does not fail, and no report fails first at two lines or at two conditions.
 pub fn first_failure_law()
     ensures { FirstFailureLaw }
 {}
