@@ -1,0 +1,10 @@
+//! The matrices of Steenrod operations and of cup products on the classes of a complex, over either depth of its cohomology.
+#![tactic(auto)]
+
+mod matrices;
+mod operations;
+mod products;
+
+pub use matrices::matrix;
+pub use operations::operation;
+pub use products::ring;
