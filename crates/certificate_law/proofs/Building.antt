@@ -1,5 +1,5 @@
 -- What is asked of numbered lines, put together.
-use Rattle.std.proofs.Common.{◌≡◌, ℕ, zero, suc, ◌+◌, ◌<◌, ◌≤◌, sym, ◌∙◌, ap, subst, arith, List, [], ◌∷◌, ◌++◌, length, map, get_or, slice_get, Some}
+use Rattle.std.proofs.Common.{◌≡◌, ℕ, suc, ◌+◌, ◌<◌, sym, ◌∙◌, ap, subst, arith, List, [], ◌∷◌, ◌++◌, length, map, get_or, slice_get, Some}
 use Rattle.std.specs.List.{AllZip}
 use Rattle.linear_law.specs.Lists.{Each}
 use Rattle.linear_law.proofs.ListLemmas.{each_append}

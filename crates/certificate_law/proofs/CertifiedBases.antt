@@ -1,5 +1,5 @@
 -- Where a report certifies, the printed classes are bases of cohomology.
-use Rattle.std.proofs.Common.{◌≡◌, ℕ, zero, suc, ◌+◌, ◌<◌, ◌≤◌, refl, sym, subst, arith, List, [], ◌∷◌, ◌++◌, length, map, get_or}
+use Rattle.std.proofs.Common.{◌≡◌, ℕ, ◌+◌, ◌<◌, ◌≤◌, sym, subst, arith, List, [], ◌∷◌, ◌++◌, length, map, get_or}
 use Rattle.std.proofs.lemmas.List.{length-map}
 use Rattle.linear_law.specs.Congruence.{IsField}
 use Rattle.linear_law.specs.Lists.{Each, IsAscending}

@@ -1,5 +1,5 @@
 -- Where a report certifies, the headline holds of what it lists.
-use Rattle.std.proofs.Common.{◌≡◌, ℕ, ◌+◌, ◌<◌, ◌≤◌, ◌&&◌, ◌||◌, Bool, true, false, cond, IsTrue, inl, inr, refl, sym, ◌∙◌, subst, arith, mod-eq_of_lt, List, [], ◌∷◌, ◌++◌, length, map, slice_get, Some}
+use Rattle.std.proofs.Common.{◌≡◌, ℕ, ◌<◌, ◌≤◌, ◌||◌, Bool, true, false, cond, IsTrue, inl, inr, refl, sym, ◌∙◌, subst, arith, mod-eq_of_lt, List, [], ◌∷◌, ◌++◌, length, map, slice_get, Some}
 use native.Mathlib.Nat.{zero-mod}
 use Rattle.std.specs.Str.{bytes_eq}
 use Rattle.fp_field.specs.Served.{served}
@@ -9,9 +9,8 @@ use Rattle.linear_law.specs.Lists.{Among, Each, IsAscending}
 use Rattle.linear_law.proofs.CongruenceLemmas.{Congruent_sym, Congruent_trans}
 use Rattle.linear_law.proofs.ListLemmas.{among_map, each_among}
 use Rattle.linear_law.proofs.TriangularBases.{each_of_index}
-use Rattle.simplicial_law.specs.Cochains.{AgreesOnSimplices, Cochain, IsCoboundary, coboundary}
+use Rattle.simplicial_law.specs.Cochains.{AgreesOnSimplices, Cochain, coboundary}
 use Rattle.simplicial_law.specs.CanonicalClasses.{cochain_of}
-use Rattle.simplicial_law.proofs.Bases.{coboundaries}
 use Rattle.complex_file.specs.Jobs.{has_name}
 use Rattle.complex_file.specs.declared.block.Sent.{Sent}
 use Rattle.report.specs.declared.columns.CartanAnswer.{CartanAnswer}
@@ -35,7 +34,7 @@ use Rattle.report_law.proofs.Coordinates.{AreBases, agrees-sym}
 use Rattle.report_law.proofs.Maps.{simplicial}
 use Rattle.report_law.proofs.Naturality.{induced_promise}
 use Rattle.report_law.proofs.Verdicts.{difference-once, of-lines}
-use Rattle.report_text_law.specs.WellFormed.{is_chain, is_line, is_well_formed}
+use Rattle.report_text_law.specs.WellFormed.{is_line, is_well_formed}
 use Rattle.certificate_law.specs.Certifies.{Certifies}
 use Rattle.certificate_law.specs.Conditions.{IsRightAnswer, complex_names}
 use Rattle.certificate_law.specs.Laws.{CertifiedLaw, MapShown, line_said, verdict_said}

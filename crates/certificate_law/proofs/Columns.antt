@@ -10,7 +10,7 @@ use Rattle.linear_law.specs.Lists.{Each}
 use Rattle.linear_law.specs.ReducedBases.{combination}
 use Rattle.linear_law.proofs.CongruenceLemmas.{Congruent_from, Congruent_refl, add-negated}
 use Rattle.linear_law.proofs.ListLemmas.{zip_left}
-use Rattle.simplicial_law.specs.Cochains.{AgreesOnSimplices, Chain, Cochain, HasCoordinates}
+use Rattle.simplicial_law.specs.Cochains.{AgreesOnSimplices, Chain, Cochain}
 use Rattle.simplicial_law.specs.CanonicalClasses.{cochain_of}
 use Rattle.steenrod_law.specs.Operations.{cochain_products, cup_product, pull_back}
 use Rattle.report.specs.declared.columns.Column.{Column}
@@ -34,7 +34,7 @@ use Rattle.certificate_law.specs.Parts.{rank_in, sent_by}
 use Rattle.certificate_law.specs.Stated.{induced_column, induced_stated, operation_column, operation_stated, product_column, product_stated, with_stands}
 use Rattle.certificate_law.proofs.Asked.{IsAsAsked}
 use Rattle.certificate_law.proofs.ListedBases.{nowhere}
-use Rattle.certificate_law.proofs.Places.{EachAt, at_each, at_map, at_start, each_at, placed_from_start, zip_places_of}
+use Rattle.certificate_law.proofs.Places.{at_each, at_map, at_start, each_at, placed_from_start, zip_places_of}
 use Rattle.certificate_law.proofs.WellFormed.{values_below}
 
 -- ---- lists by numbers

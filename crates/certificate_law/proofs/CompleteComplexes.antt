@@ -9,7 +9,7 @@ use Rattle.linear_law.specs.Congruence.{IsField}
 use Rattle.linear_law.specs.Lists.{Among, Each, IsAscending}
 use Rattle.linear_law.specs.ReducedBases.{combination}
 use Rattle.linear_law.proofs.CongruenceLemmas.{Congruent_add, Congruent_from, Congruent_of, Congruent_sym, Congruent_trans, add-negated}
-use Rattle.linear_law.proofs.ListLemmas.{among_map, each_among, each_append, each_get_or, each_map, each_unmap, length_alike}
+use Rattle.linear_law.proofs.ListLemmas.{among_map, each_among, each_append, each_get_or, each_map, length_alike}
 use Rattle.linear_law.proofs.TriangularBases.{each_of_index}
 use Rattle.simplicial_law.specs.Simplices.{IsSimplex}
 use Rattle.simplicial_law.specs.Cochains.{AgreesOnSimplices, Chain, Cochain, IsCocycle, coboundary}
@@ -43,12 +43,11 @@ use Rattle.certificate_law.specs.Conditions.{IsCartanLine, IsClassLine, IsCoboun
 use Rattle.certificate_law.specs.ListedDegrees.{HasNewLeast, IsOn, IsOnBelow, coboundaries_of, simplex_count}
 use Rattle.certificate_law.specs.Parts.{itself, rank_in}
 use Rattle.certificate_law.specs.Stated.{Stated, after, answer_stated, behind, below_stands, cartan_stated, class_stands, complex_ends, complex_stated, degree_stated, facet_stands, numbered, operation_column, operation_stated, product_column, product_stated, with_stands}
-use Rattle.certificate_law.proofs.Building.{at_both, at_index, at_of_each, each_behind, each_numbered, placed, zip_places, zip_self}
+use Rattle.certificate_law.proofs.Building.{at_both, at_index, at_of_each, each_numbered, placed, zip_places}
 use Rattle.certificate_law.proofs.CanonicalData.{canonical_listed}
 use Rattle.certificate_law.proofs.CertifiedBases.{below_at, below_past, classes_at, no_degree}
 use Rattle.certificate_law.proofs.Columns.{products_by_pairs}
 use Rattle.certificate_law.proofs.ListedBases.{EachAfter, IsListedWell}
-use Rattle.certificate_law.proofs.Places.{EachAt}
 
 -- what the conditions from 2 on ask of a line
 abbrev pub IsRight : ℕ → Stated → Type 0

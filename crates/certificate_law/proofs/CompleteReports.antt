@@ -1,5 +1,5 @@
 -- Canonical data certify.
-use Rattle.std.proofs.Common.{◌≡◌, ℕ, zero, suc, ◌+◌, ◌-◌, ◌^◌, ◌<◌, ◌≤◌, None, true, IsTrue, refl, sym, ◌∙◌, ap, subst, arith, List, [], ◌∷◌, ◌++◌, length, map, get_or, slice_get, Some}
+use Rattle.std.proofs.Common.{◌≡◌, ℕ, zero, suc, ◌+◌, ◌-◌, ◌^◌, ◌<◌, None, true, IsTrue, refl, ◌∙◌, ap, subst, arith, List, [], ◌∷◌, ◌++◌, length, map, get_or, slice_get, Some}
 use Rattle.std.proofs.lemmas.List.{length-map}
 use Rattle.fp_field.specs.Served.{served}
 use Rattle.fp_field.proofs.ServedLemmas.{served_field}
@@ -24,11 +24,10 @@ use Rattle.report_law.specs.Reports.{IsComplexPart, IsInducedPart}
 use Rattle.report_law.specs.Terms.{passing_sum, sizes_of}
 use Rattle.certificate_law.specs.Certifies.{Certifies}
 use Rattle.certificate_law.specs.Conditions.{Asks, IsBlockLine}
-use Rattle.certificate_law.specs.Parts.{complex_named, itself, rank_in, sent_by}
+use Rattle.certificate_law.specs.Parts.{complex_named, itself, sent_by}
 use Rattle.certificate_law.specs.Stated.{Stated, behind, complex_stated, finish, induced_column, induced_stated, map_between, map_ends, map_stated, numbered, send_stands, stated, with_stands}
 use Rattle.certificate_law.proofs.Building.{at_both, at_of_each, each_behind, each_numbered, placed, zip_places}
 use Rattle.certificate_law.proofs.CompleteComplexes.{IsRight, column_same, complex_right, primitive_on}
-use Rattle.certificate_law.proofs.Places.{EachAt}
 
 -- ---- a map
 

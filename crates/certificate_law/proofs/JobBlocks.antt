@@ -1,19 +1,17 @@
 -- The blocks of the certificate of a job have no fault.
-use Rattle.std.proofs.Common.{◌≡◌, ℕ, zero, suc, ◌+◌, ◌-◌, ◌<◌, ◌≤◌, ◌⊎◌, inl, inr, ◌&&◌, ◌||◌, ◌==◌, nat_le, Bool, true, false, not, cond, refl, sym, ◌∙◌, ap, ap₂, subst, arith, List, [], ◌∷◌, ◌++◌, length, map, None, Some, append_assoc, append-nil}
-use Rattle.std.specs.Prelude.{nat_lt, fold}
+use Rattle.std.proofs.Common.{◌≡◌, ℕ, ◌+◌, ◌-◌, ◌<◌, ◌≤◌, inl, inr, ◌&&◌, ◌||◌, ◌==◌, nat_le, Bool, true, false, not, cond, refl, sym, ◌∙◌, ap, ap₂, subst, arith, List, [], ◌∷◌, ◌++◌, length, map, None, Some, append_assoc}
+use Rattle.std.specs.Prelude.{nat_lt}
 use Rattle.std.specs.List.{list_all, list_any}
 use Rattle.std.specs.Str.{bytes_eq}
-use Rattle.std.proofs.lemmas.Bool.{and_parts, eqb-true, le-ltb, ltb-false, or_parts}
-use Rattle.linear_law.specs.Lists.{Among, Each, IsApart, IsAscending}
+use Rattle.std.proofs.lemmas.Bool.{and_parts, eqb-true, le-ltb, ltb-false}
+use Rattle.linear_law.specs.Lists.{Among, Each, IsAscending}
 use Rattle.linear_law.proofs.Counting.{apart_short}
-use Rattle.linear_law.proofs.ListLemmas.{among_left, among_map, among_right, each_among, each_append, each_map, each_unmap}
+use Rattle.linear_law.proofs.ListLemmas.{among_left, among_right, each_unmap}
 use Rattle.linear_law.proofs.TriangularBases.{each_of_index}
 use Rattle.simplicial_law.specs.Simplices.{subsets}
-use Rattle.simplicial_law.specs.ListedSimplices.{simplices, sublists, with_facet}
+use Rattle.simplicial_law.specs.ListedSimplices.{simplices}
 use Rattle.simplicial_law.proofs.ListedSimplices.{all_put, of_all, simplices_sorted, simplices_sound, simplices_whole, sorted_in_order}
 use Rattle.complex_file.specs.declared.block.Sent.{Sent}
-use Rattle.complex_file.specs.declared.fault.BlockFault.{BlockFault}
-use Rattle.complex_file.specs.declared.kind.InputKind.{InputKind}
 use Rattle.complex_file.specs.declared.kind.InputKind.TheVariants.{FacetTooWide, ImageNotASimplex, NotOrderPreserving, TooManySimplices, VertexNotSent, VertexSentTwice, VertexUnknown}
 use Rattle.complex_file.specs.Complexes.{ascending, facet_fault, first_facet_fault, has_vertex}
 use Rattle.complex_file.specs.Maps.{end_fault, first_send_fault, image, image_of_facet, is_sent, is_vertex, keeps_edge, keeps_order, keeps_simplices, send_fault, sends_each}

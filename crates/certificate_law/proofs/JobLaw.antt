@@ -22,22 +22,14 @@ use Rattle.complex_file.specs.Text.{is_name}
 use Rattle.complex_file.specs.Written.{name_at}
 use Rattle.std.specs.Prelude.{is_none}
 use Rattle.report.specs.declared.complex.ComplexPart.{ComplexPart}
-use Rattle.report.specs.declared.complex.DegreePart.{DegreePart}
 use Rattle.report.specs.declared.columns.CartanAnswer.{CartanAnswer}
 use Rattle.report.specs.declared.columns.CartanAnswer.TheVariants.{Yes, No}
-use Rattle.report.specs.declared.columns.CartanPart.{CartanPart}
-use Rattle.report.specs.declared.columns.Column.{Column}
-use Rattle.report.specs.declared.columns.OperationPart.{OperationPart}
-use Rattle.report.specs.declared.columns.PairColumn.{PairColumn}
-use Rattle.report.specs.declared.columns.ProductPart.{ProductPart}
-use Rattle.report.specs.declared.job.Report.{Report}
-use Rattle.report.specs.declared.map.InducedPart.{InducedPart}
 use Rattle.report.specs.declared.map.MapPart.{MapPart}
 use Rattle.report.specs.declared.plan.Sizes.{Sizes}
 use Rattle.report_law.specs.Live.{induced_degrees}
 use Rattle.report_law.specs.Matrices.{Classes, ranks}
 use Rattle.report_law.specs.Parts.{classes_of, part_at, ranks_of}
-use Rattle.report_law.specs.Reports.{AreMaximalFacets, IsComplexPart, IsInducedPart, IsMapPart, IsMaximal}
+use Rattle.report_law.specs.Reports.{IsComplexPart, IsInducedPart, IsMapPart, IsMaximal}
 use Rattle.report_law.specs.Terms.{AreSizes, passing_sum, sizes_of}
 use Rattle.report_law.proofs.HeadlineProof.{classes-at}
 use Rattle.report_law.proofs.Maps.{IsMapOf, any-among, job-complexes, job-maps, job-prime, no-end-fault, no-fault}
@@ -46,7 +38,7 @@ use Rattle.report_law.proofs.Unique.{same-order}
 use Rattle.certificate_law.specs.Conditions.{IsBlockLine, complex_names, map_names}
 use Rattle.certificate_law.specs.Laws.{CompleteLaw}
 use Rattle.certificate_law.specs.Parts.{complex_named, itself, sent_by}
-use Rattle.certificate_law.specs.Stated.{Stated, after, answer_stated, behind, below_stands, cartan_stated, class_stands, complex_ends, complex_stated, degree_stated, facet_stands, finish, induced_column, induced_stated, map_between, map_ends, map_stated, numbered, operation_column, operation_stated, product_column, product_stated, send_stands, stated, with_stands}
+use Rattle.certificate_law.specs.Stated.{Stated, after, answer_stated, behind, below_stands, cartan_stated, class_stands, complex_ends, complex_stated, degree_stated, facet_stands, finish, induced_column, induced_stated, map_ends, map_stated, numbered, operation_column, operation_stated, product_column, product_stated, send_stands, with_stands}
 use Rattle.certificate_law.proofs.CompleteReports.{IsCanonical, canonical_certifies}
 use Rattle.certificate_law.proofs.JobBlocks.{FacetsFit, end_there, facet_lines, facets_fit, known_vertices, send_lines, vertex_there}
 use Rattle.certificate_law.proofs.JobMaps.{among-any, distinct_head, distinct_rest, induced_there, is_function, name_among, named_at, not_true, same_image}

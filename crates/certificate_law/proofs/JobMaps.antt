@@ -1,19 +1,17 @@
 -- The complexes of a job by their names, and the maps between them, as a certificate lists them.
-use Rattle.std.proofs.Common.{◌≡◌, ℕ, zero, suc, ◌+◌, ◌<◌, ◌≤◌, ◌⊎◌, inl, inr, ◌&&◌, ◌||◌, ◌==◌, Bool, true, false, not, cond, IsTrue, refl, sym, ◌∙◌, ap, ap₂, subst, arith, List, [], ◌∷◌, ◌++◌, length, map, get_or, None, Some}
+use Rattle.std.proofs.Common.{◌≡◌, ℕ, zero, suc, ◌+◌, ◌<◌, ◌⊎◌, inl, inr, ◌&&◌, ◌||◌, ◌==◌, Bool, true, false, not, cond, refl, sym, ◌∙◌, ap, ap₂, subst, arith, List, [], ◌∷◌, ◌++◌, length, map, None, Some}
 use Rattle.std.specs.Prelude.{if◌then◌else◌}
 use Rattle.std.specs.List.{AllZip, list_any}
 use Rattle.std.specs.Str.{bytes_eq}
 use Rattle.std.proofs.lemmas.Bool.{and_parts, eq-eqb, eqb-true}
-use Rattle.linear_law.specs.Lists.{Among, Each}
-use Rattle.linear_law.proofs.ListLemmas.{among_left, among_map, among_right, each_among, each_map, zip_change}
+use Rattle.linear_law.specs.Lists.{Among}
+use Rattle.linear_law.proofs.ListLemmas.{among_left, among_right, each_among, zip_change}
 use Rattle.simplicial_law.specs.Cochains.{Cochain}
 use Rattle.steenrod_law.specs.Operations.{pull_back}
 use Rattle.complex_file.specs.declared.block.ComplexBlock.{ComplexBlock}
-use Rattle.complex_file.specs.declared.block.MapBlock.{MapBlock}
 use Rattle.complex_file.specs.declared.block.Sent.{Sent}
-use Rattle.complex_file.specs.declared.kind.InputKind.{InputKind}
 use Rattle.complex_file.specs.declared.kind.InputKind.TheVariants.{VertexSentTwice, VertexUnknown}
-use Rattle.complex_file.specs.Jobs.{are_distinct, facets_at, has_name}
+use Rattle.complex_file.specs.Jobs.{are_distinct, has_name}
 use Rattle.complex_file.specs.Maps.{first_send_fault, image, is_sent, is_vertex, send_fault}
 use Rattle.complex_file.specs.Written.{name_at}
 use Rattle.report.specs.declared.columns.Column.{Column}

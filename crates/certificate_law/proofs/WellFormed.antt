@@ -1,5 +1,5 @@
 -- What well-formed lines tell: facets ascend, values are below the prime, and chains are terms in order.
-use Rattle.std.proofs.Common.{◌≡◌, ℕ, zero, suc, ◌+◌, ◌<◌, ◌&&◌, Bool, true, refl, sym, ◌∙◌, ap, subst, arith, List, [], ◌∷◌, length, map}
+use Rattle.std.proofs.Common.{◌≡◌, ℕ, zero, suc, ◌<◌, ◌&&◌, Bool, true, refl, sym, ◌∙◌, ap, subst, arith, List, [], ◌∷◌, map}
 use Rattle.std.specs.Prelude.{nat_lt}
 use Rattle.std.specs.List.{list_all}
 use Rattle.std.specs.Ordering.{is_lt}

@@ -1,12 +1,11 @@
 -- The laws of certificates.
-use Rattle.std.specs.Prelude.{◌≡◌, ℕ, ◌+◌, ◌^◌, true, List, map, length}
+use Rattle.std.specs.Prelude.{◌≡◌, ℕ, ◌+◌, ◌^◌, true, map, length}
 use Rattle.linear_law.specs.Lists.{Each}
 use Rattle.complex_file.specs.Input.{Spelled}
 use Rattle.complex_file.specs.Jobs.{is_job}
 use Rattle.report.specs.declared.columns.CartanAnswer.{CartanAnswer}
 use Rattle.report.specs.declared.columns.CartanAnswer.TheVariants.{Yes, No}
 use Rattle.report.specs.declared.columns.CartanPart.{CartanPart}
-use Rattle.report.specs.declared.complex.ComplexPart.{ComplexPart}
 use Rattle.report.specs.declared.form.Form.TheVariants.{Certificate}
 use Rattle.report.specs.declared.job.Report.{Report}
 use Rattle.report.specs.declared.map.MapPart.{MapPart}
