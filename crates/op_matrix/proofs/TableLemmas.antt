@@ -50,7 +50,7 @@ module _ (p : ℕ) (detailed : Bool) (levels : List (List (List ℕ))) (classes 
   made_in n z = cochain_in levels n z.row
 
   -- columns of cochains that agree
-  column-alike : (facets : List (List ℕ)) (n : ℕ) (zs : List (Cochain p)) (z u : SimplexCochain) (c : Column p) → AgreesOnSimplices facets n p z u → IsColumnFor {p = p} detailed facets levels n zs z c → IsColumnFor {p = p} detailed facets levels n zs u c
+  pub column-alike : (facets : List (List ℕ)) (n : ℕ) (zs : List (Cochain p)) (z u : SimplexCochain) (c : Column p) → AgreesOnSimplices facets n p z u → IsColumnFor {p = p} detailed facets levels n zs z c → IsColumnFor {p = p} detailed facets levels n zs u c
   column-alike facets n zs z u c same h =
       let us : List SimplexCochain = cochains_at {p = p} levels n zs in
       record {
