@@ -34,8 +34,7 @@ pub found_placed : {p : ℕ} (ls : List (List (List ℕ))) (vs found : List (Vec
 found_placed {p} ls vs found same h = subst (Each (λ v. Each (λ c. IsPlaced ls c) v.items)) (sym same) (all_placed ls 0 vs h)
 
 -- what is listed is what was found
-pub listed_bases : {p : ℕ} (facets used : List (List ℕ)) (ls : List (List (List ℕ))) (vs found : List (Vec (Cochain p) Global)) (lists : List (List Chain)) → used ≡ facets → IsIndexOf used ls → found ≡ vs
+pub listed_bases : {p : ℕ} (facets : List (List ℕ)) (ls : List (List (List ℕ))) (vs found : List (Vec (Cochain p) Global)) (lists : List (List Chain)) → IsIndexOf facets ls → found ≡ vs
     → lists ≡ map (λ v. map (λ c. terms_in ls c) v.items) found → ArePlacedFrom p ls 0 vs → ((fs : List (List ℕ)) → IsIndexOf fs ls → AreCanonicalBases fs p (chains_of ls vs)) → AreCanonicalBases facets p lists
-listed_bases {p} facets used ls vs found lists all index same h placed bases =
-    let index_of : IsIndexOf facets ls = subst (λ fs. IsIndexOf fs ls) all index in
-    subst (AreCanonicalBases facets p) (sym (h ∙ ap (map (λ v. map (λ c. terms_in ls c) v.items)) same ∙ all_terms ls 0 vs placed)) (bases facets index_of)
+listed_bases {p} facets ls vs found lists index same h placed bases =
+    subst (AreCanonicalBases facets p) (sym (h ∙ ap (map (λ v. map (λ c. terms_in ls c) v.items)) same ∙ all_terms ls 0 vs placed)) (bases facets index)
