@@ -1,1 +1,9 @@
 mod LiveLemmas
+mod ChargeLemmas
+mod RowLemmas
+mod KeyLemmas
+mod LineLemmas
+mod CountLemmas
+mod PartLemmas
+mod StepLemmas
+mod TermLemmas

@@ -1,1 +1,3 @@
 pub mod LiveParts
+pub mod Charges
+pub mod Counts

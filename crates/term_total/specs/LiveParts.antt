@@ -1,6 +1,7 @@
 -- Live blocks and lines, in the parts in which they are listed.
 use Rattle.std.specs.Prelude.{ℕ, ◌+◌, Bool, ◌&&◌, List, [], ◌∷◌, flat_map, map}
 use Rattle.std.specs.List.{filter}
+use Rattle.signed_sum.specs.Lists.{numbers_from}
 use Rattle.report.specs.declared.plan.Block.{Block}
 use Rattle.report.specs.declared.plan.Line.{Line}
 use Rattle.report.specs.declared.plan.Op.{Op}
@@ -10,6 +11,10 @@ use Rattle.report_law.specs.Live.{block_on, cartan_op, class_numbers, degrees, h
 
 abbrev pub is_live_product : List ℕ → Product → Bool
 is_live_product ranks x = has_class ranks x.a && (has_class ranks x.b && has_class ranks (x.a + x.b))
+
+-- both degrees have classes
+abbrev pub is_class_pair : List ℕ → Product → Bool
+is_class_pair ranks x = has_class ranks x.a && has_class ranks x.b
 
 abbrev pub product_of : ℕ → ℕ → Product
 product_of a b = record { a = a; b = b }

@@ -4,7 +4,8 @@ ghost use Rattle.std.specs.List.{filter};
 ghost use Rattle.signed_sum.specs.Lists.{numbers_from};
 ghost use Rattle.fp_field.specs.Served.{served};
 ghost use Rattle.report_law.specs.Live.{blocks as blocks_of, degrees, has_class as has_class_at, lines as lines_of, lines_of_pair, products as products_of};
-ghost use Rattle.term_total.specs.LiveParts.{is_live_block, is_live_line, is_live_product, lines_of_class, lines_of_degree, lines_of_degrees, live_blocks, operations_with, product_of};
+ghost use Rattle.term_total.specs.Counts.{class_pairs as class_pairs_of};
+ghost use Rattle.term_total.specs.LiveParts.{is_class_pair, is_live_block, is_live_line, is_live_product, lines_of_class, lines_of_degree, lines_of_degrees, live_blocks, operations_with, product_of};
 
 use crate::degrees::{is_defined, target_degree};
 use crate::pairs::cartan_op;
@@ -58,6 +59,38 @@ pub fn products(alloc: Global, ranks: &[u32]) -> Result<Vec<Product>, AllocError
     let mut found = Vec::new(alloc);
     for a in 0..ranks.len() as u32 {
         add_products(&mut found, ranks, a)?;
+    }
+    Ok(found)
+}
+
+/// Whether two degrees have classes.
+fn are_inhabited(ranks: &[u32], a: u32, b: u32) -> bool
+    ensures { result ≡ is_class_pair ranks.now (product_of a b) }
+{
+    has_class(ranks, a) && has_class(ranks, b)
+}
+
+/// Adds the pairs of degree a with others that have classes.
+fn add_class_pairs(found: &mut Vec<Product>, ranks: &[u32], a: u32) -> Result<(), AllocError>
+    requires few { length ranks.now ≤ 16 }
+    ensures { OnOk result (found.new.items ≡ found.old.items ++ filter (is_class_pair ranks.now) (map (product_of a) (degrees ranks.now))) }
+{
+    for b in 0..ranks.len() as u32 {
+        if are_inhabited(ranks, a, b) {
+            found.push(Product { a, b })?;
+        }
+    }
+    Ok(())
+}
+
+/// The pairs of degrees that have classes, in order.
+pub(crate) fn class_pairs(alloc: Global, ranks: &[u32]) -> Result<Vec<Product>, AllocError>
+    requires { length ranks.now ≤ 16 }
+    ensures { IfOk result (λ v. v.items ≡ class_pairs_of ranks.now) }
+{
+    let mut found = Vec::new(alloc);
+    for a in 0..ranks.len() as u32 {
+        add_class_pairs(&mut found, ranks, a)?;
     }
     Ok(found)
 }
@@ -127,7 +160,7 @@ fn is_live(p: u32, ranks: &[u32], line: &Line) -> bool
 }
 
 /// Adds the live lines of class i of degree a and class j of degree b.
-fn add_lines_of_pair(
+pub(crate) fn add_lines_of_pair(
     found: &mut Vec<Line>,
     p: u32,
     ranks: &[u32],
@@ -150,7 +183,7 @@ fn add_lines_of_pair(
 }
 
 /// The rank in degree n, 0 past the dimension.
-fn rank_at(ranks: &[u32], n: u32) -> u32
+pub(crate) fn rank_at(ranks: &[u32], n: u32) -> u32
     ensures { result ≡ slice_index ranks.now n }
 {
     match ranks.get(n as usize) {

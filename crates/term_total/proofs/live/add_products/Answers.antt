@@ -1,6 +1,7 @@
-use Rattle.std.proofs.Common.{◌+◌, ◌≡◌, ◌∙◌, arith, ap, sym, Vec, Global}
-use Rattle.term_total.specs.LiveParts.{is_live_product, product_of}
-use Rattle.term_total.proofs.LiveLemmas.{fails, items-more, passes}
+use Rattle.std.proofs.Common.{◌+◌, ◌≡◌, ◌∙◌, [], arith, map, ap, sym, Vec, Global}
+use Rattle.report_law.specs.Live.{block_on, degrees, lines_of_pair, operations}
+use Rattle.term_total.specs.LiveParts.{is_live_block, is_live_line, is_live_product, line_of, lines_of_class, lines_of_degree, lines_of_degrees, product_of}
+use Rattle.term_total.proofs.LiveLemmas.{blocks-more, fails, items-more, parts-more, passes}
 use Rattle.term_total.proofs.live.add_products.Goals as goal
 use Rattle.report.specs.declared.plan.Product.{Product}
 use Rattle.term_total.proofs.live.add_products.Goals.{then-is_live_pair+in_ok-push, else-is_live_pair}
@@ -15,8 +16,8 @@ loop-b-preserved c =
     elim c.if-is_live_pair.branch [
       | then-is_live_pair+in_ok-push w ↦
           items-more T (product_of c.args.a) 0 b b c.args.found.now.items found c.if-is_live_pair.found.items c.loop-b.invariant e
-          (ap (λ (v : Vec Product Global). v.items) w.found-is ∙ passes T x found w.push.new.self.items (sym c.is_live_pair.ensures ∙ w.if-is_live_pair.true) w.in_ok-push.ensures.items)
+              (ap (λ (v : Vec Product Global). v.items) w.found-is ∙ passes T x found w.push.new.self.items (sym c.is_live_pair.ensures ∙ w.if-is_live_pair.true) w.in_ok-push.ensures.items)
       | else-is_live_pair w ↦
           items-more T (product_of c.args.a) 0 b b c.args.found.now.items found c.if-is_live_pair.found.items c.loop-b.invariant e
-          (ap (λ (v : Vec Product Global). v.items) w.found-is ∙ fails T x found (sym c.is_live_pair.ensures ∙ w.if-is_live_pair.false))
+              (ap (λ (v : Vec Product Global). v.items) w.found-is ∙ fails T x found (sym c.is_live_pair.ensures ∙ w.if-is_live_pair.false))
     ]

@@ -1,0 +1,50 @@
+-- Lists that are made of equal rows.
+use Rattle.std.proofs.Common.{◌≡◌, ℕ, zero, suc, ◌+◌, ◌*◌, Bool, true, false, cond, List, [], ◌∷◌, ◌++◌, map, arith, refl, sym, ap, ap₂, ◌∙◌}
+use Rattle.std.specs.Prelude.{flat_map}
+use Rattle.std.specs.List.{filter}
+use Rattle.std.proofs.lemmas.Grind.{flat_map-append}
+use Rattle.std.proofs.lemmas.List.Elements.{filter-append}
+use Rattle.signed_sum.specs.Lists.{numbers_from}
+use Rattle.term_total.specs.Charges.{repeated}
+
+pub filter-flat : {X Y : Type 0} (test : Y → Bool) (g : X → List Y) (xs : List X) → filter test (flat_map g xs) ≡ flat_map (λ x. filter test (g x)) xs
+filter-flat test g [] = refl
+filter-flat test g (x ∷ xs) = filter-append test (g x) (flat_map g xs) ∙ ap (λ ys. filter test (g x) ++ ys) (filter-flat test g xs)
+
+pub flat-flat : {X Y Z : Type 0} (f : Y → List Z) (g : X → List Y) (xs : List X) → flat_map f (flat_map g xs) ≡ flat_map (λ x. flat_map f (g x)) xs
+flat-flat f g [] = refl
+flat-flat f g (x ∷ xs) = flat_map-append f (g x) (flat_map g xs) ∙ ap (λ ys. flat_map f (g x) ++ ys) (flat-flat f g xs)
+
+pub flat-same : {X Y : Type 0} (g h : X → List Y) (xs : List X) → ((x : X) → g x ≡ h x) → flat_map g xs ≡ flat_map h xs
+flat-same g h [] e = refl
+flat-same g h (x ∷ xs) e = ap₂ (λ ys zs. ys ++ zs) (e x) (flat-same g h xs e)
+
+pub flat-constant : {X : Type 0} (row : List X) (s k : ℕ) → flat_map (λ (i : ℕ). row) (numbers_from s k) ≡ repeated k row
+flat-constant row s zero = refl
+flat-constant row s (suc k) = ap (λ ys. row ++ ys) (flat-constant row (suc s) k)
+
+append-nil : {X : Type 0} (xs : List X) → xs ++ [] ≡ xs
+append-nil [] = refl
+append-nil (x ∷ xs) = ap (λ ys. x ∷ ys) (append-nil xs)
+
+append-assoc : {X : Type 0} (xs ys zs : List X) → (xs ++ ys) ++ zs ≡ xs ++ (ys ++ zs)
+append-assoc [] ys zs = refl
+append-assoc (x ∷ xs) ys zs = ap (λ ws. x ∷ ws) (append-assoc xs ys zs)
+
+repeated-sum : {X : Type 0} (j k : ℕ) (row : List X) → repeated j row ++ repeated k row ≡ repeated (j + k) row
+repeated-sum zero k row = let e : k ≡ 0 + k = omega arith in ap (λ n. repeated n row) e
+repeated-sum (suc j) k row = let e : suc (j + k) ≡ suc j + k = omega arith in append-assoc row (repeated j row) (repeated k row) ∙ ap (λ ys. row ++ ys) (repeated-sum j k row) ∙ ap (λ n. repeated n row) e
+
+pub repeated-times : {X : Type 0} (j k : ℕ) (row : List X) → repeated j (repeated k row) ≡ repeated (j * k) row
+repeated-times zero k row = let e : 0 ≡ 0 * k = omega arith in ap (λ n. repeated n row) e
+repeated-times (suc j) k row = let e : k + j * k ≡ suc j * k = omega arith in ap (λ ys. repeated k row ++ ys) (repeated-times j k row) ∙ repeated-sum k (j * k) row ∙ ap (λ n. repeated n row) e
+
+pub map-flat : {X Y : Type 0} (f : X → Y) (xs : List X) → map f xs ≡ flat_map (λ x. f x ∷ []) xs
+map-flat f [] = refl
+map-flat f (x ∷ xs) = ap (λ ys. f x ∷ ys) (map-flat f xs)
+
+-- the items of rows that go by two numbers, of which the row does not depend
+pub rows-repeated : {X : Type 0} (g : ℕ → ℕ → List X) (row : List X) (m n : ℕ) → ((i j : ℕ) → g i j ≡ row) → flat_map (λ i. flat_map (g i) (numbers_from 1 n)) (numbers_from 1 m) ≡ repeated (m * n) row
+rows-repeated g row m n e =
+    flat-same (λ i. flat_map (g i) (numbers_from 1 n)) (λ i. repeated n row) (numbers_from 1 m) (λ i. flat-same (g i) (λ j. row) (numbers_from 1 n) (e i) ∙ flat-constant row 1 n)
+    ∙ flat-constant (repeated n row) 1 m ∙ repeated-times m n row

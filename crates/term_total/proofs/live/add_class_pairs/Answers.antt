@@ -1,0 +1,23 @@
+use Rattle.std.proofs.Common.{◌+◌, ◌≡◌, ◌∙◌, [], arith, map, ap, sym, Vec, Global}
+use Rattle.report_law.specs.Live.{block_on, degrees, lines_of_pair, operations}
+use Rattle.term_total.specs.LiveParts.{is_live_block, is_live_line, is_class_pair, line_of, lines_of_class, lines_of_degree, lines_of_degrees, product_of}
+use Rattle.term_total.proofs.LiveLemmas.{blocks-more, fails, items-more, parts-more, passes}
+use Rattle.term_total.proofs.live.add_class_pairs.Goals as goal
+use Rattle.report.specs.declared.plan.Product.{Product}
+use Rattle.term_total.proofs.live.add_class_pairs.Goals.{then-are_inhabited+in_ok-push, else-are_inhabited}
+
+pub loop-b-preserved : goal.loop-b-preserved
+loop-b-preserved c =
+    let b = c.loop-b.b in
+    let x = product_of c.args.a b in
+    let T = is_class_pair c.args.ranks.now in
+    let e : b ≡ 0 + b = omega arith in
+    let found = c.loop-b.found.items in
+    elim c.if-are_inhabited.branch [
+      | then-are_inhabited+in_ok-push w ↦
+          items-more T (product_of c.args.a) 0 b b c.args.found.now.items found c.if-are_inhabited.found.items c.loop-b.invariant e
+              (ap (λ (v : Vec Product Global). v.items) w.found-is ∙ passes T x found w.push.new.self.items (sym c.are_inhabited.ensures ∙ w.if-are_inhabited.true) w.in_ok-push.ensures.items)
+      | else-are_inhabited w ↦
+          items-more T (product_of c.args.a) 0 b b c.args.found.now.items found c.if-are_inhabited.found.items c.loop-b.invariant e
+              (ap (λ (v : Vec Product Global). v.items) w.found-is ∙ fails T x found (sym c.are_inhabited.ensures ∙ w.if-are_inhabited.false))
+    ]

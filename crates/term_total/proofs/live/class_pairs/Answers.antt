@@ -1,0 +1,12 @@
+use Rattle.std.proofs.Common.{◌+◌, ◌≡◌, ◌∙◌, [], arith, map, ap, sym, Vec, Global}
+use Rattle.report_law.specs.Live.{block_on, degrees, lines_of_pair, operations}
+use Rattle.term_total.specs.LiveParts.{is_live_block, is_live_line, is_class_pair, line_of, lines_of_class, lines_of_degree, lines_of_degrees, product_of}
+use Rattle.term_total.proofs.LiveLemmas.{blocks-more, fails, items-more, parts-more, passes}
+use Rattle.term_total.proofs.live.class_pairs.Goals as goal
+
+pub loop-a-preserved : goal.loop-a-preserved
+loop-a-preserved c =
+    let a = c.loop-a.a in
+    let ranks = c.args.ranks.now in
+    let e : a ≡ 0 + a = omega arith in
+    parts-more (is_class_pair ranks) (λ x. map (product_of x) (degrees ranks)) 0 a a [] c.loop-a.found.items c.add_class_pairs.new.found.items c.loop-a.invariant e c.in_ok-add_class_pairs.ensures
