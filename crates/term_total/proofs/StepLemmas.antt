@@ -132,6 +132,15 @@ module _ {X : Type 0} (xs : List X) (i : ℕ) (x : X) (here : i < length xs) (is
       → (new ≡ charged old (sum_of (flat_map f (take (i + 1) xs)))) × IsCount new
   charged-step f old mid new u m h c = (charges-more old mid new (flat_map f (take i xs)) (f x) (flat_map f (take (i + 1) xs)) u m c (flat-taken f), count-after mid new (f x) u h c)
 
+  -- the same behind other numbers
+  pub charged-more-step : (f : X → List ℕ) (first : List ℕ) (old mid new : Count) (u : Unit) → mid ≡ charged old (sum_of (first ++ flat_map f (take i xs))) → IsCount mid → Charges mid (f x) (Ok u) new
+      → (new ≡ charged old (sum_of (first ++ flat_map f (take (i + 1) xs)))) × IsCount new
+  charged-more-step f first old mid new u m h c = (
+    charges-more old mid new (first ++ flat_map f (take i xs)) (f x) (first ++ flat_map f (take (i + 1) xs)) u m c
+        (ap (λ ys. first ++ ys) (flat-taken f) ∙ sym (append-assoc first (flat_map f (take i xs)) (f x))),
+    count-after mid new (f x) u h c,
+  )
+
   pub flat-split : {Y : Type 0} (f : X → List Y) → flat_map f xs ≡ flat_map f (take i xs) ++ (f x ++ flat_map f (drop (i + 1) xs))
   flat-split f =
       ap (flat_map f) (split-at xs i x here is) ∙ flat_map-append f (take i xs) (x ∷ drop (i + 1) xs)

@@ -9,7 +9,8 @@ use Rattle.term_total.proofs.StepLemmas.{map-taken, split-at, taken}
 use Rattle.std.specs.List.{AllByRecursion}
 use Rattle.std.specs.List.Sorted.{IsStrictlySortedBy}
 use Rattle.std.specs.Ordering.{nat_cmp, ordering_reverse}
-use Rattle.std.proofs.Common.{take_all}
+use Rattle.std.specs.FinMap.{nat_cmp-IsAntisymmetric}
+use Rattle.term_total.proofs.KeyLemmas.{fold-sorted}
 use Rattle.std.proofs.lemmas.Cmp.{nat_cmp_total}
 use Rattle.std.proofs.lemmas.List.{map-append}
 use Rattle.linear_law.specs.Lists.{Among, Each}
@@ -23,7 +24,7 @@ use Rattle.report.specs.declared.plan.Op.{Op}
 use Rattle.report.specs.declared.plan.Product.{Product}
 use Rattle.report.specs.declared.plan.Sizes.{Sizes}
 use Rattle.report_law.specs.Live.{blocks, element_degree, lines, target_degree}
-use Rattle.report_law.specs.Terms.{addends, block_terms, complex_terms, first_past, line_terms, passing_sum}
+use Rattle.report_law.specs.Terms.{addends, block_terms, complex_elements, complex_terms, elements, first_past, line_terms, passing_sum}
 use Rattle.term_total.specs.Charges.{Charges, IsCount, repeated, sum_of}
 use Rattle.term_total.specs.Counts.{applied, class_pairs, line_operations, live_total, operation_number, pair_lines, pair_terms}
 use Rattle.term_total.specs.declared.pairs.Applied.{Applied}
@@ -104,11 +105,11 @@ later-others (y ∷ xs) zero x h l e = all xs h.0
     all : (zs : List ℕ) → AllByRecursion (λ z. nat_cmp y z ≡ Less) zs → Each (λ k. k ≢ x) zs
     all [] a = tt
     all (z ∷ zs) a = ((λ s. not-less (nat_cmp y y) (nat_cmp_total.antisymm y y) (ap (nat_cmp y) (sym e ∙ sym s) ∙ a.0)), all zs a.1)
-later-others (y ∷ xs) (suc i) x h l e = later-others xs i x h.1 (omega arith) e
+later-others (y ∷ xs) (suc i) x h l e = (let k : suc (i + 1) ≡ suc i + 1 = omega arith in subst (λ (n : ℕ). Each (λ m. m ≢ x) (drop n (y ∷ xs))) k (later-others xs i x h.1 (omega arith) e))
 
-each-append : {P : ℕ → Type 0} (xs ys : List ℕ) → Each P xs → Each P ys → Each P (xs ++ ys)
-each-append [] ys h k = k
-each-append (x ∷ xs) ys h k = (h.0, each-append xs ys h.1 k)
+each-append : (P : ℕ → Type 0) (xs ys : List ℕ) → Each P xs → Each P ys → Each P (xs ++ ys)
+each-append P [] ys h k = k
+each-append P (x ∷ xs) ys h k = (h.0, each-append P xs ys h.1 k)
 
 each-both : (P Q R : ℕ → Type 0) (xs : List ℕ) → ((x : ℕ) → P x → Q x → R x) → Each P xs → Each Q xs → Each R xs
 each-both P Q R [] f h k = tt
@@ -121,13 +122,13 @@ each-weaker P R (x ∷ xs) f h = (f x h.0, each-weaker P R xs f h.1)
 pub none-at : (P : ℕ → Type 0) (xs : List ℕ) (i x : ℕ) → i < length xs → x ≡ get_or xs i x → Each P (drop i xs) → P x × Each P (drop (i + 1) xs)
 none-at P [] i x l e h = absurd (omega arith)
 none-at P (y ∷ xs) zero x l e h = (subst P (sym e) h.0, h.1)
-none-at P (y ∷ xs) (suc i) x l e h = none-at P xs i x (omega arith) e h
+none-at P (y ∷ xs) (suc i) x l e h = (let k : suc (i + 1) ≡ suc i + 1 = omega arith in let r = none-at P xs i x (omega arith) e h in (r.0, subst (λ (n : ℕ). Each P (drop n (y ∷ xs))) k r.1))
 
 module _ (x : ℕ) (xs : List ℕ) (i : ℕ) (here : i < length xs) (is : x ≡ get_or xs i x) (old new : List (ℕ × List (List ℕ × ℤ))) (others : (k : ℕ) → k ≢ x → stored_at k new ≡ stored_at k old) where
   pub grown-stored : IsSome (stored_at x new) → Each (λ d. IsTrue (is_some (stored_at d old))) (take i xs) → Each (λ d. IsTrue (is_some (stored_at d new))) (take (i + 1) xs)
   grown-stored s h =
       subst (Each (λ d. IsTrue (is_some (stored_at d new)))) (sym (taken xs i x here is))
-      (each-append {P = λ d. IsTrue (is_some (stored_at d new))} (take i xs) (x ∷ [])
+      (each-append (λ d. IsTrue (is_some (stored_at d new))) (take i xs) (x ∷ [])
       (each-weaker (λ d. IsTrue (is_some (stored_at d old))) (λ d. IsTrue (is_some (stored_at d new))) (take i xs) one h) (s, tt))
     where
       one : (d : ℕ) → IsTrue (is_some (stored_at d old)) → IsTrue (is_some (stored_at d new))
@@ -168,7 +169,15 @@ module _ (f : ℕ → ℕ) (xs : List ℕ) (i x : ℕ) (here : i < length xs) (i
 pub charged-none : (t : Count) → t ≡ charged t 0
 charged-none t = (let n : t.used ≡ t.used + 0 = omega arith in ap (counted t.limit) n)
 
+pub none-stored : (table : List (ℕ × List (List ℕ × ℤ))) (xs : List ℕ) → table ≡ [] → Each (λ d. stored_at d table ≡ None) xs
+none-stored table [] e = tt
+none-stored table (x ∷ xs) e = (ap (stored_at x) e, none-stored table xs e)
+
 -- ---- the total
+
+pub elements-sorted : (p : ℕ) (zs : List Sizes) → IsStrictlySortedBy nat_cmp (elements p zs)
+unfolding IsStrictlySortedBy
+elements-sorted p zs = fold-sorted nat_cmp nat_cmp_total nat_cmp-IsAntisymmetric (flat_map (complex_elements p) zs) [] tt
 
 module _ (p : ℕ) (zs : List Sizes) (old new : Count) (unused : old.used ≡ 0) where
   pub total-within : (u : Unit) → Charges old (addends p zs) (Ok u) new → passing_sum p old.limit zs ≡ None

@@ -70,7 +70,10 @@ pub(crate) fn live_cuts<const P: u32>(
         None => {}
     }
     let count = match table.element(d) {
-        Some(element) => live_cuts_in(alloc, element, q)?,
+        Some(element) => {
+            let _weight = element.weight();
+            live_cuts_in(alloc, element, q)?
+        }
         None => unreachable!(),
     };
     counts.push(Counted {

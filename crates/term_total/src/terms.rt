@@ -233,6 +233,7 @@ pub fn total<const P: u32>(
     ensures used { OnOk result (terms.new ≡ counted terms.old.limit (sum_of (addends P parts.now))) }
     ensures passes { (over : Over) → result ≡ Err (MayRefused.TooManyTerms over) → (passing_sum P terms.old.limit parts.now ≡ Some over.count) × (over.limit ≡ terms.old.limit) }
 {
+    let _left = terms.left();
     let Ok(degrees) = elements(alloc, P, parts) else {
         return Err(MayRefused::OutOfMemory);
     };

@@ -1,4 +1,4 @@
-use Rattle.std.proofs.Common.{ℕ, ◌∙◌, ◌≤◌, List, ap, arith, get_or, length, map, subst, sym}
+use Rattle.std.proofs.Common.{ℕ, ◌∙◌, ◌≤◌, List, ap, arith, get_or, length, map, subst, sym, lit<}
 use Rattle.may_elements.specs.Counted.{cut_off}
 use Rattle.report.specs.declared.plan.Block.{Block}
 use Rattle.report_law.specs.Live.{blocks}
@@ -21,12 +21,10 @@ operation_number-requires g c =
     let x = get_or xs i no_block in
     let m = among-through xs c.in_ok-blocks.blocks.items (blocks p z.ranks) i x c.as_slice-block-items.ensures.value (c.in_ok-blocks.ensures ∙ ap (blocks p) c.as_slice.ensures) c.loop-block-test.true
         (itself xs i no_block c.loop-block-test.true) in
-    record {
-      prime = c.requires.prime;
-      applied = block-applied p z.ranks c.requires.part.few x m;
-      stored = block-stored p (IsStored p c.args.table.now) z.ranks x c.requires.stored m;
-      counted = c.loop-block.invariant.1;
-    }
+    (lit< tt, (c.requires.prime,
+      (block-applied p z.ranks c.requires.part.few x m,
+      (block-stored p (IsStored p c.args.table.now) z.ranks x c.requires.stored m,
+      c.loop-block.invariant.1))))
 
 pub loop-block-preserved : goal.loop-block-preserved
 loop-block-preserved g c =

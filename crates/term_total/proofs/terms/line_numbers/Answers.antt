@@ -1,4 +1,4 @@
-use Rattle.std.proofs.Common.{ℕ, ◌∙◌, List, ap, arith, map, refl, subst, sym, get_or}
+use Rattle.std.proofs.Common.{ℕ, ◌∙◌, List, ap, arith, map, refl, subst, sym, get_or, lit<}
 use Rattle.linear_law.specs.Lists.{Each}
 use Rattle.may_elements.specs.Counted.{cut_off}
 use Rattle.report.specs.declared.plan.Line.{Line}
@@ -21,12 +21,10 @@ operations_number-requires g c =
     let l = (get_or c.args.lines.now c.loop-line.line-index no_line) in
     let m = among-at xs c.loop-line.line-index l c.loop-line-test.true (itself c.args.lines.now c.loop-line.line-index no_line c.loop-line-test.true) in
     let e = sym (c.deref.ensures.value ∙ c.in_ok-operations.ensures) in
-    record {
-      prime = c.requires.prime;
-      applied = subst (Each (IsApplied p)) e (each-applied p l (each-among (IsLine p) xs l c.requires.lines m));
-      stored = subst (Each (IsStored p c.args.table.now)) e (each-among (λ k. Each (IsStored p c.args.table.now) (line_operations p k)) xs l c.requires.stored m);
-      counted = c.loop-line.invariant.1;
-    }
+    (lit< tt, (c.requires.prime,
+      (subst (Each (IsApplied p)) e (each-applied p l (each-among (IsLine p) xs l c.requires.lines m)),
+      (subst (Each (IsStored p c.args.table.now)) e (each-among (λ k. Each (IsStored p c.args.table.now) (line_operations p k)) xs l c.requires.stored m),
+      c.loop-line.invariant.1))))
 
 pub loop-line-preserved : goal.loop-line-preserved
 loop-line-preserved g c =

@@ -1,4 +1,4 @@
-use Rattle.std.proofs.Common.{ℕ, ◌∙◌, List, ap, arith, map, refl, get_or}
+use Rattle.std.proofs.Common.{ℕ, ◌∙◌, List, ap, arith, map, refl, get_or, lit<}
 use Rattle.may_elements.specs.Counted.{cut_off}
 use Rattle.term_total.specs.Charges.{sum_of}
 use Rattle.term_total.specs.Counts.{IsApplied, IsStored, operation_number}
@@ -13,12 +13,10 @@ operation_number-requires g c =
     let xs = c.args.operations.now in
     let x = (get_or c.args.operations.now c.loop-operation.operation-index no_applied) in
     let m = among-at xs c.loop-operation.operation-index x c.loop-operation-test.true (itself c.args.operations.now c.loop-operation.operation-index no_applied c.loop-operation-test.true) in
-    record {
-      prime = c.requires.prime;
-      applied = each-among (IsApplied g.row.P) xs x c.requires.applied m;
-      stored = each-among (IsStored g.row.P c.args.table.now) xs x c.requires.stored m;
-      counted = c.loop-operation.invariant.1;
-    }
+    (lit< tt, (c.requires.prime,
+      (each-among (IsApplied g.row.P) xs x c.requires.applied m,
+      (each-among (IsStored g.row.P c.args.table.now) xs x c.requires.stored m,
+      c.loop-operation.invariant.1))))
 
 pub loop-operation-preserved : goal.loop-operation-preserved
 loop-operation-preserved g c = (
