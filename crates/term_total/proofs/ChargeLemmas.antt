@@ -36,7 +36,7 @@ past-within limit s [] l h = omega arith
 past-within limit s (x ∷ xs) l h = elim (cases_lt limit (s + x)) [
   | inl b ↦ absurd (none-some (printed_count (s + x)) (sym h ∙ step limit s x xs true (lt-ltb limit (s + x) b)))
   | inr b ↦
-        let r = past-within limit (s + x) xs b (sym (step limit s x xs false (le-ltb limit (s + x) b)) ∙ h) in
+      let r = past-within limit (s + x) xs b (sym (step limit s x xs false (le-ltb limit (s + x) b)) ∙ h) in
       omega arith
 ]
 

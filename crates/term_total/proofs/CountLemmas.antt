@@ -74,7 +74,7 @@ none-below u (t ∷ ts) h = step-other u t ts (apart u t.0 h.0) ∙ none-below u
 
 below-among : (u v : List ℕ) (ts : List (List ℕ × ℤ)) → IsBelow simplex_cmp u ts → Among v (map (λ t. t.0) ts) → simplex_cmp u v ≡ Less
 below-among u v [] h m = elim m [ ]
-below-among u v (t ∷ ts) h m = elim m [ | inl e ↦ ap (simplex_cmp u) (sym e) ∙ h.0 | inr n ↦ below-among u v ts h.1 n ]
+below-among u v (t ∷ ts) h m = elim m [ inl e ↦ ap (simplex_cmp u) (sym e) ∙ h.0 | inr n ↦ below-among u v ts h.1 n ]
 
 -- the coefficient of an element of a formal sum is not 0
 nonzero-among : (u : List ℕ) (ts : List (List ℕ × ℤ)) → IsAscending simplex_cmp ts → IsNonzero ts → Among u (map (λ t. t.0) ts) → is_zero (coefficient u ts) ≡ false
@@ -129,8 +129,8 @@ surjections-are p d e f s =
     sorted_same simplex_cmp nat_list_cmp_total (map (λ t. t.0) e) (may_surjections p d) (sorted-elements e f.ascending)
     (IsStrictlySortedBy-filter simplex_cmp test all (fold-sorted simplex_cmp nat_list_cmp_total exact (map (λ t. t.0) may) [] none))
     (λ u m. (
-        let z : is_zero (coefficient u may) ≡ false = ap is_zero (sym (same u)) ∙ nonzero-among u e f.ascending f.nonzero m in
-        filter-among test u all (fold-puts simplex_cmp nat_list_cmp_total exact (map (λ t. t.0) may) [] u (among-nonzero u may z)) (not-zero (is_zero (coefficient u may)) z)))
+    let z : is_zero (coefficient u may) ≡ false = ap is_zero (sym (same u)) ∙ nonzero-among u e f.ascending f.nonzero m in
+    filter-among test u all (fold-puts simplex_cmp nat_list_cmp_total exact (map (λ t. t.0) may) [] u (among-nonzero u may z)) (not-zero (is_zero (coefficient u may)) z)))
     (λ u m. among-nonzero u e (ap is_zero (same u) ∙ zero-not (is_zero (coefficient u may)) (among-filter test u all m).1))
   where
     none : IsStrictlySortedBy simplex_cmp []
@@ -176,14 +176,14 @@ count-is p d q e prime few l f s =
     ap (λ us. cut_off (sum_of (map (counted_live q) us))) same
     ∙ cut-sum (counted_live q) (λ u. live_cut_count q p u) (may_surjections p d)
     (λ u m. (
-        let z = zero-not (is_zero (coefficient u may)) (among-filter (λ v. not (is_zero (coefficient v may))) u (fold (insert_key simplex_cmp) [] (map (λ t. t.0) may)) m).1 in
-        let k = terms-among p d may ((may_family p some).terms d) u (among-nonzero u may z) in
-        cut-one p d q u five few l (arity-is p u (among p u (λ v j. sym (k.0 v) ∙ j)) k.0 some) k.1))
+    let z = zero-not (is_zero (coefficient u may)) (among-filter (λ v. not (is_zero (coefficient v may))) u (fold (insert_key simplex_cmp) [] (map (λ t. t.0) may)) m).1 in
+    let k = terms-among p d may ((may_family p some).terms d) u (among-nonzero u may z) in
+    cut-one p d q u five few l (arity-is p u (among p u (λ v j. sym (k.0 v) ∙ j)) k.0 some) k.1))
 
 -- the count that was found
 pub found-count : (p : ℕ) (cs : List Counted) (c : Counted) → AreCounted p cs → Among c cs → c.count ≡ cut_off (live_total p c.element c.degree)
 found-count p [] c h m = elim m [ ]
-found-count p (x ∷ cs) c h m = elim m [ | inl e ↦ subst (λ (y : Counted). y.count ≡ cut_off (live_total p y.element y.degree)) e h.0 | inr n ↦ found-count p cs c h.1 n ]
+found-count p (x ∷ cs) c h m = elim m [ inl e ↦ subst (λ (y : Counted). y.count ≡ cut_off (live_total p y.element y.degree)) e h.0 | inr n ↦ found-count p cs c h.1 n ]
 
 pub counted-more : (p : ℕ) (cs : List Counted) (c : Counted) → AreCounted p cs → c.count ≡ cut_off (live_total p c.element c.degree) → AreCounted p (cs ++ c ∷ [])
 counted-more p [] c h k = (k, tt)

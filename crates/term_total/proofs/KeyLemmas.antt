@@ -14,7 +14,7 @@ use Rattle.term_total.specs.Charges.{repeated}
 
 pub among-left : {X : Type 0} (x : X) (xs ys : List X) → Among x xs → Among x (xs ++ ys)
 among-left x [] ys m = elim m [ ]
-among-left x (z ∷ xs) ys m = elim m [ | inl e ↦ inl e | inr n ↦ inr (among-left x xs ys n) ]
+among-left x (z ∷ xs) ys m = elim m [ inl e ↦ inl e | inr n ↦ inr (among-left x xs ys n) ]
 
 pub among-right : {X : Type 0} (x : X) (xs ys : List X) → Among x ys → Among x (xs ++ ys)
 among-right x [] ys m = m
@@ -24,12 +24,12 @@ pub among-split : {X : Type 0} (x : X) (xs ys : List X) → Among x (xs ++ ys) �
 among-split x [] ys m = inr m
 among-split x (z ∷ xs) ys m = elim m [
   | inl e ↦ inl (inl e)
-  | inr n ↦ elim (among-split x xs ys n) [ | inl l ↦ inl (inr l) | inr r ↦ inr r ]
+  | inr n ↦ elim (among-split x xs ys n) [ inl l ↦ inl (inr l) | inr r ↦ inr r ]
 ]
 
 pub among-repeated : {X : Type 0} (x : X) (k : ℕ) (row : List X) → Among x (repeated k row) → Among x row
 among-repeated x zero row m = elim m [ ]
-among-repeated x (suc k) row m = elim (among-split x row (repeated k row) m) [ | inl l ↦ l | inr r ↦ among-repeated x k row r ]
+among-repeated x (suc k) row m = elim (among-split x row (repeated k row) m) [ inl l ↦ l | inr r ↦ among-repeated x k row r ]
 
 pub repeated-among : {X : Type 0} (x : X) (k : ℕ) (row : List X) → 0 < k → Among x row → Among x (repeated k row)
 repeated-among x zero row l m = absurd (omega arith)
@@ -60,7 +60,7 @@ flat-among y f g (x ∷ xs) h m = elim (among-split y (f x) (flat_map f xs) m) [
 
 pub each-among : {X : Type 0} (P : X → Type 0) (xs : List X) (x : X) → Each P xs → Among x xs → P x
 each-among P [] x h m = elim m [ ]
-each-among P (z ∷ xs) x h m = elim m [ | inl e ↦ subst P e h.0 | inr n ↦ each-among P xs x h.1 n ]
+each-among P (z ∷ xs) x h m = elim m [ inl e ↦ subst P e h.0 | inr n ↦ each-among P xs x h.1 n ]
 
 pub each-of : {X : Type 0} (P : X → Type 0) (xs : List X) → ((x : X) → Among x xs → P x) → Each P xs
 each-of P [] h = tt
@@ -68,7 +68,7 @@ each-of P (x ∷ xs) h = (h x (inl refl), each-of P xs (λ y m. h y (inr m)))
 
 pub among-map : {X Y : Type 0} (f : X → Y) (x : X) (xs : List X) → Among x xs → Among (f x) (map f xs)
 among-map f x [] m = elim m [ ]
-among-map f x (z ∷ xs) m = elim m [ | inl e ↦ inl (ap f e) | inr n ↦ inr (among-map f x xs n) ]
+among-map f x (z ∷ xs) m = elim m [ inl e ↦ inl (ap f e) | inr n ↦ inr (among-map f x xs n) ]
 
 pub among-filter : {X : Type 0} (test : X → Bool) (x : X) (xs : List X) → Among x (filter test xs) → Among x xs × (test x ≡ true)
 among-filter test x [] m = elim m [ ]
@@ -102,7 +102,7 @@ module _ {K : Type 0} (cmp : K → K → Ordering) (o : IsTotalOrder cmp) (exact
   pub fold-of : (vs ks : List K) (x : K) → Among x (fold (insert_key cmp) ks vs) → Among x ks ⊎ Among x vs
   fold-of [] ks x m = inl m
   fold-of (v ∷ vs) ks x m = elim (fold-of vs (insert_key cmp ks v) x m) [
-    | inl l ↦ elim (among_inserted cmp x v ks l) [ | inl a ↦ inl a | inr e ↦ inr (inl e) ]
+    | inl l ↦ elim (among_inserted cmp x v ks l) [ inl a ↦ inl a | inr e ↦ inr (inl e) ]
     | inr r ↦ inr (inr r)
   ]
 
@@ -129,7 +129,7 @@ module _ {K : Type 0} (cmp : K → K → Ordering) (o : IsTotalOrder cmp) (exact
       (λ x m. fold-puts ws [] x (h x (given vs x m))) (λ x m. fold-puts vs [] x (k x (given ws x m)))
     where
       given : (us : List K) (x : K) → Among x (fold (insert_key cmp) [] us) → Among x us
-      given us x m = elim (fold-of us [] x m) [ | inl n ↦ absurd n | inr r ↦ r ]
+      given us x m = elim (fold-of us [] x m) [ inl n ↦ absurd n | inr r ↦ r ]
 
 pub fold-append : {A B : Type 0} (f : A → B → A) (a : A) (xs ys : List B) → fold f a (xs ++ ys) ≡ fold f (fold f a xs) ys
 fold-append f a [] ys = refl

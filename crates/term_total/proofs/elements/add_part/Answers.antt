@@ -24,7 +24,7 @@ loop-pair-init c =
 pub pair_lines-requires : goal.pair_lines-requires
 pair_lines-requires c =
     let m = among-through c.as_slice-pair-items.result.now c.in_ok-pairs.pairs.items (class_pairs c.args.ranks.now) c.loop-pair.pair-index (get_or c.as_slice-pair-items.result.now c.loop-pair.pair-index no_product) c.as_slice-pair-items.ensures.value c.in_ok-pairs.ensures
-        c.loop-pair-test.true (itself c.as_slice-pair-items.result.now c.loop-pair.pair-index no_product c.loop-pair-test.true) in
+    c.loop-pair-test.true (itself c.as_slice-pair-items.result.now c.loop-pair.pair-index no_product c.loop-pair-test.true) in
     record { prime = c.requires.prime; low = pair-low c.args.p c.args.ranks.now c.requires.few (get_or c.as_slice-pair-items.result.now c.loop-pair.pair-index no_product) m }
 
 pub add_lines-requires : goal.add_lines-requires

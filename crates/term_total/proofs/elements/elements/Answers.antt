@@ -27,6 +27,6 @@ returns c =
     let p = c.args.p in
     let all = c.args.parts.now in
     IfOk-weaker c.items_of.result _ _ (λ v h.
-        h ∙ at-end all all all c.loop-part.part-index (λ (zs : List Sizes). fold (insert_key nat_cmp) [] (flat_map (λ (z : Sizes). map (element_of p) (part_operations p z.ranks)) zs)) c.loop-part.degrees.keys
-        (omega (arith, c.loop-part-test.false)) refl refl c.loop-part.invariant
-        ∙ elements-short p all) c.items_of.ensures
+    h ∙ at-end all all all c.loop-part.part-index (λ (zs : List Sizes). fold (insert_key nat_cmp) [] (flat_map (λ (z : Sizes). map (element_of p) (part_operations p z.ranks)) zs)) c.loop-part.degrees.keys
+    (omega (arith, c.loop-part-test.false)) refl refl c.loop-part.invariant
+    ∙ elements-short p all) c.items_of.ensures

@@ -16,8 +16,8 @@ loop-b-preserved c =
     elim c.if-are_inhabited.branch [
       | then-are_inhabited+in_ok-push w ↦
           items-more T (product_of c.args.a) 0 b b c.args.found.now.items found c.if-are_inhabited.found.items c.loop-b.invariant e
-              (ap (λ (v : Vec Product Global). v.items) w.found-is ∙ passes T x found w.push.new.self.items (sym c.are_inhabited.ensures ∙ w.if-are_inhabited.true) w.in_ok-push.ensures.items)
+          (ap (λ (v : Vec Product Global). v.items) w.found-is ∙ passes T x found w.push.new.self.items (sym c.are_inhabited.ensures ∙ w.if-are_inhabited.true) w.in_ok-push.ensures.items)
       | else-are_inhabited w ↦
           items-more T (product_of c.args.a) 0 b b c.args.found.now.items found c.if-are_inhabited.found.items c.loop-b.invariant e
-              (ap (λ (v : Vec Product Global). v.items) w.found-is ∙ fails T x found (sym c.are_inhabited.ensures ∙ w.if-are_inhabited.false))
+          (ap (λ (v : Vec Product Global). v.items) w.found-is ∙ fails T x found (sym c.are_inhabited.ensures ∙ w.if-are_inhabited.false))
     ]

@@ -16,8 +16,8 @@ loop-n-preserved c =
     elim c.if-is_live.branch [
       | then-is_live+in_ok-push w ↦
           items-more T g 0 n n c.args.found.now.items found c.if-is_live.found.items c.loop-n.invariant e
-              (ap (λ (v : Vec Line Global). v.items) w.found-is ∙ passes T (g n) found w.push.new.self.items (sym c.is_live.ensures ∙ w.if-is_live.true) w.in_ok-push.ensures.items)
+          (ap (λ (v : Vec Line Global). v.items) w.found-is ∙ passes T (g n) found w.push.new.self.items (sym c.is_live.ensures ∙ w.if-is_live.true) w.in_ok-push.ensures.items)
       | else-is_live w ↦
           items-more T g 0 n n c.args.found.now.items found c.if-is_live.found.items c.loop-n.invariant e
-              (ap (λ (v : Vec Line Global). v.items) w.found-is ∙ fails T (g n) found (sym c.is_live.ensures ∙ w.if-is_live.false))
+          (ap (λ (v : Vec Line Global). v.items) w.found-is ∙ fails T (g n) found (sym c.is_live.ensures ∙ w.if-is_live.false))
     ]

@@ -16,8 +16,8 @@ loop-b-preserved c =
     elim c.if-is_live_pair.branch [
       | then-is_live_pair+in_ok-push w ↦
           items-more T (product_of c.args.a) 0 b b c.args.found.now.items found c.if-is_live_pair.found.items c.loop-b.invariant e
-              (ap (λ (v : Vec Product Global). v.items) w.found-is ∙ passes T x found w.push.new.self.items (sym c.is_live_pair.ensures ∙ w.if-is_live_pair.true) w.in_ok-push.ensures.items)
+          (ap (λ (v : Vec Product Global). v.items) w.found-is ∙ passes T x found w.push.new.self.items (sym c.is_live_pair.ensures ∙ w.if-is_live_pair.true) w.in_ok-push.ensures.items)
       | else-is_live_pair w ↦
           items-more T (product_of c.args.a) 0 b b c.args.found.now.items found c.if-is_live_pair.found.items c.loop-b.invariant e
-              (ap (λ (v : Vec Product Global). v.items) w.found-is ∙ fails T x found (sym c.is_live_pair.ensures ∙ w.if-is_live_pair.false))
+          (ap (λ (v : Vec Product Global). v.items) w.found-is ∙ fails T x found (sym c.is_live_pair.ensures ∙ w.if-is_live_pair.false))
     ]

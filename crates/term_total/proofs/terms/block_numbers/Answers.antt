@@ -20,11 +20,19 @@ operation_number-requires g c =
     let i = c.loop-block.block-index in
     let x = get_or xs i no_block in
     let m = among-through xs c.in_ok-blocks.blocks.items (blocks p z.ranks) i x c.as_slice-block-items.ensures.value (c.in_ok-blocks.ensures ∙ ap (blocks p) c.as_slice.ensures) c.loop-block-test.true
-        (itself xs i no_block c.loop-block-test.true) in
-    (lit< tt, (c.requires.prime,
-      (block-applied p z.ranks c.requires.part.few x m,
-      (block-stored p (IsStored p c.args.table.now) z.ranks x c.requires.stored m,
-      c.loop-block.invariant.1))))
+    (itself xs i no_block c.loop-block-test.true) in (
+      lit< tt,
+      (
+        c.requires.prime,
+        (
+          block-applied p z.ranks c.requires.part.few x m,
+          (
+            block-stored p (IsStored p c.args.table.now) z.ranks x c.requires.stored m,
+            c.loop-block.invariant.1,
+          ),
+        ),
+      ),
+    )
 
 pub loop-block-preserved : goal.loop-block-preserved
 loop-block-preserved g c =

@@ -10,11 +10,19 @@ pub line_numbers-requires : goal.line_numbers-requires
 line_numbers-requires g c =
     let p = g.row.P in
     let ranks = c.args.part.now.ranks in
-    let e = sym (c.deref.ensures.value ∙ c.in-Ok.ensures ∙ ap (λ (r : List ℕ). pair_lines p r c.args.pair.now) c.as_slice-ranks.ensures) in
-    (lit< tt, (c.requires.prime,
-      (subst (Each (IsLine p)) e (each-lines p ranks c.requires.part.few c.args.pair.now),
-      (subst (Each (λ (l : Line). Each (IsStored p c.args.table.now) (line_operations p l))) e c.requires.stored,
-      c.requires.counted))))
+    let e = sym (c.deref.ensures.value ∙ c.in-Ok.ensures ∙ ap (λ (r : List ℕ). pair_lines p r c.args.pair.now) c.as_slice-ranks.ensures) in (
+      lit< tt,
+      (
+        c.requires.prime,
+        (
+          subst (Each (IsLine p)) e (each-lines p ranks c.requires.part.few c.args.pair.now),
+          (
+            subst (Each (λ (l : Line). Each (IsStored p c.args.table.now) (line_operations p l))) e c.requires.stored,
+            c.requires.counted,
+          ),
+        ),
+      ),
+    )
 
 pub returns-clause-charged : goal.returns-clause-charged
 returns-clause-charged g c =

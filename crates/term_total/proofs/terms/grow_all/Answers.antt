@@ -18,9 +18,13 @@ pub grow_to-requires : goal.grow_to-requires
 grow_to-requires g c =
     let xs = c.args.degrees.now in
     let i = c.loop-d.d-index in
-    let x = get_or xs i 0 in
-    (lit< tt, (c.requires.prime,
-      each-among (λ d. d ≤ 60) xs x c.requires.low (among-at xs i x c.loop-d-test.true (itself xs i 0 c.loop-d-test.true))))
+    let x = get_or xs i 0 in (
+      lit< tt,
+      (
+        c.requires.prime,
+        each-among (λ d. d ≤ 60) xs x c.requires.low (among-at xs i x c.loop-d-test.true (itself xs i 0 c.loop-d-test.true)),
+      ),
+    )
 
 pub loop-d-preserved : goal.loop-d-preserved
 loop-d-preserved g c =

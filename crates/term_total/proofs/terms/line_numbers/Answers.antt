@@ -20,11 +20,19 @@ operations_number-requires g c =
     let xs = c.args.lines.now in
     let l = (get_or c.args.lines.now c.loop-line.line-index no_line) in
     let m = among-at xs c.loop-line.line-index l c.loop-line-test.true (itself c.args.lines.now c.loop-line.line-index no_line c.loop-line-test.true) in
-    let e = sym (c.deref.ensures.value ∙ c.in_ok-operations.ensures) in
-    (lit< tt, (c.requires.prime,
-      (subst (Each (IsApplied p)) e (each-applied p l (each-among (IsLine p) xs l c.requires.lines m)),
-      (subst (Each (IsStored p c.args.table.now)) e (each-among (λ k. Each (IsStored p c.args.table.now) (line_operations p k)) xs l c.requires.stored m),
-      c.loop-line.invariant.1))))
+    let e = sym (c.deref.ensures.value ∙ c.in_ok-operations.ensures) in (
+      lit< tt,
+      (
+        c.requires.prime,
+        (
+          subst (Each (IsApplied p)) e (each-applied p l (each-among (IsLine p) xs l c.requires.lines m)),
+          (
+            subst (Each (IsStored p c.args.table.now)) e (each-among (λ k. Each (IsStored p c.args.table.now) (line_operations p k)) xs l c.requires.stored m),
+            c.loop-line.invariant.1,
+          ),
+        ),
+      ),
+    )
 
 pub loop-line-preserved : goal.loop-line-preserved
 loop-line-preserved g c =

@@ -8,12 +8,22 @@ use Rattle.term_total.proofs.terms.operation_number.Goals as goal
 pub live_cuts-requires : goal.live_cuts-requires
 live_cuts-requires g c =
     let x = c.args.operation.now in
-    let e = sym c.element_degree-d.ensures in
-    (lit< tt, (c.requires.prime,
-      (c.requires.applied.low,
-      (subst (λ d. d ≤ g.row.P * x.degree) e (element-most g.row.P x c.requires.prime c.requires.applied),
-      (subst (λ d. IsSome (stored_at d c.args.table.now)) e c.requires.stored,
-      c.requires.counted)))))
+    let e = sym c.element_degree-d.ensures in (
+      lit< tt,
+      (
+        c.requires.prime,
+        (
+          c.requires.applied.low,
+          (
+            subst (λ d. d ≤ g.row.P * x.degree) e (element-most g.row.P x c.requires.prime c.requires.applied),
+            (
+              subst (λ d. IsSome (stored_at d c.args.table.now)) e c.requires.stored,
+              c.requires.counted,
+            ),
+          ),
+        ),
+      ),
+    )
 
 pub returns-clause-count : goal.returns-clause-count
 returns-clause-count g c =

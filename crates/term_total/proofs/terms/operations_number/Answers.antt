@@ -12,11 +12,19 @@ pub operation_number-requires : goal.operation_number-requires
 operation_number-requires g c =
     let xs = c.args.operations.now in
     let x = (get_or c.args.operations.now c.loop-operation.operation-index no_applied) in
-    let m = among-at xs c.loop-operation.operation-index x c.loop-operation-test.true (itself c.args.operations.now c.loop-operation.operation-index no_applied c.loop-operation-test.true) in
-    (lit< tt, (c.requires.prime,
-      (each-among (IsApplied g.row.P) xs x c.requires.applied m,
-      (each-among (IsStored g.row.P c.args.table.now) xs x c.requires.stored m,
-      c.loop-operation.invariant.1))))
+    let m = among-at xs c.loop-operation.operation-index x c.loop-operation-test.true (itself c.args.operations.now c.loop-operation.operation-index no_applied c.loop-operation-test.true) in (
+      lit< tt,
+      (
+        c.requires.prime,
+        (
+          each-among (IsApplied g.row.P) xs x c.requires.applied m,
+          (
+            each-among (IsStored g.row.P c.args.table.now) xs x c.requires.stored m,
+            c.loop-operation.invariant.1,
+          ),
+        ),
+      ),
+    )
 
 pub loop-operation-preserved : goal.loop-operation-preserved
 loop-operation-preserved g c = (

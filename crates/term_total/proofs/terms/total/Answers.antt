@@ -23,11 +23,19 @@ grow_all-requires g c =
     let p = g.row.P in
     let zs = c.args.parts.now in
     let unused = c.requires.unused in
-    let e = sym (c.deref.ensures.value ∙ c.in-Ok.ensures) in
-    (lit< tt, (c.requires.prime,
-      (subst (IsStrictlySortedBy nat_cmp) e (elements-sorted p zs),
-      (subst (Each (λ d. d ≤ 60)) e (each-low p zs c.requires.prime c.requires.parts),
-      (c.requires.fresh, record { within = c.left-left.ensures.within; low = c.left-left.ensures.low })))))
+    let e = sym (c.deref.ensures.value ∙ c.in-Ok.ensures) in (
+      lit< tt,
+      (
+        c.requires.prime,
+        (
+          subst (IsStrictlySortedBy nat_cmp) e (elements-sorted p zs),
+          (
+            subst (Each (λ d. d ≤ 60)) e (each-low p zs c.requires.prime c.requires.parts),
+            (c.requires.fresh, record { within = c.left-left.ensures.within; low = c.left-left.ensures.low }),
+          ),
+        ),
+      ),
+    )
 
 pub loop-part-init : goal.loop-part-init
 loop-part-init g c =
@@ -48,15 +56,22 @@ charge_part-requires g c =
     let zs = c.args.parts.now in
     let z = c.part-item.result in
     let m = among-at zs c.loop-part.part-index z c.loop-part-test.true c.part-item.is in
-    let stored = subst (Each (λ d. IsTrue (is_some (stored_at d c.grow_all.new.table)))) (c.deref.ensures.value ∙ c.in-Ok.ensures) c.in_ok-grow_all.ensures.stored in
-    (lit< tt, (c.requires.prime, (each-among IsPart zs z c.requires.parts m,
-      (part-stored p (λ d. IsTrue (is_some (stored_at d c.grow_all.new.table))) zs z stored m, (c.loop-part.invariant.2, c.loop-part.invariant.1)))))
+    let stored = subst (Each (λ d. IsTrue (is_some (stored_at d c.grow_all.new.table)))) (c.deref.ensures.value ∙ c.in-Ok.ensures) c.in_ok-grow_all.ensures.stored in (
+      lit< tt,
+      (
+        c.requires.prime,
+        (
+          each-among IsPart zs z c.requires.parts m,
+          (part-stored p (λ d. IsTrue (is_some (stored_at d c.grow_all.new.table))) zs z stored m, (c.loop-part.invariant.2, c.loop-part.invariant.1)),
+        ),
+      ),
+    )
 
 pub loop-part-preserved : goal.loop-part-preserved
 loop-part-preserved g c =
     let p = g.row.P in
     let step = charged-more-step c.args.parts.now c.loop-part.part-index c.part-item.result c.loop-part-test.true c.part-item.is (complex_terms p) (map (candidate_count p) (elements p c.args.parts.now)) c.args.terms.now c.loop-part.terms
-        c.charge_part.new.terms c.in_ok-charge_part.field-0 c.loop-part.invariant.0 c.loop-part.invariant.1 c.in_ok-charge_part.ensures.charged in
+    c.charge_part.new.terms c.in_ok-charge_part.field-0 c.loop-part.invariant.0 c.loop-part.invariant.1 c.in_ok-charge_part.ensures.charged in
     (step.0, step.1, c.in_ok-charge_part.ensures.counted)
 
 pub returns-in_err-grow_all-clause-passes : goal.returns-in_err-grow_all-clause-passes
