@@ -1,22 +1,21 @@
 -- The surjections of a May element, and their live cuts.
-use Rattle.std.proofs.Common.{◌≡◌, ◌⊎◌, inl, inr, ℕ, zero, suc, ◌+◌, ◌-◌, ◌*◌, ◌^◌, ◌<◌, ◌≤◌, arith, lit≤, refl, sym, ◌∙◌, ap, ap₂, subst, List, [], ◌∷◌, ◌++◌, Bool, true, false, cond, not, ltb, if◌then◌else◌, map, take, length, get_or, Ordering, Less, Equal, Greater, Option, None, Some}
+use Rattle.std.proofs.Common.{◌≡◌, inl, inr, ℕ, zero, suc, ◌+◌, ◌-◌, ◌*◌, ◌^◌, ◌<◌, ◌≤◌, arith, lit≤, refl, sym, ◌∙◌, ap, ap₂, subst, List, [], ◌∷◌, ◌++◌, Bool, true, false, cond, not, if◌then◌else◌, map, Ordering, Less, Equal, Greater}
 use Rattle.std.specs.Prelude.{ℤ, pos, ◌+ℤ◌, ◌*ℤ◌, fold, min, ◌||◌, IsTrue}
 use Rattle.std.specs.BTreeSet.{insert_key}
-use Rattle.std.specs.Cmp.Lexicographic.{slice_cmp}
-use Rattle.std.specs.List.{AllByRecursion, filter}
+use Rattle.std.specs.List.{AllByRecursion}
 use Rattle.std.specs.List.Sorted.{IsStrictlySortedBy}
-use Rattle.std.specs.Ordering.{nat_cmp, ordering_reverse}
-use Rattle.std.proofs.lemmas.Bool.{cases_lt, false≢true, le-ltb}
+use Rattle.std.specs.Ordering.{ordering_reverse}
+use Rattle.std.proofs.lemmas.Bool.{false≢true, le-ltb}
 use Rattle.std.proofs.lemmas.Cmp.{nat_list_cmp_total}
 use Rattle.std.proofs.lemmas.Int.{ints}
 use Rattle.std.proofs.lemmas.List.Kept.{IsStrictlySortedBy-filter}
 use Rattle.fp_field.specs.Served.{served}
 use Rattle.fp_field.proofs.ServedLemmas.{for_served, served_large}
 use Rattle.signed_sum.specs.Lists.{is_same_list}
-use Rattle.signed_sum.specs.Sums.{is_zero, value_at}
+use Rattle.signed_sum.specs.Sums.{is_zero}
 use Rattle.signed_sum.proofs.ListLemmas.{is_same_list-self, is_same_list-true}
 use Rattle.linear_law.specs.Congruence.{sum_over}
-use Rattle.linear_law.specs.Lists.{Among, Each}
+use Rattle.linear_law.specs.Lists.{Among}
 use Rattle.simplicial_law.specs.ListedSimplices.{simplex_cmp}
 use Rattle.simplicial_law.proofs.ListedSimplices.{exact}
 use Rattle.simplicial_law.proofs.OrderedKeys.{sorted_same}
@@ -35,7 +34,7 @@ use Rattle.term_total.specs.Charges.{sum_of}
 use Rattle.term_total.specs.Counts.{AreCounted, live_total}
 use Rattle.term_total.specs.declared.live_counts.Counted.{Counted}
 use Rattle.term_total.proofs.ChargeLemmas.{cut-plus}
-use Rattle.term_total.proofs.KeyLemmas.{among-filter, each-among, filter-among, fold-of, fold-puts, fold-sorted}
+use Rattle.term_total.proofs.KeyLemmas.{among-filter, filter-among, fold-puts, fold-sorted}
 
 -- ---- coefficients in formal sums
 

@@ -1,6 +1,6 @@
 -- Ordered lists of keys.
-use Rattle.std.proofs.Common.{◌≡◌, ◌⊎◌, inl, inr, ℕ, zero, suc, ◌<◌, ◌≤◌, arith, refl, sym, ◌∙◌, ap, subst, List, [], ◌∷◌, ◌++◌, Bool, true, false, cond, Ordering, Less, Equal}
-use Rattle.std.specs.Prelude.{flat_map, fold, map, get_or}
+use Rattle.std.proofs.Common.{◌≡◌, ◌⊎◌, inl, inr, ℕ, zero, suc, ◌<◌, arith, refl, sym, ◌∙◌, ap, subst, List, [], ◌∷◌, ◌++◌, Bool, true, false, cond, Ordering, Equal}
+use Rattle.std.specs.Prelude.{flat_map, fold, map}
 use Rattle.std.specs.Cmp.{IsTotalOrder}
 use Rattle.std.specs.BTreeSet.{insert_key}
 use Rattle.std.specs.List.{filter}

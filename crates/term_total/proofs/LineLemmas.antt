@@ -1,13 +1,12 @@
 -- The lines of a complex, as rows that are equal for all classes of two degrees.
-use Rattle.std.proofs.Common.{◌≡◌, ℕ, zero, suc, ◌+◌, ◌*◌, ◌<◌, ◌≤◌, arith, inl, inr, refl, sym, ◌∙◌, ap, ap₂, subst, List, [], ◌∷◌, ◌++◌, Bool, true, false, cond, ltb, map, get_or, length}
-use Rattle.std.specs.Prelude.{flat_map, fold, ◌&&◌}
+use Rattle.std.proofs.Common.{◌≡◌, ℕ, zero, suc, ◌+◌, ◌*◌, ◌<◌, arith, inl, inr, refl, sym, ◌∙◌, ap, ap₂, subst, List, [], ◌∷◌, ◌++◌, Bool, true, false, cond, map, get_or}
+use Rattle.std.specs.Prelude.{flat_map, fold}
 use Rattle.std.specs.BTreeSet.{insert_key}
 use Rattle.std.specs.FinMap.{nat_cmp-IsAntisymmetric}
 use Rattle.std.specs.List.{filter}
 use Rattle.std.specs.Ordering.{nat_cmp}
 use Rattle.std.proofs.lemmas.Bool.{and_cases, and_parts, cases_lt, false≢true, lt-ltb, ltb-true}
 use Rattle.std.proofs.lemmas.Cmp.{nat_cmp_total}
-use Rattle.std.proofs.lemmas.Grind.{flat_map-append}
 use Rattle.std.proofs.lemmas.List.{map-append}
 use Rattle.signed_sum.specs.Lists.{numbers_from}
 use Rattle.linear_law.specs.Congruence.{sum_over}
@@ -16,13 +15,12 @@ use Rattle.report.specs.declared.plan.Block.{Block}
 use Rattle.report.specs.declared.plan.Line.{Line}
 use Rattle.report.specs.declared.plan.Product.{Product}
 use Rattle.report.specs.declared.plan.Sizes.{Sizes}
-use Rattle.report_law.specs.Live.{all_lines, blocks, cartan_op, cartan_pairs, class_numbers, degrees, element_degree, has_class, is_defined, lines, lines_of_pair, target_degree}
+use Rattle.report_law.specs.Live.{blocks, cartan_op, cartan_pairs, class_numbers, degrees, element_degree, has_class, lines, lines_of_pair}
 use Rattle.report_law.specs.Terms.{complex_elements, elements, line_elements, line_terms, operation_terms}
 use Rattle.term_total.specs.Charges.{repeated, sum_of}
 use Rattle.term_total.specs.Counts.{applied, block_operations, class_pairs, element_of, line_operations, operation_number, pair_lines, pair_terms, part_operations}
 use Rattle.term_total.specs.LiveParts.{is_class_pair, is_live_line, line_of, product_of}
-use Rattle.term_total.specs.declared.pairs.Applied.{Applied}
-use Rattle.term_total.proofs.KeyLemmas.{among-filter, among-left, among-right, among-split, each-of, flat-among, flat-fewer, flat-more, fold-append, fold-same}
+use Rattle.term_total.proofs.KeyLemmas.{among-filter, among-left, among-right, among-split, each-of, flat-among, flat-fewer, flat-more, fold-same}
 use Rattle.term_total.proofs.RowLemmas.{filter-flat, flat-flat, flat-same, map-flat, rows-repeated}
 
 abbrev kept : {X : Type 0} → ℕ → List ℕ → (Line → List X) → List Line → List X

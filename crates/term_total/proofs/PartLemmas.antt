@@ -1,17 +1,15 @@
 -- What is known of the operations of live blocks and lines.
-use Rattle.std.proofs.Common.{◌≡◌, ◌⊎◌, inl, inr, ℕ, zero, suc, ◌+◌, ◌-◌, ◌*◌, ◌<◌, ◌≤◌, ◌==◌, arith, lit≤, refl, sym, ◌∙◌, ap, ap₂, subst, List, [], ◌∷◌, ◌++◌, Bool, true, false, cond, not, ltb, leb, map, get_or, length, if◌then◌else◌}
+use Rattle.std.proofs.Common.{◌≡◌, ◌⊎◌, inl, inr, ℕ, zero, suc, ◌+◌, ◌-◌, ◌*◌, ◌<◌, ◌≤◌, ◌==◌, arith, lit≤, refl, sym, ◌∙◌, ap, subst, List, [], ◌∷◌, Bool, true, false, not, leb, map, get_or, length, if◌then◌else◌}
 use Rattle.std.specs.Prelude.{flat_map, fold, ◌&&◌, IsTrue}
 use Rattle.std.specs.BTreeSet.{insert_key}
 use Rattle.std.specs.FinMap.{nat_cmp-IsAntisymmetric}
-use Rattle.std.specs.List.{filter}
 use Rattle.std.specs.Ordering.{nat_cmp}
-use Rattle.std.proofs.lemmas.Bool.{and_parts, false≢true, leb-true, ltb-true}
+use Rattle.std.proofs.lemmas.Bool.{and_parts, leb-true, ltb-true}
 use Rattle.std.proofs.lemmas.Cmp.{nat_cmp_total}
 use Rattle.fp_field.specs.Served.{served}
 use Rattle.fp_field.proofs.ServedLemmas.{for_served, served_large}
 use Rattle.signed_sum.specs.Lists.{numbers_from}
 use Rattle.linear_law.specs.Lists.{Among, Each}
-use Rattle.steenrod_law.specs.Operations.{power_degree}
 use Rattle.report.specs.declared.plan.Block.{Block}
 use Rattle.report.specs.declared.plan.Line.{Line}
 use Rattle.report.specs.declared.plan.Op.{Op}
@@ -20,7 +18,7 @@ use Rattle.report.specs.declared.plan.Product.{Product}
 use Rattle.report.specs.declared.plan.Sizes.{Sizes}
 use Rattle.report_law.specs.Live.{blocks, cartan_op, cartan_pairs, degrees, element_degree, has_class, is_defined, lines_of_pair, operations, target_degree}
 use Rattle.report_law.specs.Terms.{complex_elements, elements}
-use Rattle.term_total.specs.Counts.{IsApplied, IsLine, IsPair, IsPart, IsStored, applied, block_operations, class_pairs, element_of, line_operations, pair_lines, part_operations}
+use Rattle.term_total.specs.Counts.{IsApplied, IsLine, IsPair, IsPart, applied, block_operations, class_pairs, element_of, line_operations, pair_lines, part_operations}
 use Rattle.term_total.specs.LiveParts.{is_class_pair, is_live_block, is_live_line, product_of}
 use Rattle.term_total.specs.declared.pairs.Applied.{Applied}
 use Rattle.term_total.proofs.KeyLemmas.{among-filter, among-left, among-map, among-right, among-split, each-among, each-of, fold-of, fold-puts}

@@ -1,5 +1,5 @@
 -- Lists, sums and sets that grow by one item.
-use Rattle.std.proofs.Common.{◌≡◌, ℕ, zero, suc, ◌+◌, ◌<◌, ◌≤◌, List, [], ◌∷◌, ◌++◌, map, take, drop, length, get_or, arith, refl, sym, subst, ap, ap₂, ◌∙◌, inl, inr, Result, Ok, Err}
+use Rattle.std.proofs.Common.{◌≡◌, ℕ, zero, suc, ◌+◌, ◌<◌, ◌≤◌, List, [], ◌∷◌, ◌++◌, map, take, drop, length, get_or, arith, refl, sym, subst, ap, ◌∙◌, inl, inr, Result, Ok, Err}
 use Rattle.std.proofs.Common.{take_all}
 use Rattle.std.specs.Result.{IsErr, IsErrAnd}
 use Rattle.std.specs.Prelude.{flat_map, fold}
@@ -16,7 +16,7 @@ use Rattle.report.specs.declared.plan.Op.TheVariants.{Square}
 use Rattle.report.specs.declared.plan.Product.{Product}
 use Rattle.term_total.specs.declared.pairs.Applied.{Applied}
 use Rattle.term_total.specs.Charges.{Charges, IsCount, sum_of}
-use Rattle.term_total.proofs.ChargeLemmas.{charges-fail, charges-more, count-after, cut-plus, residual-is, sum-append}
+use Rattle.term_total.proofs.ChargeLemmas.{charges-fail, charges-more, count-after, residual-is, sum-append}
 use Rattle.term_total.proofs.KeyLemmas.{fold-append}
 
 pub append-nil : {X : Type 0} (xs : List X) → xs ++ [] ≡ xs

@@ -1,6 +1,6 @@
 -- What blocks and lines count, and how it is charged.
-use Rattle.std.proofs.Common.{◌≡◌, ℕ, zero, suc, ◌+◌, ◌*◌, ◌<◌, ◌≤◌, arith, refl, sym, ◌∙◌, ap, ap₂, subst, List, [], ◌∷◌, ◌++◌, map, take, drop, length, get_or, inl, inr, Result, Ok, Err, None, Some, Ordering, Less, Equal, Greater}
-use Rattle.std.specs.Prelude.{◌≢◌, ◌↔◌, flat_map, IsNone, IsSome, IsTrue, is_some, OnErr, OnOk}
+use Rattle.std.proofs.Common.{◌≡◌, ℕ, zero, suc, ◌+◌, ◌*◌, ◌<◌, arith, refl, sym, ◌∙◌, ap, ap₂, subst, List, [], ◌∷◌, ◌++◌, map, take, drop, length, get_or, inl, inr, Result, Ok, Err, None, Some, Ordering, Less, Equal, Greater}
+use Rattle.std.specs.Prelude.{◌≢◌, ◌↔◌, flat_map, IsSome, IsTrue, is_some}
 use Rattle.std.specs.Prelude.{ℤ}
 use Rattle.std.specs.Result.{IsErr, IsErrAnd, is_err}
 use Rattle.std.proofs.lemmas.Bool.{cases_lt, false≢true}
@@ -13,7 +13,7 @@ use Rattle.std.specs.FinMap.{nat_cmp-IsAntisymmetric}
 use Rattle.term_total.proofs.KeyLemmas.{fold-sorted}
 use Rattle.std.proofs.lemmas.Cmp.{nat_cmp_total}
 use Rattle.std.proofs.lemmas.List.{map-append}
-use Rattle.linear_law.specs.Lists.{Among, Each}
+use Rattle.linear_law.specs.Lists.{Each}
 use Rattle.may_elements.specs.Counted.{Count, charged, counted, cut_off, over}
 use Rattle.may_elements.specs.declared.elements.MayRefused.{MayRefused}
 use Rattle.may_elements.specs.declared.elements.MayRefused.TheVariants.{TooManyTerms, OutOfMemory}
@@ -24,11 +24,11 @@ use Rattle.report.specs.declared.plan.Op.{Op}
 use Rattle.report.specs.declared.plan.Product.{Product}
 use Rattle.report.specs.declared.plan.Sizes.{Sizes}
 use Rattle.report_law.specs.Live.{blocks, element_degree, lines, target_degree}
-use Rattle.report_law.specs.Terms.{addends, block_terms, complex_elements, complex_terms, elements, first_past, line_terms, passing_sum}
+use Rattle.report_law.specs.Terms.{addends, block_terms, complex_elements, elements, first_past, line_terms, passing_sum}
 use Rattle.term_total.specs.Charges.{Charges, IsCount, repeated, sum_of}
 use Rattle.term_total.specs.Counts.{applied, class_pairs, line_operations, live_total, operation_number, pair_lines, pair_terms}
 use Rattle.term_total.specs.declared.pairs.Applied.{Applied}
-use Rattle.term_total.proofs.ChargeLemmas.{charges-cut, charges-fail, charges-more, charges-one, charges-over, charges-then, count-after, cut-plus, cut-times, residual-is}
+use Rattle.term_total.proofs.ChargeLemmas.{charges-cut, charges-fail, charges-more, charges-one, charges-over, count-after, cut-plus, cut-times, residual-is}
 use Rattle.term_total.proofs.LineLemmas.{line-number, terms-by-pairs}
 
 -- ---- counts

@@ -1,5 +1,5 @@
 -- Numbers that are charged one after the other.
-use Rattle.std.specs.Prelude.{◌≡◌, ℕ, zero, suc, ◌+◌, ◌≤◌, ◌^◌, List, [], ◌∷◌, ◌++◌, Ok, Err, Some, None}
+use Rattle.std.specs.Prelude.{◌≡◌, ℕ, zero, suc, ◌≤◌, ◌^◌, List, [], ◌++◌, Ok, Err, Some, None}
 use Rattle.std.specs.declared.result.Result.{Result}
 use Rattle.linear_law.specs.Congruence.{sum_over}
 use Rattle.may_elements.specs.Counted.{Count, charged}

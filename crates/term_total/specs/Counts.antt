@@ -5,7 +5,6 @@ use Rattle.linear_law.specs.Congruence.{sum_over}
 use Rattle.interval_cut_law.specs.LiveCuts.{live_cut_count}
 use Rattle.may_elements.specs.Counted.{cut_off}
 use Rattle.may_elements.specs.Stored.{stored_at}
-use Rattle.report.specs.declared.plan.Block.{Block}
 use Rattle.report.specs.declared.plan.Line.{Line}
 use Rattle.report.specs.declared.plan.Op.{Op}
 use Rattle.report.specs.declared.plan.Product.{Product}

@@ -1,7 +1,6 @@
 -- Live blocks and lines, in the parts in which they are listed.
 use Rattle.std.specs.Prelude.{ℕ, ◌+◌, Bool, ◌&&◌, List, [], ◌∷◌, flat_map, map}
 use Rattle.std.specs.List.{filter}
-use Rattle.signed_sum.specs.Lists.{numbers_from}
 use Rattle.report.specs.declared.plan.Block.{Block}
 use Rattle.report.specs.declared.plan.Line.{Line}
 use Rattle.report.specs.declared.plan.Op.{Op}

@@ -1,5 +1,4 @@
-use Rattle.std.proofs.Common.{◌≡◌, ◌++◌, ◌∷◌, [], map, take, length}
-use Rattle.std.specs.Prelude.{flat_map, fold}
+use Rattle.std.proofs.Common.{◌≡◌, take}
 use Rattle.may_elements.specs.Counted.{cut_off}
 use Rattle.term_total.specs.Charges.{sum_of}
 use Rattle.term_total.proofs.charges.capped_sum.Given as goal

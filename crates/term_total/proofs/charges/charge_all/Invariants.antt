@@ -1,5 +1,4 @@
-use Rattle.std.proofs.Common.{◌≡◌, ◌++◌, ◌∷◌, [], map, take, length}
-use Rattle.std.specs.Prelude.{flat_map, fold}
+use Rattle.std.proofs.Common.{◌≡◌, take}
 use Rattle.may_elements.specs.Counted.{charged}
 use Rattle.term_total.specs.Charges.{IsCount, sum_of}
 use Rattle.term_total.proofs.charges.charge_all.Given as goal

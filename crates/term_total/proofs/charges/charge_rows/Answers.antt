@@ -1,4 +1,4 @@
-use Rattle.std.proofs.Common.{◌≡◌, ◌+◌, ◌-◌, ◌*◌, ◌/◌, ◌<◌, ◌≤◌, ◌∙◌, ap, arith, min, sym}
+use Rattle.std.proofs.Common.{◌≡◌, ◌+◌, ◌-◌, ◌*◌, ◌/◌, ◌<◌, ◌≤◌, ◌∙◌, ap, arith, min}
 use Rattle.may_elements.specs.Counted.{charged}
 use Rattle.term_total.specs.Charges.{repeated, sum_of}
 use Rattle.term_total.proofs.ChargeLemmas.{charges-done, rows-error, rows-fit, rows-pass, whole-least, whole-zero}

@@ -1,4 +1,4 @@
-use Rattle.std.proofs.Common.{ℕ, ◌∙◌, List, [], ap, map, subst, sym, get_or}
+use Rattle.std.proofs.Common.{◌∙◌, List, [], ap, map, subst, sym, get_or}
 use Rattle.std.specs.Prelude.{fold}
 use Rattle.std.specs.BTreeSet.{insert_key}
 use Rattle.std.specs.Ordering.{nat_cmp}

@@ -1,5 +1,5 @@
-use Rattle.std.proofs.Common.{◌≡◌, ◌++◌, ◌∷◌, [], map, take, length}
-use Rattle.std.specs.Prelude.{flat_map, fold}
+use Rattle.std.proofs.Common.{◌≡◌, map, take}
+use Rattle.std.specs.Prelude.{fold}
 use Rattle.std.specs.BTreeSet.{insert_key}
 use Rattle.std.specs.Ordering.{nat_cmp}
 use Rattle.term_total.specs.Counts.{element_of}

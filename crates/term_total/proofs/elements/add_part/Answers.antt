@@ -1,8 +1,8 @@
-use Rattle.std.proofs.Common.{ℕ, ◌∙◌, ◌++◌, ◌≤◌, List, [], ap, arith, map, subst, sym, get_or}
+use Rattle.std.proofs.Common.{◌∙◌, ◌++◌, List, ap, arith, map, subst, sym, get_or}
 use Rattle.std.specs.Prelude.{flat_map, fold}
 use Rattle.std.specs.BTreeSet.{insert_key}
 use Rattle.std.specs.Ordering.{nat_cmp}
-use Rattle.linear_law.specs.Lists.{Among, Each}
+use Rattle.linear_law.specs.Lists.{Each}
 use Rattle.report.specs.declared.plan.Line.{Line}
 use Rattle.report.specs.declared.plan.Product.{Product}
 use Rattle.term_total.specs.Counts.{IsApplied, IsLine, block_operations, class_pairs, element_of, line_operations, pair_lines}

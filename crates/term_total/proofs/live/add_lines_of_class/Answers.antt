@@ -1,7 +1,7 @@
-use Rattle.std.proofs.Common.{◌+◌, ◌≡◌, ◌∙◌, [], arith, map, ap, sym, Vec, Global}
-use Rattle.report_law.specs.Live.{block_on, degrees, lines_of_pair, operations}
-use Rattle.term_total.specs.LiveParts.{is_live_block, is_live_line, is_live_product, line_of, lines_of_class, lines_of_degree, lines_of_degrees, product_of}
-use Rattle.term_total.proofs.LiveLemmas.{blocks-more, fails, items-more, parts-more, passes}
+use Rattle.std.proofs.Common.{◌+◌, ◌≡◌, arith}
+use Rattle.report_law.specs.Live.{lines_of_pair}
+use Rattle.term_total.specs.LiveParts.{is_live_line}
+use Rattle.term_total.proofs.LiveLemmas.{parts-more}
 use Rattle.term_total.proofs.live.add_lines_of_class.Goals as goal
 
 pub loop-j-preserved : goal.loop-j-preserved

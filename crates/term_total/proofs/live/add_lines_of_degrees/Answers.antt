@@ -1,7 +1,6 @@
-use Rattle.std.proofs.Common.{◌+◌, ◌≡◌, ◌∙◌, [], arith, map, ap, sym, Vec, Global}
-use Rattle.report_law.specs.Live.{block_on, degrees, lines_of_pair, operations}
-use Rattle.term_total.specs.LiveParts.{is_live_block, is_live_line, is_live_product, line_of, lines_of_class, lines_of_degree, lines_of_degrees, product_of}
-use Rattle.term_total.proofs.LiveLemmas.{blocks-more, fails, items-more, parts-more, passes}
+use Rattle.std.proofs.Common.{◌+◌, ◌≡◌, arith}
+use Rattle.term_total.specs.LiveParts.{is_live_line, lines_of_class}
+use Rattle.term_total.proofs.LiveLemmas.{parts-more}
 use Rattle.term_total.proofs.live.add_lines_of_degrees.Goals as goal
 
 pub loop-i-preserved : goal.loop-i-preserved

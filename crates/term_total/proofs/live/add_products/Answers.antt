@@ -1,7 +1,6 @@
-use Rattle.std.proofs.Common.{◌+◌, ◌≡◌, ◌∙◌, [], arith, map, ap, sym, Vec, Global}
-use Rattle.report_law.specs.Live.{block_on, degrees, lines_of_pair, operations}
-use Rattle.term_total.specs.LiveParts.{is_live_block, is_live_line, is_live_product, line_of, lines_of_class, lines_of_degree, lines_of_degrees, product_of}
-use Rattle.term_total.proofs.LiveLemmas.{blocks-more, fails, items-more, parts-more, passes}
+use Rattle.std.proofs.Common.{◌+◌, ◌≡◌, ◌∙◌, arith, ap, sym, Vec, Global}
+use Rattle.term_total.specs.LiveParts.{is_live_product, product_of}
+use Rattle.term_total.proofs.LiveLemmas.{fails, items-more, passes}
 use Rattle.term_total.proofs.live.add_products.Goals as goal
 use Rattle.report.specs.declared.plan.Product.{Product}
 use Rattle.term_total.proofs.live.add_products.Goals.{then-is_live_pair+in_ok-push, else-is_live_pair}

@@ -1,7 +1,7 @@
-use Rattle.std.proofs.Common.{◌+◌, ◌≡◌, ◌∙◌, [], arith, map, ap, sym, Vec, Global}
-use Rattle.report_law.specs.Live.{block_on, degrees, lines_of_pair, operations}
-use Rattle.term_total.specs.LiveParts.{is_live_block, is_live_line, is_live_product, line_of, lines_of_class, lines_of_degree, lines_of_degrees, product_of}
-use Rattle.term_total.proofs.LiveLemmas.{blocks-more, fails, items-more, parts-more, passes}
+use Rattle.std.proofs.Common.{◌+◌, ◌≡◌, [], arith, map}
+use Rattle.report_law.specs.Live.{degrees}
+use Rattle.term_total.specs.LiveParts.{is_live_product, product_of}
+use Rattle.term_total.proofs.LiveLemmas.{parts-more}
 use Rattle.term_total.proofs.live.products.Goals as goal
 
 pub loop-a-preserved : goal.loop-a-preserved

@@ -1,5 +1,4 @@
-use Rattle.std.proofs.Common.{◌≡◌, ◌++◌, ◌∷◌, [], map, take, length}
-use Rattle.std.specs.Prelude.{flat_map, fold}
+use Rattle.std.proofs.Common.{◌≡◌, map, take}
 use Rattle.interval_cut.specs.LiveWalking.{counted_live}
 use Rattle.may_elements.specs.Counted.{cut_off}
 use Rattle.term_total.specs.Charges.{sum_of}

@@ -1,5 +1,4 @@
-use Rattle.std.proofs.Common.{◌≡◌, ◌++◌, ◌∷◌, [], map, take, length}
-use Rattle.std.specs.Prelude.{flat_map, fold}
+use Rattle.std.proofs.Common.{◌≡◌, map, take}
 use Rattle.report.specs.declared.plan.Block.{Block}
 use Rattle.term_total.specs.Counts.{applied}
 use Rattle.term_total.proofs.pairs.block_operations.Given as goal

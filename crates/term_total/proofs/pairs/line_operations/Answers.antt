@@ -1,4 +1,4 @@
-use Rattle.std.proofs.Common.{◌≡◌, ℕ, ◌+◌, ◌++◌, ◌∷◌, ◌∙◌, [], List, ap, get_or}
+use Rattle.std.proofs.Common.{ℕ, ◌+◌, ◌++◌, ◌∷◌, ◌∙◌, [], ap, get_or}
 use Rattle.report.specs.declared.plan.Op.{Op}
 use Rattle.report_law.specs.Live.{cartan_op}
 use Rattle.term_total.specs.Counts.{applied}

@@ -1,5 +1,5 @@
-use Rattle.std.proofs.Common.{◌≡◌, ℕ, ◌+◌, ◌++◌, ◌∷◌, [], map, take, length}
-use Rattle.std.specs.Prelude.{flat_map, fold}
+use Rattle.std.proofs.Common.{◌≡◌, ℕ, ◌+◌, ◌∷◌, [], take}
+use Rattle.std.specs.Prelude.{flat_map}
 use Rattle.report_law.specs.Live.{cartan_op}
 use Rattle.term_total.specs.Counts.{applied}
 use Rattle.term_total.proofs.pairs.line_operations.Given as goal

@@ -1,6 +1,5 @@
-use Rattle.std.proofs.Common.{◌≡◌, ◌++◌, ◌∷◌, [], map, take, length}
-use Rattle.std.specs.Prelude.{flat_map, fold}
-use Rattle.may_elements.specs.Counted.{charged, cut_off}
+use Rattle.std.proofs.Common.{◌≡◌, map, take}
+use Rattle.may_elements.specs.Counted.{cut_off}
 use Rattle.report_law.specs.Terms.{block_terms}
 use Rattle.term_total.specs.Counts.{AreCounted}
 use Rattle.term_total.proofs.terms.block_numbers.Given as goal

@@ -1,4 +1,4 @@
-use Rattle.std.proofs.Common.{ℕ, ◌∙◌, ◌≤◌, List, [], ap, arith, get_or, length, lit<, map, subst, sym}
+use Rattle.std.proofs.Common.{ℕ, ◌∙◌, List, [], ap, arith, get_or, lit<, map, sym}
 use Rattle.std.specs.Prelude.{flat_map}
 use Rattle.may_elements.specs.Counted.{charged}
 use Rattle.report.specs.declared.plan.Product.{Product}

@@ -1,6 +1,6 @@
-use Rattle.std.proofs.Common.{◌≡◌, ◌++◌, ◌∷◌, [], map, take, length}
-use Rattle.std.specs.Prelude.{flat_map, fold}
-use Rattle.may_elements.specs.Counted.{charged, cut_off}
+use Rattle.std.proofs.Common.{◌≡◌, take}
+use Rattle.std.specs.Prelude.{flat_map}
+use Rattle.may_elements.specs.Counted.{charged}
 use Rattle.term_total.specs.Charges.{IsCount, sum_of}
 use Rattle.term_total.specs.Counts.{AreCounted, pair_terms}
 use Rattle.term_total.proofs.terms.charge_lines.Given as goal

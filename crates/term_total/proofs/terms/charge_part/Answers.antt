@@ -1,4 +1,4 @@
-use Rattle.std.proofs.Common.{◌≡◌, ℕ, ◌∙◌, List, Err, Ok, lit<, map, refl}
+use Rattle.std.proofs.Common.{◌∙◌, Err, Ok, lit<, map, refl}
 use Rattle.report_law.specs.Live.{blocks, lines}
 use Rattle.report_law.specs.Terms.{block_terms, complex_terms, line_terms}
 use Rattle.term_total.proofs.ChargeLemmas.{charges-then, count-after}

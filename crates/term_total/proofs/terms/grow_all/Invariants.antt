@@ -1,6 +1,5 @@
-use Rattle.std.proofs.Common.{◌≡◌, ◌++◌, ◌∷◌, [], map, take, drop, length, None}
-use Rattle.std.specs.Prelude.{flat_map, fold}
-use Rattle.may_elements.specs.Counted.{charged, cut_off}
+use Rattle.std.proofs.Common.{◌≡◌, map, take, drop, None}
+use Rattle.may_elements.specs.Counted.{charged}
 use Rattle.std.specs.Prelude.{IsTrue, is_some}
 use Rattle.linear_law.specs.Lists.{Each}
 use Rattle.table_reduction_law.specs.Counts.{candidate_count}

@@ -1,4 +1,4 @@
-use Rattle.std.proofs.Common.{ℕ, ◌∙◌, List, ap, arith, map, refl, subst, sym, get_or, lit<}
+use Rattle.std.proofs.Common.{◌∙◌, List, arith, map, refl, subst, sym, get_or, lit<}
 use Rattle.linear_law.specs.Lists.{Each}
 use Rattle.may_elements.specs.Counted.{cut_off}
 use Rattle.report.specs.declared.plan.Line.{Line}

@@ -1,4 +1,4 @@
-use Rattle.std.proofs.Common.{ℕ, ◌*◌, ◌≤◌, arith, subst, sym, lit<}
+use Rattle.std.proofs.Common.{◌*◌, ◌≤◌, subst, sym, lit<}
 use Rattle.std.specs.Prelude.{IsSome}
 use Rattle.may_elements.specs.Stored.{stored_at}
 use Rattle.term_total.proofs.PartLemmas.{element-most}

@@ -1,6 +1,5 @@
-use Rattle.std.proofs.Common.{◌≡◌, ◌++◌, ◌∷◌, [], map, take, length}
-use Rattle.std.specs.Prelude.{flat_map, fold}
-use Rattle.may_elements.specs.Counted.{charged, cut_off}
+use Rattle.std.proofs.Common.{◌≡◌, map, take}
+use Rattle.may_elements.specs.Counted.{cut_off}
 use Rattle.term_total.specs.Counts.{AreCounted, operation_number}
 use Rattle.term_total.proofs.terms.operations_number.Given as goal
 

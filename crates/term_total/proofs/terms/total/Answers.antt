@@ -1,4 +1,4 @@
-use Rattle.std.proofs.Common.{◌≡◌, ℕ, ◌++◌, ◌∙◌, ◌≤◌, List, [], Err, Ok, ap, arith, lit<, map, refl, subst, sym, take, take_all}
+use Rattle.std.proofs.Common.{ℕ, ◌++◌, ◌∙◌, ◌≤◌, List, Err, Ok, ap, arith, lit<, map, subst, sym, take_all}
 use Rattle.std.specs.Prelude.{IsTrue, flat_map, is_some}
 use Rattle.std.specs.List.Sorted.{IsStrictlySortedBy}
 use Rattle.std.specs.Ordering.{nat_cmp}

@@ -1,6 +1,6 @@
-use Rattle.std.proofs.Common.{◌≡◌, ◌++◌, ◌∷◌, [], map, take, length}
-use Rattle.std.specs.Prelude.{flat_map, fold}
-use Rattle.may_elements.specs.Counted.{charged, cut_off}
+use Rattle.std.proofs.Common.{◌≡◌, ◌++◌, map, take}
+use Rattle.std.specs.Prelude.{flat_map}
+use Rattle.may_elements.specs.Counted.{charged}
 use Rattle.table_reduction_law.specs.Counts.{candidate_count}
 use Rattle.report_law.specs.Terms.{complex_terms, elements}
 use Rattle.term_total.specs.Charges.{IsCount, sum_of}
