@@ -1,5 +1,12 @@
-use crate::{blocks, cartan_pairs, lines, may_degree, products, target};
-use report::{Block, Line, Op, Product};
+ghost use Rattle.std.specs.Prelude.{◌≡◌, ◌≤◌, ◌^◌, IsTrue, length};
+ghost use Rattle.fp_field.specs.Served.{served};
+
+use crate::{blocks, cartan_pairs, lines, may_degree, products, target, total};
+use comch_io::Listed;
+use may_elements::terms::Terms;
+use may_elements::{MayRefused, MayTable};
+use report::{Block, Line, Op, Product, Sizes};
+use std::alloc::{AllocError, Global};
 use std::test::Fail;
 
 fn line(a: u32, b: u32, n: u32) -> Line {
@@ -33,5 +40,46 @@ fn plan_of_a_circle_at_three(rt: HostRuntime) -> Result<(), Fail> {
         (may_degree(3, op, 2), target(3, op, 2)),
         (Some(4), Some(2))
     );
+    Ok(())
+}
+
+// The sum that passes the limit, for one complex.
+fn passing<const P: u32>(
+    alloc: Global,
+    simplices: &[u32],
+    ranks: &[u32],
+    limit: u64,
+) -> Result<Option<u64>, AllocError>
+    requires prime { IsTrue (served P) }
+    requires same { length simplices.now ≡ length ranks.now }
+    requires few { length ranks.now ≤ 16 }
+    requires limit { limit ≤ 10 ^ 12 }
+{
+    let part = Sizes {
+        simplices: Listed::from(simplices.to_vec(alloc)?),
+        ranks: Listed::from(ranks.to_vec(alloc)?),
+    };
+    let mut table = MayTable::<P>::new(alloc);
+    let mut terms = Terms::new(limit);
+    match total(alloc, &[part], &mut table, &mut terms) {
+        Ok(()) => Ok(None),
+        Err(MayRefused::TooManyTerms(over)) => Ok(Some(over.count)),
+        Err(MayRefused::OutOfMemory) => Err(AllocError),
+    }
+}
+
+#[test]
+fn sums_that_pass(rt: HostRuntime) -> Result<(), Fail> {
+    let alloc = rt.alloc();
+    let tetrahedron = [4, 6, 4];
+    let sphere = [6, 15, 20, 15, 6];
+    let found = [
+        passing::<3>(alloc, &tetrahedron, &[1, 0, 1], 180)?,
+        passing::<3>(alloc, &tetrahedron, &[1, 0, 1], 179)?,
+        passing::<3>(alloc, &[500, 1500, 1000], &[1, 2, 1], 43_156)?,
+        passing::<5>(alloc, &sphere, &[1, 0, 0, 0, 1], 100_000_000)?,
+    ];
+    let want = [None, Some(180), Some(43_157), Some(1_892_578_126)];
+    assert_eq!(rt; found.as_slice(), want.as_slice());
     Ok(())
 }
