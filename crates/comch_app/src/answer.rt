@@ -5,8 +5,8 @@ ghost use Rattle.comch_app.specs.Refusals.{refusal};
 ghost use Rattle.comch_app.specs.Steps.{IsMade, IsReadWhole, StopCause};
 
 use crate::Status;
+use crate::bases::basis_report;
 use crate::refusal::input_refusal;
-use crate::report::basis_report;
 use comch_io::{Bytes, ReadEnd, Source, read_all};
 use complex_file::{InputKind, Job, JobRefused, read_job};
 use report_text::{Form, print};

@@ -2,10 +2,10 @@
 #![tactic(auto)]
 
 mod answer;
+mod bases;
 mod chains;
 mod may;
 mod refusal;
-mod report;
 mod request;
 mod status;
 mod top;

@@ -1,7 +1,7 @@
 use Rattle.comch_app.specs.Answers.{IsBasisPart}
 use Rattle.comch_app.proofs.JobLemmas.{job_complex, job_prime}
 use Rattle.comch_app.proofs.Parts.{zip_more}
-use Rattle.comch_app.proofs.report.basis_report.Goals as goal
+use Rattle.comch_app.proofs.bases.basis_report.Goals as goal
 
 pub loop-block-preserved : goal.loop-block-preserved
 loop-block-preserved c = zip_more (IsBasisPart c.args.job.now.prime) c.as_slice-block-items.result.now c.loop-block.complexes c.push.new.self c.loop-block.block-index _ _ c.loop-block-test.true c.block-item.is
