@@ -217,12 +217,12 @@ module _ (p : ℕ) (detailed : Bool) (levels : List (List (List ℕ))) (classes 
       }
 
   pub pair-column : (x : Product) (i j : ℕ) (y v z w r : Cochain p) (c : Column p) → slice_get (classes x.a) i ≡ Some y → slice_get (classes x.b) j ≡ Some v → slice_get (classes x.a) i ≡ Some z → slice_get (classes x.b) j ≡ Some w
-      → r.degree ≡ y.degree + v.degree
       → HasValues p levels (y.degree + v.degree) (cup_product p y.degree v.degree (cochain_in levels y.degree y.row) (cochain_in levels v.degree v.row)) r.row
+      → r.degree ≡ y.degree + v.degree
       → (IsClosed p levels y.degree y.row → IsClosed p levels v.degree v.row → IsClosed p levels (y.degree + v.degree) r.row)
       → (IsClosedIn p levels r → IsColumnOf p detailed levels (classes r.degree) r c.values.items c.primitive)
       → IsPairColumn {p = p} detailed levels classes x (z, w) c
-  pair-column x i j y v z w r c at_y at_v at_z at_w degree values closed column =
+  pair-column x i j y v z w r c at_y at_v at_z at_w values degree closed column =
       let n : ℕ = x.a + x.b in
       let dy = (class-placed x.a i y at_y).degree in
       let dv = (class-placed x.b j v at_v).degree in
