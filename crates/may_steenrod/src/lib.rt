@@ -7,8 +7,6 @@ mod operations;
 mod places;
 mod product;
 mod square;
-#[cfg(test)]
-mod tests;
 
 pub use on::On;
 pub use operations::{bp_op, d_op, p_op};
