@@ -8,4 +8,3 @@ pub mod CupLemmas
 pub mod OperationLemmas
 pub mod PowerLemmas
 mod SquareLemmas
-mod TriangleLemmas
