@@ -15,6 +15,3 @@ pub use classes::Classes;
 pub use coordinates::{Coordinates, CoordinatesRefused};
 pub use data::Cohomology;
 pub use walk::classes_of;
-
-#[cfg(test)]
-mod tests;
