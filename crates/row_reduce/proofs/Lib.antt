@@ -8,4 +8,5 @@ pub mod SolvedLemmas
 pub mod EchelonLemmas
 pub mod SpaceLemmas
 pub mod KernelLemmas
+pub mod RankingLemmas
 pub mod TriangularLemmas

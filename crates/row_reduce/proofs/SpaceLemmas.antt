@@ -1,7 +1,6 @@
 -- The reduced echelon list of a span, with no bound on the places.
-use Rattle.std.proofs.Common.{◌≡◌, ℕ, suc, ◌+◌, ◌*◌, ◌-◌, ◌%◌, ◌<◌, ◌≤◌, ◌≢◌, List, [], ◌∷◌, ◌++◌, map, take, length, get_or, arith, refl, sym, ◌∙◌, ap, subst, inl, inr, mod-eq_of_lt}
+use Rattle.std.proofs.Common.{◌≡◌, ℕ, suc, ◌+◌, ◌*◌, ◌-◌, ◌%◌, ◌<◌, ◌≤◌, ◌≢◌, List, [], ◌∷◌, map, length, get_or, arith, refl, sym, ◌∙◌, ap, subst, inl, inr, mod-eq_of_lt}
 use Rattle.std.proofs.lemmas.Bool.{cases_lt}
-use Rattle.std.proofs.lemmas.List.{take_more}
 use native.Mathlib.Nat.{zero-mod}
 use Rattle.linear_law.specs.Congruence.{Congruent, IsField, negated, sum_over}
 use Rattle.linear_law.specs.Lists.{Among, Each, IsAscending}
@@ -10,7 +9,7 @@ use Rattle.linear_law.specs.ReducedBases.{AgreesOn, IsReduced}
 use Rattle.linear_law.specs.Pivots.{IsCanonical, IsLead, IsPivot}
 use Rattle.linear_law.specs.Triangular.{StartsAt}
 use Rattle.linear_law.proofs.CongruenceLemmas.{Congruent_add, Congruent_from, Congruent_of, Congruent_refl, Congruent_scale, Congruent_sym, Congruent_trans, add-negated}
-use Rattle.linear_law.proofs.ListLemmas.{each_among, each_from_index, each_get_or, each_map, each_push, each_unmap, each_zip}
+use Rattle.linear_law.proofs.ListLemmas.{each_among, each_from_index, each_get_or, each_map, each_unmap, each_zip}
 use Rattle.linear_law.proofs.LeadLemmas.{nonzero_alike}
 use Rattle.linear_law.proofs.PivotLemmas.{one-nonzero, reduced_apart, reduced_one}
 use Rattle.linear_law.proofs.ReducedLemmas.{sum_picks, sum_vanishes}
@@ -19,7 +18,7 @@ use Rattle.sparse_rows.specs.Rows.{IsBelow, IsRow, value_in}
 use Rattle.sparse_rows.proofs.RowLemmas.{value_in-at, value_in-none}
 use Rattle.row_reduce.specs.declared.EchelonRow.{EchelonRow}
 use Rattle.row_reduce.specs.Walk.{combined}
-use Rattle.row_reduce.specs.Echelon.{IsEchelonRow, IsSolvedWhole, cleared, combination_of, pivot_of, row_of}
+use Rattle.row_reduce.specs.Echelon.{cleared, combination_of, pivot_of, row_of}
 use Rattle.row_reduce.specs.Space.{Everywhere, IsEchelonOf, IsRemainder, IsSpannedBy}
 use Rattle.row_reduce.proofs.StepLemmas.{combined_linear}
 use Rattle.row_reduce.proofs.EchelonLemmas.{linear_sum}
@@ -150,22 +149,6 @@ module _ (p : ℕ) (field : IsField p) (given : List (List (ℕ × ℕ))) (echel
             Congruent_from (Congruent_add (Congruent_sym (rest_is y)) (Congruent_add (Congruent_sym all) (Congruent_sym (add-negated p S field.large)))) (omega arith);
       }
 
--- ---- bounds of positions
-
-pub below_more : (row : List (ℕ × ℕ)) (i : ℕ) (e : ℕ × ℕ) (old new : ℕ) → e ≡ get_or row i e → i < length row → old ≤ new → e.0 < new → IsBelow old (take i row) → IsBelow new (take (i + 1) row)
-below_more row i e old new is b wide here h =
-    let more : take (i + 1) row ≡ take i row ++ (e ∷ []) = take_more row i e b ∙ ap (λ (f : ℕ × ℕ). take i row ++ (f ∷ [])) (sym is) in
-    subst (IsBelow new) (sym more) (each_push (λ (f : ℕ × ℕ). f.0 < new) (take i row) e (each_map {Q = λ (f : ℕ × ℕ). f.0 < new} (λ f c. omega arith) (take i row) h) here)
-
-pub all_below_more : (rows : List (List (ℕ × ℕ))) (i : ℕ) (row : List (ℕ × ℕ)) (old new : ℕ) → row ≡ get_or rows i row → i < length rows → old ≤ new → IsBelow new row → Each (IsBelow old) (take i rows) → Each (IsBelow new) (take (i + 1) rows)
-all_below_more rows i row old new is b wide here h =
-    let more : take (i + 1) rows ≡ take i rows ++ (row ∷ []) = take_more rows i row b ∙ ap (λ (r : List (ℕ × ℕ)). take i rows ++ (r ∷ [])) (sym is) in
-    subst (Each (IsBelow new)) (sym more)
-    (each_push (IsBelow new) (take i rows) row (each_map {Q = IsBelow new} (λ r c. each_map {Q = λ (f : ℕ × ℕ). f.0 < new} (λ f d. omega arith) r c) (take i rows) h) here)
-
-pub wider : (old new : ℕ) (row : List (ℕ × ℕ)) → old ≤ new → IsBelow old row → IsBelow new row
-wider old new row b h = each_map {Q = λ (f : ℕ × ℕ). f.0 < new} (λ f c. omega arith) row h
-
 -- no rows have no leads
 pub echelon_none : (p : ℕ) → IsEchelonOf p [] []
 echelon_none p = record {
@@ -176,24 +159,3 @@ echelon_none p = record {
   canonical = tt;
   from = tt;
 }
-
--- the echelon list of a walk that skips nothing
-pub echelon_whole : (p width : ℕ) (field : IsField p) (rows : List (List (ℕ × ℕ))) (skip : List ℕ) (solutions : List (List (ℕ × ℕ))) (owner : List ℕ) (echelon : List (EchelonRow p))
-    → Each (IsBelow width) rows → IsSolvedWhole p width rows skip solutions owner echelon → IsEchelonOf p rows echelon
-echelon_whole p width field rows skip solutions owner echelon below h =
-    let r = h.reduced in
-    let Row : EchelonRow p → Type 0 = IsEchelonRow p width rows skip h.solved.kernel in
-    make_echelon p field rows echelon
-    (each_map {P = Row} {Q = λ (e : EchelonRow p). IsRow p e.row × IsRow p e.combination} (λ e g. g.rows_are) echelon r.each)
-    (each_map {P = Row} {Q = λ (e : EchelonRow p). IsBelow (length rows) e.combination} (λ e g. below_of_zero p (length rows) e.combination g.rows_are.1 g.short) echelon r.each) r.ascends r.reduced
-    (each_map {P = Row} {Q = λ (e : EchelonRow p). StartsAt p e.pivot (row_of e)} (λ e g. g.starts) echelon r.each)
-    (each_map {P = Row} {Q = λ (e : EchelonRow p). (y : ℕ) → Congruent p (combined rows (combination_of e) y) (row_of e y)}
-    (λ e g y. elim (cases_lt y width) [
-      | inl b ↦ g.from.at y b
-      | inr b ↦ Congruent_trans (Congruent_of (combined_beyond 0 width rows (combination_of e) y below b)) (Congruent_sym (g.wide y b))
-    ])
-    echelon r.each)
-    (λ v t l.
-    let inside : t < width = lead_inside p width rows v t below l.nonzero in
-    let among = h.solved.walked.image_whole v (record { before = λ x b. absurd (omega arith) }) t (record { on = inside; nonzero = l.nonzero; least = λ y _ b. l.least y tt b }) in
-    r.whole t (omega arith) inside ((h.solved.owned t inside).1 among))

@@ -4,4 +4,5 @@ pub mod Walk
 pub mod Expansion
 pub mod Triangular
 pub mod Echelon
+pub mod Ranking
 pub mod Space

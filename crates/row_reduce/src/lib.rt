@@ -4,6 +4,7 @@
 mod echelon;
 mod entries;
 mod expanding;
+mod ranking;
 mod reducing;
 mod space;
 mod walking;

@@ -1,14 +1,12 @@
-ghost use Rattle.std.specs.Prelude.{◌≡◌, ℕ, ◌+◌, ◌^◌, ◌<◌, ◌≤◌, length, slice_index_or, List, [], ◌++◌, OnOk, OnErr, IfOk, IsTrue};
-ghost use Rattle.linear_law.specs.Lists.{Each};
+ghost use Rattle.std.specs.Prelude.{◌≡◌, ℕ, ◌+◌, ◌^◌, ◌<◌, length, slice_index_or, [], ◌++◌, OnOk, OnErr, IfOk, IsTrue};
 ghost use Rattle.fp_field.specs.Served.{served};
-ghost use Rattle.sparse_rows.specs.Rows.{IsBelow, IsFirst};
+ghost use Rattle.sparse_rows.specs.Rows.{IsFirst};
 ghost use Rattle.row_reduce.specs.declared.EchelonRow as declared;
 ghost use Rattle.row_reduce.specs.Space.{AreOwnRows, IsEchelonOf, IsKernelOf, IsOwnRow, IsRemainder, Spanned};
 
 use crate::EchelonRow;
 use crate::echelon::{clear, echelon_of, multiple};
-use crate::expanding::kernel_and_stored;
-use crate::walking::zeros;
+use crate::ranking::{placed_rows, walk_ranked};
 use fp_field::Fp;
 use sparse_rows::Row;
 use std::alloc::{AllocError, Global};
@@ -114,46 +112,16 @@ fn copy_onto<const P: u32>(list: &mut Vec<Row<P>>, rows: &[Row<P>]) -> Result<()
     Ok(())
 }
 
-/// A bound of the positions.
-fn end_of<const P: u32>(row: &[(u32, Fp<P>)]) -> usize
-    ensures below { IsBelow result row.now }
-    ensures small { result ≤ 2 ^ 32 }
-{
-    let mut end = 0;
-    for pair in row {
-        if pair.0 as usize >= end {
-            end = pair.0 as usize + 1;
-        }
-    }
-    end
-}
-
-/// A bound of the positions of all rows.
-fn width_of<const P: u32>(rows: &[Row<P>]) -> usize
-    ensures below { Each (IsBelow result) rows.now }
-    ensures small { result ≤ 2 ^ 32 }
-{
-    let mut width = 0;
-    for row in rows {
-        let end = end_of(row.as_slice());
-        if end > width {
-            width = end;
-        }
-    }
-    width
-}
-
 /// The reduced echelon list of what the rows span.
 fn reduced<const P: u32>(alloc: Global, rows: &[Row<P>]) -> Result<Vec<EchelonRow<P>>, AllocError>
     requires prime { IsTrue (served P) }
     requires few { length rows.now < 2 ^ 32 }
     ensures { IfOk result (λ v. IsEchelonOf P rows.now v.items) }
 {
-    let skip = zeros(alloc, rows.len())?;
-    let width = width_of(rows);
-    let (_kernel, owner, stored) = kernel_and_stored(alloc, rows, width, skip.as_slice())?;
-    let echelon = echelon_of(alloc, stored.as_slice(), owner.as_slice())?;
-    Ok(echelon)
+    let walked = walk_ranked(alloc, rows)?;
+    let echelon = echelon_of(alloc, walked.stored.as_slice(), walked.owner.as_slice())?;
+    let placed = placed_rows(alloc, walked.positions.as_slice(), echelon.as_slice())?;
+    Ok(placed)
 }
 
 /// The least position of a row; 0 where it is empty.
@@ -201,11 +169,12 @@ pub fn kernel<const P: u32>(alloc: Global, rows: &[Row<P>]) -> Result<Space<P>, 
     requires few { length rows.now < 2 ^ 32 }
     ensures { IfOk result (λ s. IsKernelOf P rows.now s.given s.echelon) }
 {
-    let skip = zeros(alloc, rows.len())?;
-    let width = width_of(rows);
-    let (given, _owner, _stored) = kernel_and_stored(alloc, rows, width, skip.as_slice())?;
-    let echelon = own_rows(alloc, given.as_slice())?;
-    Ok(Space { given, echelon })
+    let walked = walk_ranked(alloc, rows)?;
+    let echelon = own_rows(alloc, walked.kernel.as_slice())?;
+    Ok(Space {
+        given: walked.kernel,
+        echelon,
+    })
 }
 
 #[cfg(test)]
@@ -219,13 +188,13 @@ mod tests {
         let one = Fp::<3>::new(1);
         let two = Fp::<3>::new(2);
         let rows = [
-            Row::from_pairs(alloc, &[(0, one), (1, one)])?,
-            Row::from_pairs(alloc, &[(0, one), (1, two)])?,
+            Row::from_pairs(alloc, &[(0, one), (4_294_967_295, one)])?,
+            Row::from_pairs(alloc, &[(0, one), (4_294_967_295, two)])?,
         ];
         let mut space = Space::new(alloc);
         space.reduce_all(alloc, &rows)?;
         assert_eq!(rt; space.rank(), 2);
-        assert_eq!(rt; space.pivot(1), 1);
+        assert_eq!(rt; space.pivot(1), 4_294_967_295);
         assert_eq!(rt; space.row(0).as_slice(), [(0, one)].as_slice());
         assert_eq!(rt;
             space.combination(0).as_slice(),
@@ -246,8 +215,8 @@ mod tests {
         let one = Fp::<3>::new(1);
         let two = Fp::<3>::new(2);
         let rows = [
-            Row::from_pairs(alloc, &[(0, one)])?,
-            Row::from_pairs(alloc, &[(0, two)])?,
+            Row::from_pairs(alloc, &[(4_294_967_295, one)])?,
+            Row::from_pairs(alloc, &[(4_294_967_295, two)])?,
             Row::new(alloc),
         ];
         let space = kernel(alloc, &rows)?;
