@@ -1,11 +1,12 @@
 -- May elements as sums over pairs, and the number of their candidates.
 use native.Mathlib.Decide.{dec_le}
 use Rattle.std.proofs.Math.Nat.{le-mul_of_pos_right}
-use Rattle.std.proofs.Common.{◌≡◌, ℕ, zero, suc, length, ◌+◌, ◌*◌, ◌/◌, ◌%◌, ◌^◌, ◌≤◌, min, List, [], ◌∷◌, ◌++◌, refl, sym, ◌∙◌, ap, arith}
+use Rattle.std.proofs.Common.{◌≡◌, ℕ, zero, suc, length, ◌+◌, ◌-◌, ◌*◌, ◌/◌, ◌%◌, ◌^◌, ◌≤◌, min, List, [], ◌∷◌, ◌++◌, refl, sym, ◌∙◌, ap, arith}
 use Rattle.std.specs.Prelude.{ℤ}
 use Rattle.std.proofs.Math.Nat.{min-eq_left, min-eq_right, pow-succ'}
 use Rattle.may_elements.specs.Counted.{cut_off}
-use Rattle.may_elements.specs.Pairs.{IsPairSum}
+use Rattle.may_elements.specs.Pairs.{IsPairSum, list_count}
+use Rattle.barratt_eccles.specs.Generators.{tuple_degree}
 use Rattle.operad_law.specs.FormalSums.{IsSameSum}
 use Rattle.signed_sum.proofs.SumLemmas.{fun_ext}
 use Rattle.signed_sum.specs.Permutations.{cycle_power}
@@ -13,7 +14,7 @@ use Rattle.signed_sum.specs.Sums.{value_at}
 use Rattle.table_reduction_law.proofs.FormalSums.{value_at-may_element, value_at-table_reduction}
 use Rattle.table_reduction_law.proofs.MayTwo.{may_two_law}
 use Rattle.table_reduction_law.proofs.PowerPairs.{pair_sum}
-use Rattle.table_reduction_law.specs.Counts.{in_turn}
+use Rattle.table_reduction_law.specs.Counts.{binomial, candidate_count, in_turn}
 use Rattle.table_reduction_law.specs.MayElements.{leading_entries, may_element, pair_count}
 use Rattle.table_reduction_law.specs.Reduction.{table_reduction}
 
@@ -67,3 +68,17 @@ pub lead-some : (p d : ℕ) → 1 ≤ length (leading_entries p d)
 lead-some p zero = omega arith
 lead-some p (suc zero) = omega arith
 lead-some p (suc (suc d)) = lead-some p d
+
+lead-degree : (p d : ℕ) → tuple_degree (leading_entries p d) + 2 * (d / 2) ≡ d
+lead-degree p zero = refl
+lead-degree p (suc zero) = refl
+lead-degree p (suc (suc d)) = omega (arith, lead-degree p d)
+
+pub whole-degree : (p d : ℕ) (entries : List (List ℕ)) → entries ≡ leading_entries p d → tuple_degree entries + 2 * (d / 2) ≡ d
+whole-degree p d entries e = ap (λ w. tuple_degree w + 2 * (d / 2)) e ∙ lead-degree p d
+
+-- the lists that come from all tuples are the candidates
+pub whole-count : (p d : ℕ) (entries : List (List ℕ)) → entries ≡ leading_entries p d → list_count p (d / 2) (tuple_degree entries + 2 * (d / 2)) ≡ candidate_count p d
+whole-count p d entries e =
+    ap (list_count p (d / 2)) (whole-degree p d entries e)
+    ∙ ap (λ k. p ^ k * binomial (p + d - 1) d) (sym (pair_count-half d))

@@ -1,25 +1,27 @@
 -- Sums over pairs of powers of the cycle, pair by pair.
-use Rattle.std.proofs.Common.{◌≡◌, ℕ, zero, suc, ◌+◌, ◌-◌, ◌≤◌, true, List, [], ◌∷◌, ◌++◌, length, refl, sym, ◌∙◌, ap, subst, arith, append_assoc, Ordering, Less, Equal, Greater}
+use Rattle.std.proofs.Common.{◌≡◌, ℕ, zero, suc, ◌+◌, ◌-◌, ◌*◌, ◌^◌, ◌<◌, ◌≤◌, true, List, [], ◌∷◌, ◌++◌, length, refl, sym, ◌∙◌, ap, subst, arith, append_assoc, Ordering, Less, Equal, Greater}
 use Rattle.std.specs.Prelude.{ℤ, pos}
+use Rattle.std.proofs.Math.Nat.{mul-le-mul_left, pow-succ', pow-zero}
 use Rattle.std.proofs.lemmas.Int.{ints}
 use Rattle.std.proofs.lemmas.Bool.{or_left, or_right}
 use Rattle.std.proofs.lemmas.List.{append-nil, length-append}
 use Rattle.std.specs.Cmp.Lexicographic.{slice_cmp}
 use Rattle.std.specs.Ordering.{eq_by_cmp, is_eq, nat_cmp}
-use Rattle.barratt_eccles.specs.Generators.{tuple_arity}
+use Rattle.barratt_eccles.specs.Generators.{tuple_arity, tuple_degree}
 use Rattle.operad_law.proofs.ListOrder.{equal_numbers}
 use Rattle.operad_law.specs.FormalSums.{IsPlusScaled, IsSameSum}
-use Rattle.may_elements.specs.Pairs.{IsPairSum, IsPartSum}
+use Rattle.may_elements.specs.Pairs.{IsPairSum, IsPartSum, list_count}
 use Rattle.signed_sum.proofs.ListLemmas.{is_same_list-self}
 use Rattle.signed_sum.proofs.Ring.{one-mul}
 use Rattle.signed_sum.proofs.SumLemmas.{fun_ext}
 use Rattle.signed_sum.specs.Lists.{is_same_list}
 use Rattle.signed_sum.specs.Permutations.{cycle_power}
-use Rattle.signed_sum.specs.Sums.{value_at}
+use Rattle.signed_sum.specs.Sums.{value_at, weight_of}
 use Rattle.table_reduction_law.proofs.FormalSums.{degenerate_tuple_law}
 use Rattle.table_reduction_law.proofs.MayBoundary.{tuple-append}
 use Rattle.table_reduction_law.proofs.PowerPairs.{pair_sum, pairs-cong, power-perm, sum-cong, sum_below}
 use Rattle.table_reduction_law.proofs.ReductionBoundary.{permutation-length}
+use Rattle.table_reduction_law.specs.Counts.{binomial}
 use Rattle.table_reduction_law.specs.Reduction.{table_reduction}
 use Rattle.table_reduction_law.specs.Tuples.{IsTuple, begins_with_entry, is_degenerate_tuple}
 
@@ -113,3 +115,39 @@ pushed p e entries first both power next f b x y =
 
 pub some-pair : (entries : List (List ℕ)) (v w : List ℕ) → 1 ≤ length (entries ++ (v ∷ w ∷ []))
 some-pair entries v w = omega (arith, length-append entries (v ∷ w ∷ []))
+
+-- ---- how many lists there are
+pub count-more : (p k n : ℕ) → (k ≡ 0 → ⊥) → list_count p k n ≡ p * list_count p (k - 1) n
+count-more p k n z =
+    let one : k ≡ suc (k - 1) = omega arith in
+    let more : p ^ k ≡ p * p ^ (k - 1) = ap (λ j. p ^ j) one ∙ pow-succ' p (k - 1) in
+    omega (arith, ap (λ v. v * binomial (p + n - 1) n) more)
+
+-- where they fit into the weight of a sum, so do those with one exponent more
+pub light-more : (p k n e : ℕ) (sum part : List (List ℕ × ℤ)) → (k ≡ 0 → ⊥) → e < p → list_count p k n ≤ 10 ^ 18 →
+    weight_of sum ≤ e * list_count p (k - 1) n → weight_of part ≤ list_count p (k - 1) n → weight_of sum + 1 * weight_of part ≤ 10 ^ 18
+light-more p k n e sum part z h few a b =
+    let c : list_count p (k - 1) n * suc e ≤ list_count p (k - 1) n * p = mul-le-mul_left (list_count p (k - 1) n) h in
+    omega (arith, few, a, b, c, count-more p k n z)
+
+pub count-less : (p k n : ℕ) → 1 ≤ p → (k ≡ 0 → ⊥) → list_count p (k - 1) n ≤ list_count p k n
+count-less p k n h z =
+    let c : list_count p (k - 1) n * 1 ≤ list_count p (k - 1) n * p = mul-le-mul_left (list_count p (k - 1) n) h in
+    omega (arith, c, count-more p k n z)
+
+-- one pair fewer is to come, in the same degree
+pub count-same : (p k : ℕ) (entries now : List (List ℕ)) → (k ≡ 0 → ⊥) → now ≡ entries → list_count p (k - 1) (tuple_degree now + 2 * (k - 1 + 1)) ≡ list_count p (k - 1) (tuple_degree entries + 2 * k)
+count-same p k entries now z e = let n : tuple_degree now + 2 * (k - 1 + 1) ≡ tuple_degree entries + 2 * k = omega (arith, ap tuple_degree e) in ap (list_count p (k - 1)) n
+
+pub degree-pushed : (k : ℕ) (entries both : List (List ℕ)) (v w : List ℕ) → 1 ≤ length entries → both ≡ entries ++ (v ∷ w ∷ []) → tuple_degree both + 2 * k ≡ tuple_degree entries + 2 * (k + 1)
+degree-pushed k entries both v w h e = omega (arith, ap length e, length-append entries (v ∷ w ∷ []))
+
+-- without a pair there are those of one tuple
+pub count-none : (p k : ℕ) (w entries : List (List ℕ)) → k ≡ 0 → w ≡ entries → tuple_arity entries ≡ p →
+    list_count p k (tuple_degree entries + 2 * k) ≡ binomial (tuple_arity w + tuple_degree w - 1) (tuple_degree w)
+count-none p k w entries z e a =
+    let n : tuple_degree entries + 2 * k ≡ tuple_degree w = omega (arith, z, ap tuple_degree e) in
+    let r : p ≡ tuple_arity w = omega (arith, a, ap tuple_arity e) in
+    let one : p ^ k ≡ 1 = ap (λ j. p ^ j) z ∙ pow-zero p in
+    let b : binomial (p + (tuple_degree entries + 2 * k) - 1) (tuple_degree entries + 2 * k) ≡ binomial (tuple_arity w + tuple_degree w - 1) (tuple_degree w) = λ i. binomial (r i + n i - 1) (n i) in
+    omega (arith, b, ap (λ v. v * binomial (p + (tuple_degree entries + 2 * k) - 1) (tuple_degree entries + 2 * k)) one)

@@ -1,9 +1,15 @@
 -- Sums over pairs of powers of the cycle.
-use Rattle.std.specs.Prelude.{◌≡◌, ℕ, suc, List, ◌∷◌, ◌++◌, ℤ}
+use Rattle.std.specs.Prelude.{◌≡◌, ℕ, suc, ◌+◌, ◌-◌, ◌*◌, ◌^◌, List, ◌∷◌, ◌++◌, ℤ}
 use Rattle.signed_sum.specs.Permutations.{cycle_power}
 use Rattle.signed_sum.specs.Sums.{value_at}
+use Rattle.table_reduction_law.specs.Counts.{binomial}
 use Rattle.table_reduction_law.specs.Reduction.{table_reduction}
 use Rattle.table_reduction_law.proofs.PowerPairs.{pair_sum, sum_below}
+
+-- how many lists come from the tuples of degree n of which the last entries are k pairs of a power of the
+-- cycle of 1 to p and the next
+abbrev pub list_count : ℕ → ℕ → ℕ → ℕ
+list_count p k n = p ^ k * binomial (p + n - 1) n
 
 -- s is the sum of the table reductions of the tuples that begin with `entries` and go on with k pairs
 -- of a power of the cycle and the next, where the exponents go from 0 to p - 1

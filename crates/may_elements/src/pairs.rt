@@ -1,10 +1,12 @@
 //! Sums of table reductions over pairs of powers of the cycle.
-ghost use Rattle.std.specs.Prelude.{◌≡◌, ◌≤◌, ◌<◌, ◌++◌, ◌∷◌, [], ℕ, List, suc, true, IsTrue, IfOk, OnOk, length};
+ghost use Rattle.std.specs.Prelude.{◌≡◌, ◌≤◌, ◌<◌, ◌+◌, ◌*◌, ◌^◌, ◌++◌, ◌∷◌, [], ℕ, List, suc, true, IsTrue, IfOk, OnOk, length};
+ghost use Rattle.barratt_eccles.specs.Generators.{tuple_degree};
 ghost use Rattle.signed_sum.specs.Permutations.{cycle_power};
+ghost use Rattle.signed_sum.specs.Sums.{weight_of};
 ghost use Rattle.table_reduction_law.specs.Tuples.{IsTuple, is_degenerate_tuple};
-ghost use Rattle.may_elements.specs.Pairs.{IsPairSum};
+ghost use Rattle.may_elements.specs.Pairs.{IsPairSum, list_count};
 
-use operad_law::formal_sum::FormalSum;
+use operad_law::formal_sum::{FormalSum, SumEnd};
 use operad_law::perm::Perm;
 use std::alloc::{AllocError, Global};
 use surjection::surj::Surj;
@@ -23,7 +25,10 @@ pub(crate) fn sum_over_pairs(
     requires narrow { p ≤ 32 }
     requires begun { 1 ≤ length entries.old.items }
     requires tuple { IsTuple p entries.old.items }
+    requires short { p + (tuple_degree entries.old.items + 2 * pairs) ≤ 255 }
+    requires few { list_count p pairs (tuple_degree entries.old.items + 2 * pairs) ≤ 10 ^ 18 }
     ensures sum { IfOk result (IsPairSum p pairs entries.old.items) }
+    ensures weight { IfOk result (λ s. weight_of s ≤ list_count p pairs (tuple_degree entries.old.items + 2 * pairs)) }
     ensures same { OnOk result (entries.new.items ≡ entries.old.items) }
 {
     if pairs == 0 {
@@ -34,7 +39,8 @@ pub(crate) fn sum_over_pairs(
         let part = sum_with_power(alloc, p, entries, exponent, pairs - 1)?;
         match sum.plus_scaled(&part, 1) {
             Ok(()) => {}
-            Err(_) => return Err(AllocError),
+            Err(SumEnd::OutOfMemory) => return Err(AllocError),
+            Err(SumEnd::TooLarge) => unreachable!(),
         }
     }
     Ok(sum)
@@ -51,9 +57,13 @@ fn sum_with_power(
 ) -> Result<FormalSum<Surj>, AllocError>
     requires some { 1 ≤ p }
     requires narrow { p ≤ 32 }
+    requires begun { 1 ≤ length entries.old.items }
     requires tuple { IsTuple p entries.old.items }
     requires turn { exponent < p }
+    requires short { p + (tuple_degree entries.old.items + 2 * (pairs + 1)) ≤ 255 }
+    requires few { list_count p pairs (tuple_degree entries.old.items + 2 * (pairs + 1)) ≤ 10 ^ 18 }
     ensures sum { IfOk result (IsPairSum p pairs (entries.old.items ++ (cycle_power p exponent ∷ cycle_power p (suc exponent) ∷ []))) }
+    ensures weight { IfOk result (λ s. weight_of s ≤ list_count p pairs (tuple_degree entries.old.items + 2 * (pairs + 1))) }
     ensures same { OnOk result (entries.new.items ≡ entries.old.items) }
 {
     let power = Perm::cycle(alloc, p, exponent)?;

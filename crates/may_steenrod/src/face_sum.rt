@@ -43,7 +43,7 @@ const POWERS: [usize; 16] = [
 #[derive(Clone, Copy)]
 struct Term<const P: u32> {
     coefficient: Fp<P>,
-    faces: [u16; 5],
+    faces: [usize; 5],
 }
 
 /// A sum of products of values on faces.
@@ -52,7 +52,7 @@ pub(crate) struct FaceSum<const P: u32> {
     /// The faces, each as the list of its places.
     faces: Vec<Vec<u32>>,
     /// Where the face of each set of places stands, if it does.
-    slots: Vec<u16>,
+    slots: Vec<usize>,
     terms: Vec<Term<P>>,
 }
 
@@ -106,14 +106,14 @@ fn write_vertices(vertices: &mut Vec<u32>, face: &[u32], simplex: &[u32]) -> Res
 }
 
 /// The product of the values with the first `P` numbers.
-fn product<const P: u32>(values: &[Fp<P>], numbers: &[u16; 5]) -> Fp<P>
+fn product<const P: u32>(values: &[Fp<P>], numbers: &[usize; 5]) -> Fp<P>
     requires prime { IsTrue (served P) }
     requires inside { Each (λ k. k < length values.now) (take P numbers.now) }
     ensures { result ≡ product_at values.now (take P numbers.now) % P }
 {
     let mut product = Fp::new(1);
     for k in 0..P as usize {
-        product = product.mul(values[numbers[k] as usize]);
+        product = product.mul(values[numbers[k]]);
         if product.is_zero() {
             return product;
         }
@@ -135,7 +135,7 @@ impl<const P: u32> FaceSum<P> {
     }
 
     /// The number of a face, which is added if it is new.
-    fn number_of(&mut self, alloc: Global, face: &[u32]) -> Result<u16, AllocError>
+    fn number_of(&mut self, alloc: Global, face: &[u32]) -> Result<usize, AllocError>
         requires slots { length self.old.slots.items ≡ 65536 }
         ensures slots { OnOk result (length self.new.slots.items ≡ 65536) }
         ensures terms { OnOk result (self.new.terms.items ≡ self.old.terms.items) }
@@ -145,20 +145,17 @@ impl<const P: u32> FaceSum<P> {
     {
         let slot = slot_of(face);
         let number = self.slots[slot];
-        if (number as usize) < self.faces.len() && self.faces[number as usize].as_slice() == face {
+        if number < self.faces.len() && self.faces[number].as_slice() == face {
             return Ok(number);
         }
         let count = self.faces.len();
-        if count >= SLOTS {
-            return Err(AllocError);
-        }
         self.faces.push(face.to_vec(alloc)?)?;
-        self.slots[slot] = count as u16;
-        Ok(count as u16)
+        self.slots[slot] = count;
+        Ok(count)
     }
 
     /// The numbers of the faces of the cut that a walk is at.
-    fn numbers_of(&mut self, alloc: Global, cuts: &LiveCuts) -> Result<[u16; 5], AllocError>
+    fn numbers_of(&mut self, alloc: Global, cuts: &LiveCuts) -> Result<[usize; 5], AllocError>
         requires prime { IsTrue (served P) }
         requires at { IsSome cuts.now.walk.here }
         requires arity { arity cuts.now.walk.values ≡ P }
@@ -169,7 +166,7 @@ impl<const P: u32> FaceSum<P> {
         ensures inside { IfOk result (λ ks. Each (λ k. k < length self.new.faces.items) (take P ks)) }
         ensures faces { IfOk result (λ ks. map (list_at self.new.faces.items) (take P ks) ≡ cut_faces (numbers_from 1 P) cuts.now.walk.values (cut_of cuts.now.walk)) }
     {
-        let mut numbers = [0u16; 5];
+        let mut numbers = [0; 5];
         for k in 0..P as u8 {
             numbers[k as usize] = self.number_of(alloc, cuts.face(k + 1))?;
         }

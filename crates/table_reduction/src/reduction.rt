@@ -1,7 +1,7 @@
 //! The reduction of tuples.
 ghost use Rattle.std.specs.Prelude.{◌≡◌, ◌↔◌, ◌≤◌, ◌<◌, ◌+◌, ◌-◌, ◌^◌, ℕ, ℤ, List, Err, IfOk, map};
 ghost use Rattle.signed_sum.specs.Permutations.{entry_at};
-ghost use Rattle.signed_sum.specs.Sums.{value_at};
+ghost use Rattle.signed_sum.specs.Sums.{value_at, weight_of};
 ghost use Rattle.operad_law.specs.FormalSums.{IsSameSum};
 ghost use Rattle.surjection_law.specs.Boundary.{surjection_boundary};
 ghost use Rattle.table_reduction_law.specs.Counts.{binomial};
@@ -40,11 +40,16 @@ pub fn reduce(alloc: Global, tuple: &Tuple) -> Result<FormalSum<Surj>, SumEnd>
     }
 }
 
-/// The table reduction of a list of permutations of the same numbers. Neighbours may be equal.
+/// The table reduction of a list of permutations of the same numbers. Neighbours may be equal. The
+/// arity and the degree, the number of entries less 1, sum to at most 255, and there are at most 10^18 lists of row lengths.
 pub fn reduce_entries(alloc: Global, entries: &[Perm]) -> Result<FormalSum<Surj>, AllocError>
     requires wide { 1 ≤ tuple_arity entries.now }
+    requires narrow { tuple_arity entries.now ≤ 32 }
+    requires short { tuple_arity entries.now + tuple_degree entries.now ≤ 255 }
+    requires few { binomial (tuple_arity entries.now + tuple_degree entries.now - 1) (tuple_degree entries.now) ≤ 10 ^ 18 }
     requires tuple { IsTuple (tuple_arity entries.now) entries.now }
-    ensures { IfOk result (λ s. IsSameSum s (table_reduction entries.now)) }
+    ensures sum { IfOk result (λ s. IsSameSum s (table_reduction entries.now)) }
+    ensures weight { IfOk result (λ s. weight_of s ≤ binomial (tuple_arity entries.now + tuple_degree entries.now - 1) (tuple_degree entries.now)) }
 {
     let mut walk = Walk::new(alloc);
     let Some((row, rows)) = entries.split_first() else {

@@ -1,12 +1,13 @@
 //! The walk over the lists that come from a tuple.
-ghost use Rattle.std.specs.Prelude.{◌≡◌, ◌==◌, ◌∷◌, [], false, All, OnOk};
-ghost use Rattle.signed_sum.specs.Lists.{IsDistinct, occurs};
-ghost use Rattle.table_reduction.specs.Walks.{AddsLists, is_last};
+ghost use Rattle.std.specs.Prelude.{◌≡◌, ◌==◌, ◌≤◌, ◌+◌, ◌^◌, ◌∷◌, [], false, All, OnOk};
+ghost use Rattle.signed_sum.specs.Lists.{IsDistinct, is_degenerate, occurs};
+ghost use Rattle.signed_sum.specs.Sums.{weight_of};
+ghost use Rattle.table_reduction.specs.Walks.{AddsLists, is_last, needed};
 
-use operad_law::formal_sum::FormalSum;
+use operad_law::formal_sum::{FormalSum, SumEnd};
 use operad_law::perm::Perm;
 use std::alloc::{AllocError, Global};
-use surjection::surj::Surj;
+use surjection::surj::{NotASurjection, Surj};
 
 /// A walk over the rows of a tuple: the values that are written, the entries that later rows leave out,
 /// and the sum of the lists that are complete.
@@ -50,6 +51,8 @@ impl Walk {
     ) -> Result<(), AllocError>
         requires row { IsDistinct left.now }
         requires rows { All IsDistinct later.now }
+        requires plain { is_degenerate self.old.values.items ≡ false }
+        requires room { weight_of self.old.sum + needed later.now left.now self.old.used.items self.old.values.items ≤ 10 ^ 18 }
         ensures sum { OnOk result (AddsLists later.now left.now self.old.used.items self.old.values.items self.old.sum self.new.sum) }
         ensures used { OnOk result (self.new.used.items ≡ self.old.used.items) }
         ensures values { OnOk result (self.new.values.items ≡ self.old.values.items) }
@@ -80,6 +83,8 @@ impl Walk {
         requires rows { All IsDistinct later.now }
         requires free { occurs value self.old.used.items ≡ 0 }
         requires apart { is_last value self.old.values.items ≡ false }
+        requires plain { is_degenerate self.old.values.items ≡ false }
+        requires room { weight_of self.old.sum + needed later.now (value ∷ rest.now) self.old.used.items self.old.values.items ≤ 10 ^ 18 }
         ensures sum { OnOk result (AddsLists later.now (value ∷ rest.now) self.old.used.items self.old.values.items self.old.sum self.new.sum) }
         ensures used { OnOk result (self.new.used.items ≡ self.old.used.items) }
         ensures values { OnOk result (self.new.values.items ≡ self.old.values.items) }
@@ -99,6 +104,8 @@ impl Walk {
 
     // Adds the list that is written, if no row is left.
     fn end_row(&mut self, alloc: Global, later: &[Perm]) -> Result<(), AllocError>
+        requires plain { is_degenerate self.old.values.items ≡ false }
+        requires room { weight_of self.old.sum + needed later.now [] self.old.used.items self.old.values.items ≤ 10 ^ 18 }
         ensures sum { OnOk result (AddsLists later.now [] self.old.used.items self.old.values.items self.old.sum self.new.sum) }
         ensures used { OnOk result (self.new.used.items ≡ self.old.used.items) }
         ensures values { OnOk result (self.new.values.items ≡ self.old.values.items) }
@@ -106,12 +113,15 @@ impl Walk {
         if !later.is_empty() {
             return Ok(());
         }
-        let Ok(list) = Surj::new(alloc, self.values.as_slice()) else {
-            return Err(AllocError);
+        let list = match Surj::new(alloc, self.values.as_slice()) {
+            Ok(list) => list,
+            Err(NotASurjection::OutOfMemory) => return Err(AllocError),
+            Err(_) => unreachable!(),
         };
         match self.sum.add_term(list, 1) {
             Ok(()) => Ok(()),
-            Err(_) => Err(AllocError),
+            Err(SumEnd::OutOfMemory) => Err(AllocError),
+            Err(SumEnd::TooLarge) => unreachable!(),
         }
     }
 }

@@ -6,8 +6,8 @@ use Rattle.table_reduction.proofs.reduction.reduce.Goals as goal
 
 pub returns-in-Ok-clause-boundary : goal.returns-in-Ok-clause-boundary
 returns-in-Ok-clause-boundary c =
-    reduces-boundary c.args.tuple.now c.in-Ok.sum c.as_slice-entries.ensures.generator (subst (λ w. IsSameSum c.in-Ok.sum (table_reduction w)) c.as_slice-entries.ensures.same c.in-Ok.ensures)
+    reduces-boundary c.args.tuple.now c.in-Ok.sum c.as_slice-entries.ensures.generator (subst (λ w. IsSameSum c.in-Ok.sum (table_reduction w)) c.as_slice-entries.ensures.same c.in-Ok.ensures.sum)
 
 pub returns-in-Ok-clause-action : goal.returns-in-Ok-clause-action
 returns-in-Ok-clause-action c =
-    reduces-action c.args.tuple.now c.in-Ok.sum c.as_slice-entries.ensures.generator (subst (λ w. IsSameSum c.in-Ok.sum (table_reduction w)) c.as_slice-entries.ensures.same c.in-Ok.ensures)
+    reduces-action c.args.tuple.now c.in-Ok.sum c.as_slice-entries.ensures.generator (subst (λ w. IsSameSum c.in-Ok.sum (table_reduction w)) c.as_slice-entries.ensures.same c.in-Ok.ensures.sum)

@@ -1,9 +1,10 @@
-use Rattle.std.proofs.Common.{◌/◌, List, ℕ, arith, ap, length, subst, sym}
+use Rattle.std.proofs.Common.{◌/◌, ◌≤◌, List, ℕ, arith, ap, length, subst, sym}
 use Rattle.std.proofs.lemmas.Result.{IfOk-weaker}
 use Rattle.table_reduction_law.proofs.MayBoundary.{lead-tuple}
 use Rattle.table_reduction_law.specs.Tuples.{IsTuple}
 use Rattle.may_elements.specs.Pairs.{IsPairSum}
-use Rattle.may_elements.proofs.ElementLemmas.{element-at_two, element-is, lead-some}
+use Rattle.fp_field.proofs.ServedLemmas.{for_served}
+use Rattle.may_elements.proofs.ElementLemmas.{element-at_two, element-is, lead-some, whole-count, whole-degree}
 use Rattle.may_elements.proofs.elements.MayTable.build.Goals as goal
 
 pub sum_over_pairs-requires-clause-begun : goal.sum_over_pairs-requires-clause-begun
@@ -11,6 +12,14 @@ sum_over_pairs-requires-clause-begun g c = omega (arith, ap length c.in_ok-entri
 
 pub sum_over_pairs-requires-clause-tuple : goal.sum_over_pairs-requires-clause-tuple
 sum_over_pairs-requires-clause-tuple g c = subst (IsTuple g.row.P) (sym c.in_ok-entries.ensures) (lead-tuple g.row.P c.args.d)
+
+pub sum_over_pairs-requires-clause-short : goal.sum_over_pairs-requires-clause-short
+sum_over_pairs-requires-clause-short g c =
+    let small = for_served (λ q. q ≤ 5) g.row.P (omega arith) (omega arith) (omega arith) c.requires.prime in
+    omega (arith, small, whole-degree g.row.P c.args.d c.in_ok-entries.entries.items c.in_ok-entries.ensures, c.requires.low)
+
+pub sum_over_pairs-requires-clause-few : goal.sum_over_pairs-requires-clause-few
+sum_over_pairs-requires-clause-few g c = omega (arith, whole-count g.row.P c.args.d c.in_ok-entries.entries.items c.in_ok-entries.ensures, c.requires.few)
 
 pub returns-clause-element : goal.returns-clause-element
 returns-clause-element g c =

@@ -1,9 +1,10 @@
-use Rattle.std.proofs.Common.{◌≡◌, ◌∙◌, ◌++◌, List, ℕ, [], ◌∷◌, ap, arith, length, sym, subst}
+use Rattle.std.proofs.Common.{◌≡◌, ◌∙◌, ◌+◌, ◌≤◌, ◌^◌, ◌++◌, List, ℕ, [], ◌∷◌, ap, arith, false, length, sym, subst}
 use Rattle.std.proofs.lemmas.List.Elements.{All-head, All-tail}
 use Rattle.std.specs.Prelude.{All, ◌==◌, ℤ}
-use Rattle.signed_sum.specs.Lists.{IsDistinct, occurs}
-use Rattle.table_reduction.specs.Walks.{AddsLists, entry_count, is_last}
-use Rattle.table_reduction.proofs.WalkLemmas.{adds-in_last, adds-pruned, adds-steps, no_rows, occurs-no}
+use Rattle.signed_sum.specs.Lists.{IsDistinct, is_degenerate, occurs}
+use Rattle.signed_sum.specs.Sums.{weight_of}
+use Rattle.table_reduction.specs.Walks.{AddsLists, entry_count, is_last, needed}
+use Rattle.table_reduction.proofs.WalkLemmas.{adds-in_last, adds-pruned, adds-steps, no_rows, occurs-no, plain-more, room-ended, room-last, room-used}
 use Rattle.table_reduction.proofs.walk.Walk.+rows.Goals as goal
 use Rattle.table_reduction.proofs.walk.Walk.+rows.Goals.{add_value-in-Some+in_ok-add_from+in_ok-push-2+in_ok-add_from-2, add_value-in_default+in_ok-add_from-3}
 
@@ -23,13 +24,38 @@ add_from-add_value-requires t c =
     let e : c.args.left.now ≡ x ∷ c.in-Some.rest.now = c.in-Some.ensures.cases.0 in
     let free = occurs-no x c.args.self.now.used.items (ap (λ u. occurs x u == 1) (sym c.as_slice.ensures.value) ∙ sym c.contains.ensures ∙ c.if-contains.false) in
     let apart = ap (is_last x) (sym c.as_slice-2.ensures.value) ∙ sym c.ends_with.ensures ∙ c.if-ends_with.false in
-    (omega (arith, ap length e), (subst IsDistinct e c.requires.row, (c.requires.rows, (free, apart))))
+    let room = subst (λ (left : List ℕ). weight_of c.args.self.now.sum + needed c.args.later.now left c.args.self.now.used.items c.args.self.now.values.items ≤ 10 ^ 18) e c.requires.room in
+    (omega (arith, ap length e), (subst IsDistinct e c.requires.row, (c.requires.rows, (free, (apart, (c.requires.plain, room))))))
 
 pub add_value-add_from-requires : goal.add_value-add_from-requires
 add_value-add_from-requires t c =
     let e : c.args.later.now ≡ c.in-Some.row.now ∷ c.in-Some.rows.now = c.in-Some.ensures.cases.0 in
     let q : All IsDistinct (c.in-Some.row.now ∷ c.in-Some.rows.now) = subst (All IsDistinct) e c.requires.rows in
-    (omega (arith, ap entry_count e, ap length c.as_slice.ensures), (subst IsDistinct (sym c.as_slice.ensures) (All-head IsDistinct c.in-Some.row.now c.in-Some.rows.now q), All-tail IsDistinct c.in-Some.row.now c.in-Some.rows.now q))
+    let values = c.args.self.now.values.items in
+    let plain : is_degenerate c.push.new.self.items ≡ false = ap is_degenerate c.in_ok-push.ensures.items ∙ plain-more c.args.value values c.requires.plain c.requires.apart in
+    let room = room-ended c.args.later.now c.in-Some.rows.now c.in-Some.row.now c.as_slice.result.now c.args.value c.args.rest.now c.args.self.now.used.items values c.push.new.self.items (weight_of c.args.self.now.sum)
+    e c.as_slice.ensures c.in_ok-push.ensures.items c.requires.free c.requires.row.0 c.requires.room in
+    (omega (arith, ap entry_count e, ap length c.as_slice.ensures), (subst IsDistinct (sym c.as_slice.ensures) (All-head IsDistinct c.in-Some.row.now c.in-Some.rows.now q), (All-tail IsDistinct c.in-Some.row.now c.in-Some.rows.now q, (plain, room))))
+
+pub add_value-add_from-requires-in-Some : goal.add_value-add_from-requires-in-Some
+add_value-add_from-requires-in-Some t c =
+    let values = c.args.self.now.values.items in
+    let first = c.add_from.new.self in
+    let plain : is_degenerate first.values.items ≡ false = ap is_degenerate c.in_ok-add_from.ensures.values ∙ ap is_degenerate c.in_ok-push.ensures.items ∙ plain-more c.args.value values c.requires.plain c.requires.apart in
+    let room = room-used c.args.later.now c.in-Some.rows.now c.in-Some.row.now c.as_slice.result.now c.args.value c.args.rest.now c.args.self.now.used.items first.used.items c.push-in-Some.new.self.items
+    values c.push.new.self.items first.values.items c.args.self.now.sum first.sum
+    c.in-Some.ensures.cases.0 c.as_slice.ensures c.in_ok-push.ensures.items c.in_ok-add_from.ensures.values c.in_ok-add_from.ensures.used c.in_ok-push-2.ensures.items
+    c.requires.free c.requires.row.0 c.in_ok-add_from.ensures.sum c.requires.room in
+    (omega arith, (c.requires.row.1, (c.requires.rows, (plain, room))))
+
+pub add_value-add_from-requires-in_default : goal.add_value-add_from-requires-in_default
+add_value-add_from-requires-in_default t c =
+    let values = c.args.self.now.values.items in
+    let l : c.args.later.now ≡ [] = no_rows c.args.later.now c.split_first.result c.split_first.ensures.cases c.in_default.not-Some in
+    let plain : is_degenerate c.push.new.self.items ≡ false = ap is_degenerate c.in_ok-push.ensures.items ∙ plain-more c.args.value values c.requires.plain c.requires.apart in
+    let room = room-last c.args.later.now c.args.value c.args.rest.now c.args.self.now.used.items values c.push.new.self.items (weight_of c.args.self.now.sum)
+    l c.in_ok-push.ensures.items c.requires.free c.requires.room in
+    (omega arith, (c.requires.row.1, (c.requires.rows, (plain, room))))
 
 pub add_value-returns-clause-sum : goal.add_value-returns-clause-sum
 add_value-returns-clause-sum t c =
