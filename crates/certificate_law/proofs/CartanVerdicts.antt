@@ -61,12 +61,12 @@ pairing_sum : (f g : Cochain) (c : ℕ) (chain : Chain) → pairing (λ s. c * f
 pairing_sum f g c [] = omega arith
 pairing_sum f g c (t ∷ ts) = let h = pairing_sum f g c ts in omega (arith, h)
 
+pairing_none : (ts : Chain) → pairing (λ s. 0) ts ≡ 0
+pairing_none [] = refl
+pairing_none (t ∷ ts) = let e = pairing_none ts in omega (arith, e)
+
 pairing_units : (p k : ℕ) (ss : List (List ℕ)) (v : ℕ → ℕ) (chain : Chain) → Each (λ s. Congruent p (cochain_of chain s) 0) ss → Congruent p (pairing (unit_sum_from unit_cochain k ss v) chain) 0
-pairing_units p k [] v chain h = Congruent_of (none chain)
-  where
-    none : (ts : Chain) → pairing (λ s. 0) ts ≡ 0
-    none [] = refl
-    none (t ∷ ts) = let e = none ts in omega (arith, e)
+pairing_units p k [] v chain h = Congruent_of (pairing_none chain)
 pairing_units p k (s ∷ ss) v chain h =
     Congruent_trans (Congruent_of (pairing_sum (unit_cochain s) (unit_sum_from unit_cochain (suc k) ss v) (v k) chain))
     (Congruent_from (Congruent_add (Congruent_scale (v k) (Congruent_trans (Congruent_of (unit_pairing s chain)) h.0)) (pairing_units p (suc k) ss v chain h.1)) (omega arith))
@@ -95,11 +95,7 @@ module _ (facets : List (List ℕ)) (ascending : Each IsAscending facets) (p : �
 
   -- a coboundary pairs to zero with a cycle
   pub coboundary_pairs : (n : ℕ) (d : Cochain) (cycle : Chain) → IsOn facets n cycle → ((m : ℕ) (s : List ℕ) → IsSimplex facets m s → Congruent p (boundary_coefficient p cycle s) 0) → IsCoboundary facets n p d → Congruent p (pairing d cycle) 0
-  coboundary_pairs zero d cycle is closed b = Congruent_trans (pairing_alike facets 0 p d (λ s. 0) cycle (record { at = λ s on. Congruent_trans (b.same.at s on) (Congruent_of (coboundary-vertex p b.below s (let l = on.size in omega (arith, l)) b.nothing)) }) is) (Congruent_of (none cycle))
-    where
-      none : (ts : Chain) → pairing (λ s. 0) ts ≡ 0
-      none [] = refl
-      none (t ∷ ts) = let e = none ts in omega (arith, e)
+  coboundary_pairs zero d cycle is closed b = Congruent_trans (pairing_alike facets 0 p d (λ s. 0) cycle (record { at = λ s on. Congruent_trans (b.same.at s on) (Congruent_of (coboundary-vertex p b.below s (let l = on.size in omega (arith, l)) b.nothing)) }) is) (Congruent_of (pairing_none cycle))
   coboundary_pairs (suc n) d cycle is closed b =
       let e : suc n ≡ n + 1 = omega arith in
       Congruent_trans (pairing_alike facets (suc n) p d (coboundary p b.below) cycle b.same is)

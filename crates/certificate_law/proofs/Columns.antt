@@ -39,15 +39,6 @@ use Rattle.certificate_law.proofs.WellFormed.{values_below}
 
 -- ---- lists by numbers
 
-flat_numbers : {X Y : Type 0} (F : X → List Y) (d : X) (full : List X) (k : ℕ) (xs : List X) → ((i : ℕ) → i < length xs → get_or full (k + i) d ≡ get_or xs i d) →
-    flat_map (λ i. F (get_or full (i - 1) d)) (numbers_from (suc k) (length xs)) ≡ flat_map F xs
-flat_numbers F d full k [] h = refl
-flat_numbers F d full k (x ∷ xs) h =
-    let e : suc k - 1 ≡ k + 0 = omega arith in
-    let here : get_or full (suc k - 1) d ≡ x = ap (λ j. get_or full j d) e ∙ h 0 (omega arith) in
-    let rest = flat_numbers F d full (suc k) xs (λ i b. let g : suc k + i ≡ k + suc i = omega arith in ap (λ j. get_or full j d) g ∙ h (suc i) (omega arith)) in
-    ap₂ (λ y ys. F y ++ ys) here rest
-
 map_numbers : {X Y : Type 0} (f : X → Y) (d : X) (full : List X) (k : ℕ) (xs : List X) → ((i : ℕ) → i < length xs → get_or full (k + i) d ≡ get_or xs i d) →
     map (λ i. f (get_or full (i - 1) d)) (numbers_from (suc k) (length xs)) ≡ map f xs
 map_numbers f d full k [] h = refl
@@ -61,10 +52,6 @@ map_flat : {X Y Z : Type 0} (g : Y → Z) (F : X → List Y) (xs : List X) → m
 map_flat g F [] = refl
 map_flat g F (x ∷ xs) = map-append g (F x) (flat_map F xs) ∙ ap (λ zs. map g (F x) ++ zs) (map_flat g F xs)
 
-flat_same : {X Y : Type 0} (F G : X → List Y) → ((x : X) → F x ≡ G x) → (xs : List X) → flat_map F xs ≡ flat_map G xs
-flat_same F G h [] = refl
-flat_same F G h (x ∷ xs) = ap₂ (λ ys zs. ys ++ zs) (h x) (flat_same F G h xs)
-
 -- the products of the cochains of chains, by the numbers of the pairs
 pub products_by_pairs : (p q k : ℕ) (zs ws : List Chain) →
     map (λ (t : ℕ × ℕ). cup_product p q k (cochain_of (get_or zs (t.0 - 1) [])) (cochain_of (get_or ws (t.1 - 1) []))) (number_pairs (length zs) (length ws))
@@ -77,9 +64,9 @@ products_by_pairs p q k zs ws =
     ∙ map_numbers (λ w. cup_product p q k (cochain_of (get_or zs (i - 1) [])) (cochain_of w)) [] ws 0 ws (λ j b. at_start ws [] j)
     ∙ sym (map-map (cup_product p q k (cochain_of (get_or zs (i - 1) []))) cochain_of ws) in
     map_flat g (λ i. map (λ j. (i, j)) (numbers_from 1 (length ws))) (numbers_from 1 (length zs))
-    ∙ flat_same (λ i. map g (map (λ j. (i, j)) (numbers_from 1 (length ws)))) (λ i. right (cochain_of (get_or zs (i - 1) []))) row (numbers_from 1 (length zs))
-    ∙ flat_numbers (λ z. right (cochain_of z)) [] zs 0 zs (λ j b. at_start zs [] j)
-    ∙ sym (flat_map-map right cochain_of zs)
+    ∙ (λ k. flat_map (λ i. row i k) (numbers_from 1 (length zs)))
+    ∙ sym (flat_map-map right (λ i. cochain_of (get_or zs (i - 1) [])) (numbers_from 1 (length zs)))
+    ∙ ap (flat_map right) (map_numbers cochain_of [] zs 0 zs (λ j b. at_start zs [] j))
 
 -- ---- columns
 

@@ -39,7 +39,7 @@ use Rattle.report_law.specs.Parts.{below_in, block_of, classes_of, line_of, numb
 use Rattle.report_law.specs.Reports.{AreTables, IsCartanPart, IsComplexPart, IsOperationPart, IsProductPart}
 use Rattle.report_law.proofs.Blocks.{of-blocks}
 use Rattle.report_law.proofs.Cycles.{is_cycle, reads}
-use Rattle.certificate_law.specs.Conditions.{IsCartanLine, IsClassLine, IsCoboundaryLine, IsCocycleLine, IsColumnLine, IsCountLine, IsInducedLine, IsRightAnswer, column_sum}
+use Rattle.certificate_law.specs.Conditions.{HasItsDegrees, IsBlockLine, IsCartanLine, IsClassLine, IsCoboundaryLine, IsCocycleLine, IsColumnAt, IsColumnLine, IsComplexWhole, IsCountLine, IsInducedLine, IsNewComplex, IsProductColumn, IsRightAnswer, IsRightOperation, IsRightProduct, column_sum}
 use Rattle.certificate_law.specs.ListedDegrees.{HasNewLeast, IsOn, IsOnBelow, coboundaries_of, simplex_count}
 use Rattle.certificate_law.specs.Parts.{itself, rank_in}
 use Rattle.certificate_law.specs.Stated.{Stated, after, answer_stated, behind, below_stands, cartan_stated, class_stands, complex_ends, complex_stated, degree_stated, facet_stands, numbered, operation_column, operation_stated, product_column, product_stated, with_stands}
@@ -48,10 +48,17 @@ use Rattle.certificate_law.proofs.CanonicalData.{canonical_listed}
 use Rattle.certificate_law.proofs.CertifiedBases.{below_at, below_past, classes_at, no_degree}
 use Rattle.certificate_law.proofs.Columns.{products_by_pairs}
 use Rattle.certificate_law.proofs.ListedBases.{EachAfter, IsListedWell}
+use Rattle.certificate_law.proofs.Places.{EachAt, at_map}
 
--- what the conditions from 2 on ask of a line
+-- what the conditions ask of a line
 abbrev pub IsRight : ℕ → Stated → Type 0
-IsRight p s = IsCoboundaryLine p s × IsCocycleLine p s × IsClassLine p s × IsCountLine p s × IsColumnLine p s × IsInducedLine p s × IsCartanLine p s
+IsRight p s = IsBlockLine s × IsCoboundaryLine p s × IsCocycleLine p s × IsClassLine p s × IsCountLine p s × IsColumnLine p s × IsInducedLine p s × IsCartanLine p s
+
+-- columns with the chains under them, of which nothing is asked
+pub columns_right : {X : Type 0} (p : ℕ) (line : ℕ → X → Stated) (chain : X → Chain) (k : ℕ) (xs : List X) → EachAt (λ j x. IsRight p (line j x)) k xs → Each (IsRight p) (numbered (λ j x. line j x ∷ with_stands (chain x) ∷ []) k xs)
+unfolding EachAt
+columns_right p line chain k [] h = tt
+columns_right p line chain k (x ∷ xs) h = (h.0, ((tt, tt, tt, tt, tt, tt, tt, tt), columns_right p line chain (k + 1) xs h.1))
 
 -- ---- columns
 
@@ -110,12 +117,12 @@ module _ (p : ℕ) (is_served : IsTrue (served p)) (c : ComplexPart) (ascending 
 
   below_back : (n : ℕ) (before ys : List Chain) → Each (IsOnBelow c.facets n) ys → EachAfter (HasNewLeast c.facets n p) (coboundaries_of p before) (coboundaries_of p ys) → Each (IsRight p) (after (λ b y. below_stands c n b y ∷ []) before ys)
   below_back n before [] h g = tt
-  below_back n before (y ∷ ys) h g = ((record { on = h.0; new = g.0 }, tt, tt, tt, tt, tt, tt), below_back n (y ∷ before) ys h.1 g.1)
+  below_back n before (y ∷ ys) h g = ((tt, record { on = h.0; new = g.0 }, tt, tt, tt, tt, tt, tt), below_back n (y ∷ before) ys h.1 g.1)
 
   classes_back : (n : ℕ) (before zs : List Chain) → Each (λ z. IsOn c.facets n z × IsCocycle c.facets n p (cochain_of z)) zs
       → EachAfter (HasNewLeast c.facets n p) (map cochain_of before ++ coboundaries_of p (below_in c n)) (map cochain_of zs) → Each (IsRight p) (after (λ b z. class_stands c n b z ∷ []) before zs)
   classes_back n before [] h g = tt
-  classes_back n before (z ∷ zs) h g = ((tt, record { on = h.0.0; closed = h.0.1 }, g.0, tt, tt, tt, tt), classes_back n (z ∷ before) zs h.1 g.1)
+  classes_back n before (z ∷ zs) h g = ((tt, tt, record { on = h.0.0; closed = h.0.1 }, g.0, tt, tt, tt, tt), classes_back n (z ∷ before) zs h.1 g.1)
 
   degree_right : (n : ℕ) → n < length c.degrees → Each (IsRight p) (degree_stated c n (get_or c.degrees n no_degree))
   degree_right n b =
@@ -123,7 +130,7 @@ module _ (p : ℕ) (is_served : IsTrue (served p)) (c : ComplexPart) (ascending 
       let counted =
       subst (λ (ys : List Chain). simplex_count c.facets n ≡ length ys + length d.classes + length (below_in c (n + 1))) (sym (below_at c n))
       (subst (λ (zs : List Chain). simplex_count c.facets n ≡ length (below_in c n) + length zs + length (below_in c (n + 1))) (sym (classes_at c n)) (well.counts n b)) in (
-        (tt, tt, tt, counted, tt, tt, tt),
+        (tt, tt, tt, tt, counted, tt, tt, tt),
         each_append (IsRight p) (after (λ b y. below_stands c n b y ∷ []) [] d.below) (after (λ b z. class_stands c n b z ∷ []) [] d.classes)
             (subst (λ (ys : List Chain). Each (IsRight p) (after (λ b y. below_stands c n b y ∷ []) [] ys)) (sym (below_at c n)) (below_back n [] (below_in c n) (well.coboundaries n b).degrees (well.coboundaries n b).least))
             (subst (λ (zs : List Chain). Each (IsRight p) (after (λ b z. class_stands c n b z ∷ []) [] zs)) (sym (classes_at c n)) (classes_back n [] (classes_in (classes_of c) n) (well.cocycles n b) (well.new n b))),
@@ -138,22 +145,14 @@ module _ (p : ℕ) (is_served : IsTrue (served p)) (c : ComplexPart) (ascending 
       let R : Cochain → Column → Type 0 = λ z y. IsColumn true c.facets n p (listed c n) z y.values y.primitive in
       let G : ℕ × ℕ → Cochain = λ t. cup_product p x.a x.b (class_at (classes_of c) x.a t.0) (class_at (classes_of c) x.b t.1) in
       let e : map G (map numbers_of x.columns) ≡ cochain_products p x.a x.b (listed c x.a) (listed c x.b) = ap (map G) h.numbers ∙ products_by_pairs p x.a x.b (classes_in (classes_of c) x.a) (classes_in (classes_of c) x.b) in
-      let columns : Each (λ y. R (G (numbers_of y)) (unnumbered y)) x.columns = zip_columns R G x.columns (subst (λ (us : List Cochain). AllZip R us (map unnumbered x.columns)) (sym e) h.block) in (
-        (tt, tt, tt, at, tt, tt, tt),
-        each_numbered (IsRight p) (λ j y. product_column c x j y ∷ with_stands y.primitive ∷ []) 0 x.columns
-            (at_both (λ j y. slice_get pairs j ≡ Some (numbers_of y)) (λ j y. R (G (numbers_of y)) (unnumbered y)) (λ j y. Each (IsRight p) (product_column c x j y ∷ with_stands y.primitive ∷ []))
-            (λ j y a g. (
-              (
-                tt,
-                tt,
-                tt,
-                record { pair = a; size = g.coordinates.count ∙ rank_is n },
-                record { on = primitive_on c.facets n p _ y.primitive (g.rest refl); same = column_same c.facets n p (listed c n) (G (numbers_of y)) y.values y.primitive field.large g },
-                tt,
-                tt,
-              ),
-              ((tt, tt, tt, tt, tt, tt, tt), tt),
-            ))
+      let columns : Each (λ y. R (G (numbers_of y)) (unnumbered y)) x.columns = zip_columns R G x.columns (subst (λ (us : List Cochain). AllZip R us (map unnumbered x.columns)) (sym e) h.block) in
+      let right : (j : ℕ) (y : PairColumn) → slice_get pairs j ≡ Some (numbers_of y) → R (G (numbers_of y)) (unnumbered y) → IsRight p (product_column c x j y) = λ j y a g.
+      let counted : IsProductColumn c x j y = record { pair = a; size = g.coordinates.count ∙ rank_is n } in
+      let same : IsRightProduct c p x y = record { on = primitive_on c.facets n p _ y.primitive (g.rest refl); same = column_same c.facets n p (listed c n) (G (numbers_of y)) y.values y.primitive field.large g } in
+      (tt, tt, tt, tt, counted, same, tt, tt) in (
+        (tt, tt, tt, tt, at, tt, tt, tt),
+        columns_right p (product_column c x) (λ y. y.primitive) 0 x.columns
+            (at_both (λ j y. slice_get pairs j ≡ Some (numbers_of y)) (λ j y. R (G (numbers_of y)) (unnumbered y)) (λ j y. IsRight p (product_column c x j y)) right
             0 x.columns (placed numbers_of pairs x.columns h.numbers) (at_of_each (λ y. R (G (numbers_of y)) (unnumbered y)) 0 x.columns columns)),
       )
     where
@@ -168,31 +167,22 @@ module _ (p : ℕ) (is_served : IsTrue (served p)) (c : ComplexPart) (ascending 
       let live = of-blocks p (ranks_of c) (block_of x) (subst (λ (bs : List Block). Among (block_of x) bs) tables.operations (among_map block_of x (block_of x) c.operations m refl)) in
       let two : (k : ℕ) → op_of x ≡ Square k → p ≡ 2 = λ k e. eqb-true p 2 (and_parts (p == 2) (nat_le k x.from) (subst (λ (o : Op). is_defined p x.from o ≡ true) e live.defined)).0 in
       let zs : List Chain = classes_in (classes_of c) x.from in
-      let R : Cochain → Column → Type 0 = IsOperationColumn true c.facets p (classes_of c) (block_of x) in (
-        (tt, tt, tt, at, tt, tt, tt),
-        each_numbered (IsRight p) (λ j y. operation_column c x j y ∷ with_stands y.primitive ∷ []) 0 x.columns
-            (at_both (λ j y. (j < length zs) × R (cochain_of (get_or zs j [])) y) (λ j y. Unit {0}) (λ j y. Each (IsRight p) (operation_column c x j y ∷ with_stands y.primitive ∷ []))
-            (λ j y g u.
-            let sum : Cochain = column_sum p (listed c x.to) y.values y.primitive in
-            let same = column_same c.facets x.to p (listed c x.to) g.1.result y.values y.primitive field.large g.1.is_column in
-            let turned : AgreesOnSimplices c.facets (target_degree p x.from (op_of x)) p sum g.1.result =
-            subst (λ (n : ℕ). AgreesOnSimplices c.facets n p sum g.1.result) live.target (record { at = λ s on. Congruent_sym (same.at s on) }) in
-            let e : j ≡ (j + 1) - 1 = omega arith in (
-              (
-                tt,
-                tt,
-                tt,
-                record { inside = g.0; size = g.1.is_column.coordinates.count ∙ rank_is x.to },
-                record {
-                  on = primitive_on c.facets x.to p _ y.primitive (g.1.is_column.rest refl);
-                  same = subst (λ (i : ℕ). IsOperation c.facets p (op_of x) x.from (cochain_of (get_or zs i [])) sum) e (operation_alike c.facets p x.from (op_of x) (cochain_of (get_or zs j [])) g.1.result sum turned g.1.is_result two);
-                },
-                tt,
-                tt,
-              ),
-              ((tt, tt, tt, tt, tt, tt, tt), tt),
-            ))
-            0 x.columns (zip_places R cochain_of [] zs x.columns h) (at_of_each (λ y. Unit {0}) 0 x.columns (each_of_index (λ (y : Column). Unit {0}) x.columns (λ y m. tt)))),
+      let R : Cochain → Column → Type 0 = IsOperationColumn true c.facets p (classes_of c) (block_of x) in
+      let right : (j : ℕ) (y : Column) → (j < length zs) × R (cochain_of (get_or zs j [])) y → IsRight p (operation_column c x j y) = λ j y g.
+      let sum : Cochain = column_sum p (listed c x.to) y.values y.primitive in
+      let same = column_same c.facets x.to p (listed c x.to) g.1.result y.values y.primitive field.large g.1.is_column in
+      let turned : AgreesOnSimplices c.facets (target_degree p x.from (op_of x)) p sum g.1.result =
+      subst (λ (n : ℕ). AgreesOnSimplices c.facets n p sum g.1.result) live.target (record { at = λ s on. Congruent_sym (same.at s on) }) in
+      let e : j ≡ (j + 1) - 1 = omega arith in
+      let counted : IsColumnAt (rank_in c x.from) (rank_in c x.to) j y = record { inside = g.0; size = g.1.is_column.coordinates.count ∙ rank_is x.to } in
+      let is : IsRightOperation c p x j y = record {
+        on = primitive_on c.facets x.to p _ y.primitive (g.1.is_column.rest refl);
+        same = subst (λ (i : ℕ). IsOperation c.facets p (op_of x) x.from (cochain_of (get_or zs i [])) sum) e (operation_alike c.facets p x.from (op_of x) (cochain_of (get_or zs j [])) g.1.result sum turned g.1.is_result two);
+      } in
+      (tt, tt, tt, tt, counted, is, tt, tt) in (
+        (tt, tt, tt, tt, at, tt, tt, tt),
+        columns_right p (operation_column c x) (λ y. y.primitive) 0 x.columns
+            (at_map (λ j y. (j < length zs) × R (cochain_of (get_or zs j [])) y) (λ j y. IsRight p (operation_column c x j y)) right 0 x.columns (zip_places R cochain_of [] zs x.columns h)),
       )
 
   -- ---- Cartan lines
@@ -227,50 +217,41 @@ module _ (p : ℕ) (is_served : IsTrue (served p)) (c : ComplexPart) (ascending 
       }
 
   cartan_right : (k : ℕ) (x : CartanPart) → slice_get (lines p (ranks_of c)) k ≡ Some (line_of x) → IsCartanPart true c.facets p (classes_of c) x → Each (IsRight p) (cartan_stated c k x)
-  cartan_right k x at h = ((tt, tt, tt, at, tt, tt, right_answer x h.difference h.is_difference x.answer h.is_answer), (chain_right x.answer, tt))
+  cartan_right k x at h = ((tt, tt, tt, tt, at, tt, tt, right_answer x h.difference h.is_difference x.answer h.is_answer), (chain_right x.answer, tt))
     where
       chain_right : (answer : CartanAnswer) → IsRight p (answer_stated answer)
-      chain_right (Yes primitive) = (tt, tt, tt, tt, tt, tt, tt)
-      chain_right (No value cycle) = (tt, tt, tt, tt, tt, tt, tt)
+      chain_right (Yes primitive) = (tt, tt, tt, tt, tt, tt, tt, tt)
+      chain_right (No value cycle) = (tt, tt, tt, tt, tt, tt, tt, tt)
 
   -- ---- all lines
 
   ends_right : IsRight p (complex_ends c)
   ends_right =
       let all : (n : ℕ) → _ = λ n. listed_simplices_law.of_one_degree c.facets n ascending in
-      let k = count in (
-        record {
-          inhabited = λ n b. let s = part.classes.inhabited n (omega (arith, b, k)) in let f = (all n).whole s.0 s.1 in let l = f.1 in omega arith;
-          whole = λ n b. let w = part.classes.whole n (get_or (of_degree n (simplices c.facets)) 0 []) (each_get_or (IsSimplex c.facets n) (of_degree n (simplices c.facets)) 0 [] b (all n).sound) in omega (arith, w, k);
-        },
-        tt,
-        tt,
-        record {
-          products = shorter product_of c.products (products (ranks_of c)) tables.products;
-          operations = shorter block_of c.operations (blocks p (ranks_of c)) tables.operations;
-          cartans = shorter line_of c.cartans (lines p (ranks_of c)) tables.cartans;
-          product_columns = each_map (λ x (h : IsProductPart true c.facets p (classes_of c) x). shorter numbers_of x.columns (number_pairs (rank_in c x.a) (rank_in c x.b)) h.numbers) c.products tables.product_parts;
-          operation_columns = each_map (λ x (h : IsOperationPart true c.facets p (classes_of c) x). let l = length_alike (IsOperationColumn true c.facets p (classes_of c) (block_of x)) (listed c x.from) x.columns h in let r = rank_is x.from in omega (arith, l, r)) c.operations tables.operation_parts;
-        },
-        tt,
-        tt,
-        tt,
-      )
+      let k = count in
+      let degrees : HasItsDegrees c = record {
+        inhabited = λ n b. let s = part.classes.inhabited n (omega (arith, b, k)) in let f = (all n).whole s.0 s.1 in let l = f.1 in omega arith;
+        whole = λ n b. let w = part.classes.whole n (get_or (of_degree n (simplices c.facets)) 0 []) (each_get_or (IsSimplex c.facets n) (of_degree n (simplices c.facets)) 0 [] b (all n).sound) in omega (arith, w, k);
+      } in
+      let whole : IsComplexWhole p c = record {
+        products = shorter product_of c.products (products (ranks_of c)) tables.products;
+        operations = shorter block_of c.operations (blocks p (ranks_of c)) tables.operations;
+        cartans = shorter line_of c.cartans (lines p (ranks_of c)) tables.cartans;
+        product_columns = each_map (λ x (h : IsProductPart true c.facets p (classes_of c) x). shorter numbers_of x.columns (number_pairs (rank_in c x.a) (rank_in c x.b)) h.numbers) c.products tables.product_parts;
+        operation_columns = each_map (λ x (h : IsOperationPart true c.facets p (classes_of c) x). let l = length_alike (IsOperationColumn true c.facets p (classes_of c) (block_of x)) (listed c x.from) x.columns h in let r = rank_is x.from in omega (arith, l, r)) c.operations tables.operation_parts;
+      } in
+      (tt, degrees, tt, tt, whole, tt, tt, tt)
 
-  facets_right : (before fs : List (List ℕ)) → Each (IsRight p) (behind (λ fs f. facet_stands fs f ∷ []) before fs)
-  facets_right before [] = tt
-  facets_right before (f ∷ fs) = ((tt, tt, tt, tt, tt, tt, tt), facets_right (before ++ f ∷ []) fs)
-
-  pub complex_right : (before : List ComplexPart) → Each (IsRight p) (complex_stated before c)
-  complex_right before =
+  pub complex_right : (before : List ComplexPart) → IsNewComplex before c → Each (IsRight p) (behind (λ fs f. facet_stands fs f ∷ []) [] c.facets) → Each (IsRight p) (complex_stated before c)
+  complex_right before new facets =
       let fs = behind (λ (fs : List (List ℕ)) f. facet_stands fs f ∷ []) [] c.facets in
       let ds = numbered (degree_stated c) 0 c.degrees in
       let xs = numbered (product_stated c) 0 c.products in
       let os = numbered (operation_stated c) 0 c.operations in
       let cs = numbered (cartan_stated c) 0 c.cartans in
       let es : List Stated = complex_ends c ∷ [] in (
-        (tt, tt, tt, tt, tt, tt, tt),
-        each_append (IsRight p) fs (ds ++ (xs ++ (os ++ (cs ++ es)))) (facets_right [] c.facets)
+        (new, tt, tt, tt, tt, tt, tt, tt),
+        each_append (IsRight p) fs (ds ++ (xs ++ (os ++ (cs ++ es)))) facets
             (each_append (IsRight p) ds (xs ++ (os ++ (cs ++ es))) (each_numbered (IsRight p) (degree_stated c) 0 c.degrees (at_index (λ n d. Each (IsRight p) (degree_stated c n d)) no_degree c.degrees degree_right))
             (each_append (IsRight p) xs (os ++ (cs ++ es))
             (each_numbered (IsRight p) (product_stated c) 0 c.products

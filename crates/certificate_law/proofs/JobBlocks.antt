@@ -1,9 +1,9 @@
 -- The blocks of the certificate of a job have no fault.
-use Rattle.std.proofs.Common.{◌≡◌, ℕ, ◌+◌, ◌-◌, ◌<◌, ◌≤◌, inl, inr, ◌&&◌, ◌||◌, ◌==◌, nat_le, Bool, true, false, not, cond, refl, sym, ◌∙◌, ap, ap₂, subst, arith, List, [], ◌∷◌, ◌++◌, length, map, None, Some, append_assoc}
+use Rattle.std.proofs.Common.{◌≡◌, ℕ, ◌+◌, ◌-◌, ◌<◌, ◌≤◌, inl, inr, ◌&&◌, ◌==◌, nat_le, Bool, true, false, not, cond, refl, sym, ◌∙◌, ap, ap₂, subst, arith, List, [], ◌∷◌, ◌++◌, length, map, None, Some, append_assoc}
 use Rattle.std.specs.Prelude.{nat_lt}
 use Rattle.std.specs.List.{list_all, list_any}
 use Rattle.std.specs.Str.{bytes_eq}
-use Rattle.std.proofs.lemmas.Bool.{and_parts, eqb-true, le-ltb, ltb-false}
+use Rattle.std.proofs.lemmas.Bool.{and_parts, eqb-true, false_from_ne_true, le-ltb, ltb-false}
 use Rattle.linear_law.specs.Lists.{Among, Each, IsAscending}
 use Rattle.linear_law.proofs.Counting.{apart_short}
 use Rattle.linear_law.proofs.ListLemmas.{among_left, among_right, each_unmap}
@@ -17,10 +17,10 @@ use Rattle.complex_file.specs.Complexes.{ascending, facet_fault, first_facet_fau
 use Rattle.complex_file.specs.Maps.{end_fault, first_send_fault, image, image_of_facet, is_sent, is_vertex, keeps_edge, keeps_order, keeps_simplices, send_fault, sends_each}
 use Rattle.report.specs.declared.complex.ComplexPart.{ComplexPart}
 use Rattle.report_law.proofs.Maps.{all-among, any-among, no-earlier}
-use Rattle.certificate_law.specs.Conditions.{IsBlockLine}
 use Rattle.certificate_law.specs.Stated.{behind, facet_stands, send_stands}
 use Rattle.certificate_law.proofs.CanonicalData.{in_order_apart}
-use Rattle.certificate_law.proofs.JobMaps.{among-any, any_sent, eqb_same, not_true, or_right, true_or_false}
+use Rattle.certificate_law.proofs.CompleteComplexes.{IsRight}
+use Rattle.certificate_law.proofs.JobMaps.{among-any, any_from, any_gives, any_sent, eqb_same, sent_among}
 use Rattle.certificate_law.proofs.Places.{in_append}
 use Rattle.certificate_law.proofs.PivotCounts.{simplex_same_or_not}
 use Rattle.certificate_law.proofs.SameSimplices.{SameSimplices}
@@ -69,9 +69,9 @@ pub facets_fit : (facets : List (List ℕ)) → first_facet_fault [] 0 facets �
 facets_fit facets h = record { narrow = narrow_facets [] 0 facets h; few = few_simplices [] 0 facets h }
 
 -- some of such facets have no fault
-pub facet_lines : (facets : List (List ℕ)) → FacetsFit facets → (before fs : List (List ℕ)) → ((f : List ℕ) → Among f (before ++ fs) → Among f facets) → Each IsBlockLine (behind (λ fs f. facet_stands fs f ∷ []) before fs)
-facet_lines facets h before [] within = tt
-facet_lines facets h before (f ∷ fs) within =
+pub facet_lines : (p : ℕ) (facets : List (List ℕ)) → FacetsFit facets → (before fs : List (List ℕ)) → ((f : List ℕ) → Among f (before ++ fs) → Among f facets) → Each (IsRight p) (behind (λ fs f. facet_stands fs f ∷ []) before fs)
+facet_lines p facets h before [] within = tt
+facet_lines p facets h before (f ∷ fs) within =
     let here = within f (among_right f before (f ∷ fs) (inl refl)) in
     let few = fewer (before ++ f ∷ []) facets (λ g m. within g (elim (in_append g before (f ∷ []) m) [
       | inl k ↦ among_left g before (f ∷ fs) k
@@ -79,41 +79,23 @@ facet_lines facets h before (f ∷ fs) within =
     ])) in
     let total = h.few f here in
     let wide : nat_lt 16 (length f) ≡ false = h.narrow f here in
-    let many : nat_lt 100000 (length (simplices (before ++ f ∷ []))) ≡ false = le-ltb 100000 (length (simplices (before ++ f ∷ []))) (omega (arith, few, total)) in (
-      ap (λ (b : Bool). cond b (Some FacetTooWide) (cond (nat_lt 100000 (length (simplices (before ++ f ∷ [])))) (Some TooManySimplices) None)) wide
-          ∙ ap (λ (b : Bool). cond b (Some TooManySimplices) None) many,
-      facet_lines facets h (before ++ f ∷ []) fs (λ g m. within g (subst (λ (gs : List (List ℕ)). Among g gs) (append_assoc before (f ∷ []) fs) m)),
+    let many : nat_lt 100000 (length (simplices (before ++ f ∷ []))) ≡ false = le-ltb 100000 (length (simplices (before ++ f ∷ []))) (omega (arith, few, total)) in
+    let none : facet_fault before f ≡ None = ap (λ (b : Bool). cond b (Some FacetTooWide) (cond (nat_lt 100000 (length (simplices (before ++ f ∷ [])))) (Some TooManySimplices) None)) wide
+    ∙ ap (λ (b : Bool). cond b (Some TooManySimplices) None) many in (
+      (none, tt, tt, tt, tt, tt, tt, tt),
+      facet_lines p facets h (before ++ f ∷ []) fs (λ g m. within g (subst (λ (gs : List (List ℕ)). Among g gs) (append_assoc before (f ∷ []) fs) m)),
     )
 
 -- ---- sends
 
 vertex_of : (v : ℕ) (f : List ℕ) → has_vertex f v ≡ true → Among v f
-vertex_of v [] h = absurd cc
-vertex_of v (w ∷ f) h = elim (true_or_false (v == w)) [
-  | inl e ↦ inl (sym (eqb-true v w e))
-  | inr e ↦ inr (vertex_of v f (sym (ap (λ b. b || has_vertex f v) e) ∙ h))
-]
-
-of_vertex : (v : ℕ) (f : List ℕ) → Among v f → has_vertex f v ≡ true
-of_vertex v [] m = elim m [ ]
-of_vertex v (w ∷ f) m = elim m [
-  | inl e ↦ ap (λ b. b || has_vertex f v) (subst (λ (x : ℕ). (v == x) ≡ true) (sym e) (eqb_same v))
-  | inr k ↦ or_right (v == w) (has_vertex f v) (of_vertex v f k)
-]
+vertex_of v f h = let q = any_gives (λ w. v == w) f h in subst (λ (w : ℕ). Among w f) (sym (eqb-true v q.0 q.2)) q.1
 
 vertex_in : (v : ℕ) (fs : List (List ℕ)) → is_vertex fs v ≡ true → (f : List ℕ) × Among f fs × Among v f
-vertex_in v [] h = absurd cc
-vertex_in v (f ∷ fs) h = elim (true_or_false (has_vertex f v)) [
-  | inl e ↦ (f, inl refl, vertex_of v f e)
-  | inr e ↦ (let r = vertex_in v fs (sym (ap (λ b. b || is_vertex fs v) e) ∙ h) in (r.0, inr r.1, r.2))
-]
+vertex_in v fs h = let q = any_gives (λ f. has_vertex f v) fs h in (q.0, q.1, vertex_of v q.0 q.2)
 
 in_vertex : (v : ℕ) (fs : List (List ℕ)) (f : List ℕ) → Among f fs → Among v f → is_vertex fs v ≡ true
-in_vertex v [] f m n = elim m [ ]
-in_vertex v (g ∷ fs) f m n = elim m [
-  | inl e ↦ ap (λ b. b || is_vertex fs v) (of_vertex v g (subst (λ (x : List ℕ). Among v x) (sym e) n))
-  | inr k ↦ or_right (has_vertex g v) (is_vertex fs v) (in_vertex v fs f k n)
-]
+in_vertex v fs f m n = any_from (λ g. has_vertex g v) f fs m (any_from (λ w. v == w) v f n (eqb_same v))
 
 -- a complex with the same simplices has the same vertices
 pub vertex_there : {F G : List (List ℕ)} → SameSimplices F G → Each IsAscending F → (v : ℕ) → is_vertex F v ≡ true → is_vertex G v ≡ true
@@ -133,21 +115,15 @@ known_vertices from to before at (s ∷ ss) h =
     let a = send_tests (is_vertex from s.from && is_vertex to s.to) (is_sent before s.from) parts.0 in
     (and_parts (is_vertex from s.from) (is_vertex to s.to) a, known_vertices from to (before ++ s ∷ []) (at + 1) ss parts.1)
 
-sent_among : (ss : List Sent) (v : ℕ) → is_sent ss v ≡ true → (s : Sent) × Among s ss × (v ≡ s.from)
-sent_among [] v h = absurd cc
-sent_among (x ∷ ss) v h = elim (true_or_false (v == x.from)) [
-  | inl e ↦ (x, inl refl, eqb-true v x.from e)
-  | inr e ↦ (let r = sent_among ss v (sym (ap (λ b. b || is_sent ss v) e) ∙ h) in (r.0, inr r.1, r.2))
-]
-
-pub send_lines : (from to : ComplexPart) (before ss : List Sent) → Each (λ s. (is_vertex from.facets s.from ≡ true) × (is_vertex to.facets s.to ≡ true)) ss → IsAscending (map (λ s. s.from) ss)
-    → ((x : Sent) → Among x before → Each (λ s. x.from < s.from) ss) → Each IsBlockLine (behind (λ ss s. send_stands from to ss s ∷ []) before ss)
-send_lines from to before [] known ascending below = tt
-send_lines from to before (s ∷ ss) known ascending below =
-    let unsent : is_sent before s.from ≡ false = not_true (is_sent before s.from) (λ e. let q = sent_among before s.from e in let l = (below q.0 q.1).0 in let same = q.2 in absurd (omega (arith, l, same))) in (
-      ap (λ b. cond (not b) (Some VertexUnknown) (cond (is_sent before s.from) (Some VertexSentTwice) None)) (ap₂ (λ a b. a && b) known.0.0 known.0.1)
-          ∙ ap (λ b. cond b (Some VertexSentTwice) None) unsent,
-      send_lines from to (before ++ s ∷ []) ss known.1 ascending.1 (λ x m. elim (in_append x before (s ∷ []) m) [
+pub send_lines : (p : ℕ) (from to : ComplexPart) (before ss : List Sent) → Each (λ s. (is_vertex from.facets s.from ≡ true) × (is_vertex to.facets s.to ≡ true)) ss → IsAscending (map (λ s. s.from) ss)
+    → ((x : Sent) → Among x before → Each (λ s. x.from < s.from) ss) → Each (IsRight p) (behind (λ ss s. send_stands from to ss s ∷ []) before ss)
+send_lines p from to before [] known ascending below = tt
+send_lines p from to before (s ∷ ss) known ascending below =
+    let unsent : is_sent before s.from ≡ false = false_from_ne_true (is_sent before s.from) (λ e. let q = sent_among before s.from e in let l = (below q.0 q.1).0 in let same = q.2 in absurd (omega (arith, l, same))) in
+    let none : send_fault from.facets to.facets before s ≡ None = ap (λ b. cond (not b) (Some VertexUnknown) (cond (is_sent before s.from) (Some VertexSentTwice) None)) (ap₂ (λ a b. a && b) known.0.0 known.0.1)
+    ∙ ap (λ b. cond b (Some VertexSentTwice) None) unsent in (
+      (none, tt, tt, tt, tt, tt, tt, tt),
+      send_lines p from to (before ++ s ∷ []) ss known.1 ascending.1 (λ x m. elim (in_append x before (s ∷ []) m) [
         | inl k ↦ (below x k).1
         | inr k ↦ elim k [
           | inl e ↦ subst (λ (u : Sent). Each (λ (t : Sent). u.from < t.from) ss) e (each_unmap (λ (v : ℕ). s.from < v) (λ (t : Sent). t.from) ss ascending.0)

@@ -1,14 +1,13 @@
 -- The certificate of a job certifies.
-use Rattle.std.proofs.Common.{◌≡◌, ℕ, zero, suc, ◌+◌, ◌-◌, ◌^◌, ◌<◌, ◌≤◌, ◌&&◌, ◌⊎◌, not, nat_le, true, false, None, IsTrue, inl, inr, refl, sym, ◌∙◌, ap, ap₂, subst, arith, List, [], ◌∷◌, ◌++◌, length, map, get_or}
+use Rattle.std.proofs.Common.{◌≡◌, ℕ, zero, suc, ◌+◌, ◌-◌, ◌^◌, ◌<◌, ◌≤◌, ◌&&◌, nat_le, true, false, None, IsTrue, inl, inr, refl, sym, ◌∙◌, ap, ap₂, subst, arith, List, [], ◌∷◌, ◌++◌, length, map, get_or}
 use Rattle.std.specs.List.{AllZip, list_all}
-use Rattle.std.proofs.lemmas.Bool.{and_parts, leb-true}
-use Rattle.std.proofs.lemmas.List.{length-append}
+use Rattle.std.proofs.lemmas.Bool.{and_parts, false_from_ne_true, leb-true}
+use Rattle.std.proofs.lemmas.List.{length-append, map-append}
 use Rattle.signed_sum.specs.Lists.{numbers_from}
 use Rattle.fp_field.specs.Served.{served}
 use Rattle.linear_law.specs.Lists.{Among, Each, IsApart, IsAscending}
-use Rattle.linear_law.proofs.ListLemmas.{among_left, among_right, each_among, each_append, each_map, each_right, zip_change}
+use Rattle.linear_law.proofs.ListLemmas.{among_left, among_right, each_among, each_append, each_map, each_zip, zip_change, zip_each}
 use Rattle.linear_law.proofs.TriangularBases.{each_of_index}
-use Rattle.simplicial_law.specs.Cochains.{Chain}
 use Rattle.simplicial_law.specs.ListedSimplices.{of_degree, simplices}
 use Rattle.simplicial_law.proofs.ListedSimplices.{simplices_sorted, simplices_sound, simplices_whole, sorted_in_order}
 use Rattle.complex_file.specs.declared.block.ComplexBlock.{ComplexBlock}
@@ -22,8 +21,6 @@ use Rattle.complex_file.specs.Text.{is_name}
 use Rattle.complex_file.specs.Written.{name_at}
 use Rattle.std.specs.Prelude.{is_none}
 use Rattle.report.specs.declared.complex.ComplexPart.{ComplexPart}
-use Rattle.report.specs.declared.columns.CartanAnswer.{CartanAnswer}
-use Rattle.report.specs.declared.columns.CartanAnswer.TheVariants.{Yes, No}
 use Rattle.report.specs.declared.map.MapPart.{MapPart}
 use Rattle.report.specs.declared.plan.Sizes.{Sizes}
 use Rattle.report_law.specs.Live.{induced_degrees}
@@ -35,13 +32,14 @@ use Rattle.report_law.proofs.HeadlineProof.{classes-at}
 use Rattle.report_law.proofs.Maps.{IsMapOf, any-among, job-complexes, job-maps, job-prime, no-end-fault, no-fault}
 use Rattle.report_law.proofs.OneSize.{sizes_law}
 use Rattle.report_law.proofs.Unique.{same-order}
-use Rattle.certificate_law.specs.Conditions.{IsBlockLine, complex_names, map_names}
+use Rattle.certificate_law.specs.Conditions.{complex_names, map_names}
 use Rattle.certificate_law.specs.Laws.{CompleteLaw}
 use Rattle.certificate_law.specs.Parts.{complex_named, itself, sent_by}
-use Rattle.certificate_law.specs.Stated.{Stated, after, answer_stated, behind, below_stands, cartan_stated, class_stands, complex_ends, complex_stated, degree_stated, facet_stands, finish, induced_column, induced_stated, map_ends, map_stated, numbered, operation_column, operation_stated, product_column, product_stated, send_stands, with_stands}
-use Rattle.certificate_law.proofs.CompleteReports.{IsCanonical, canonical_certifies}
+use Rattle.certificate_law.specs.Stated.{behind, complex_stated, map_stated}
+use Rattle.certificate_law.proofs.CompleteComplexes.{IsRight, complex_right}
+use Rattle.certificate_law.proofs.CompleteReports.{all_right, map_right}
 use Rattle.certificate_law.proofs.JobBlocks.{FacetsFit, end_there, facet_lines, facets_fit, known_vertices, send_lines, vertex_there}
-use Rattle.certificate_law.proofs.JobMaps.{among-any, distinct_head, distinct_rest, induced_there, is_function, name_among, named_at, not_true, same_image}
+use Rattle.certificate_law.proofs.JobMaps.{among-any, distinct_apart, induced_there, is_function, name_among, named_at, same_image}
 use Rattle.certificate_law.proofs.MaximalFacets.{own_facets, same_simplices}
 use Rattle.certificate_law.proofs.Places.{in_append}
 use Rattle.certificate_law.proofs.SameSimplices.{SameSimplices}
@@ -74,34 +72,18 @@ kept_of p cs ms h =
       fit = fit_of cs (and_parts (list_all (λ (b : ComplexBlock). is_complex b.facets) cs) (list_all (is_map cs) ms) c.1).0;
     }
 
-not_among : (x : List ℕ) (xs : List (List ℕ)) → (Among x xs → ⊥) → not (has_name xs x) ≡ true
-not_among x xs n = ap not (not_true (has_name xs x) (λ e. n (any-among x xs e)))
-
 -- the names of complexes, and then of maps, each once
-record Names (cs ms : List (List ℕ)) : Type 0 where
-  complexes : are_distinct cs ≡ true
-  each : IsApart cs
-  maps : IsApart ms
-  apart : Each (λ m. Among m cs → ⊥) ms
-
-distinct_apart : (ns : List (List ℕ)) → are_distinct ns ≡ true → IsApart ns
-distinct_apart [] h = tt
-distinct_apart (n ∷ ns) h = (distinct_head n ns h, distinct_apart ns (distinct_rest n ns h))
-
-names_of : (cs ms : List (List ℕ)) → are_distinct (cs ++ ms) ≡ true → Names cs ms
-names_of [] ms h = record { complexes = refl; each = tt; maps = distinct_apart ms h; apart = each_of_index (λ (m : List ℕ). Among m [] → ⊥) ms (λ m k n. n) }
-names_of (c ∷ cs) ms h =
-    let rest = names_of cs ms (distinct_rest c (cs ++ ms) h) in
-    let none : Among c (cs ++ ms) → ⊥ = distinct_head c (cs ++ ms) h in
-    record {
-      complexes = ap₂ (λ a b. a && b) (not_among c cs (λ m. none (among_left c cs ms m))) rest.complexes;
-      each = ((λ m. none (among_left c cs ms m)), rest.each);
-      maps = rest.maps;
-      apart = each_of_index (λ (m : List ℕ). Among m (c ∷ cs) → ⊥) ms (λ m k n. elim n [
-        | inl e ↦ none (among_right c cs ms (subst (λ (x : List ℕ). Among x ms) (sym e) k))
-        | inr i ↦ each_among (λ (m : List ℕ). Among m cs → ⊥) m ms rest.apart k i
-      ]);
-    }
+apart_split : (cs ms : List (List ℕ)) → IsApart (cs ++ ms) → IsApart cs × IsApart ms × Each (λ m. Among m cs → ⊥) ms
+apart_split [] ms h = (tt, h, each_of_index (λ (m : List ℕ). Among m [] → ⊥) ms (λ m k n. n))
+apart_split (c ∷ cs) ms h =
+    let rest = apart_split cs ms h.1 in (
+      ((λ m. h.0 (among_left c cs ms m)), rest.0),
+      rest.1,
+      each_of_index (λ (m : List ℕ). Among m (c ∷ cs) → ⊥) ms (λ m k n. elim n [
+        | inl e ↦ h.0 (among_right c cs ms (subst (λ (x : List ℕ). Among x ms) (sym e) k))
+        | inr i ↦ each_among (λ (m : List ℕ). Among m cs → ⊥) m ms rest.2 k i
+      ]),
+    )
 
 -- ---- what is listed of a complex
 
@@ -129,12 +111,6 @@ listed_one p b c ascending fit part =
       block_ascending = ascending;
     }
 
-all_listed : (p : ℕ) (bs : List ComplexBlock) (cs : List ComplexPart) → Each (λ b. Each IsAscending b.facets) bs → Each (λ b. FacetsFit b.facets) bs → AllZip (IsComplexPart true true p) bs cs → AllZip (IsListed p) bs cs
-all_listed p [] [] a f h = tt
-all_listed p [] (c ∷ cs) a f h = absurd h
-all_listed p (b ∷ bs) [] a f h = absurd h
-all_listed p (b ∷ bs) (c ∷ cs) a f h = (listed_one p b c a.0 f.0 h.0, all_listed p bs cs a.1 f.1 h.1)
-
 listed_at : (p : ℕ) (bs : List ComplexBlock) (cs : List ComplexPart) (k : ℕ) → k < length bs → AllZip (IsListed p) bs cs → IsListed p (get_or bs k (record { name = []; facets = [] })) (part_at cs k)
 listed_at p [] cs k l h = absurd (omega (arith, l))
 listed_at p (b ∷ bs) [] k l h = absurd h
@@ -161,68 +137,27 @@ same_sizes p s (b ∷ bs) (c ∷ cs) (z ∷ zs) h k =
     ∙ ap (λ (ss : List (List ℕ)). record { simplices = map (λ n. length (of_degree n ss)) (numbers_from 0 (length c.degrees)); ranks = ranks_of c }) e)
     (same_sizes p s bs cs zs h.1 k.1)
 
--- ---- lines of which the first condition asks nothing
-
-free_columns : {X : Type 0} (line : ℕ → X → Stated) (chain : X → Chain) → ((j : ℕ) (x : X) → IsBlockLine (line j x)) → (j : ℕ) (xs : List X) → Each IsBlockLine (numbered (λ j y. line j y ∷ with_stands (chain y) ∷ []) j xs)
-free_columns line chain f j [] = tt
-free_columns line chain f j (x ∷ xs) = (f j x, (tt, free_columns line chain f (j + 1) xs))
-
-free_after : (line : List Chain → Chain → Stated) → ((b : List Chain) (y : Chain) → IsBlockLine (line b y)) → (b ys : List Chain) → Each IsBlockLine (after (λ b y. line b y ∷ []) b ys)
-free_after line f b [] = tt
-free_after line f b (y ∷ ys) = (f b y, free_after line f (y ∷ b) ys)
-
-free_numbered : {X : Type 0} (line : ℕ → X → List Stated) → ((k : ℕ) (x : X) → Each IsBlockLine (line k x)) → (k : ℕ) (xs : List X) → Each IsBlockLine (numbered line k xs)
-free_numbered line f k [] = tt
-free_numbered line f k (x ∷ xs) = each_append IsBlockLine (line k x) (numbered line (k + 1) xs) (f k x) (free_numbered line f (k + 1) xs)
-
-free_answer : (answer : CartanAnswer) → IsBlockLine (answer_stated answer)
-free_answer (Yes primitive) = tt
-free_answer (No value cycle) = tt
-
-complex_free : (c : ComplexPart) → Each IsBlockLine (numbered (degree_stated c) 0 c.degrees ++ (numbered (product_stated c) 0 c.products ++ (numbered (operation_stated c) 0 c.operations ++ (numbered (cartan_stated c) 0 c.cartans ++ complex_ends c ∷ []))))
-complex_free c =
-    let ds = numbered (degree_stated c) 0 c.degrees in
-    let xs = numbered (product_stated c) 0 c.products in
-    let os = numbered (operation_stated c) 0 c.operations in
-    let cs = numbered (cartan_stated c) 0 c.cartans in
-    let es : List Stated = complex_ends c ∷ [] in
-    each_append IsBlockLine ds (xs ++ (os ++ (cs ++ es)))
-    (free_numbered (degree_stated c) (λ n d. (
-      tt,
-      each_append IsBlockLine (after (λ b y. below_stands c n b y ∷ []) [] d.below) (after (λ b z. class_stands c n b z ∷ []) [] d.classes)
-          (free_after (below_stands c n) (λ b y. tt) [] d.below) (free_after (class_stands c n) (λ b z. tt) [] d.classes),
-    )) 0 c.degrees)
-    (each_append IsBlockLine xs (os ++ (cs ++ es)) (free_numbered (product_stated c) (λ k x. (tt, free_columns (product_column c x) (λ y. y.primitive) (λ j y. tt) 0 x.columns)) 0 c.products)
-    (each_append IsBlockLine os (cs ++ es) (free_numbered (operation_stated c) (λ k x. (tt, free_columns (operation_column c x) (λ y. y.primitive) (λ j y. tt) 0 x.columns)) 0 c.operations)
-    (each_append IsBlockLine cs es (free_numbered (cartan_stated c) (λ k x. (tt, (free_answer x.answer, tt))) 0 c.cartans) (tt, tt))))
-
 -- names that are new stay so behind another
 still_new : {X : Type 0} (f : X → List ℕ) (before : List X) (x : X) (ns : List (List ℕ)) → Each (λ n. Among n (map f before) → ⊥) ns → (Among (f x) ns → ⊥) → Each (λ n. Among n (map f (before ++ x ∷ [])) → ⊥) ns
 still_new f before x ns new other =
-    each_of_index (λ (n : List ℕ). Among n (map f (before ++ x ∷ [])) → ⊥) ns (λ n m i. elim (of_push before n i) [
+    each_of_index (λ (n : List ℕ). Among n (map f (before ++ x ∷ [])) → ⊥) ns (λ n m i. elim (in_append n (map f before) (f x ∷ []) (subst (λ (ms : List (List ℕ)). Among n ms) (map-append f before (x ∷ [])) i)) [
       | inl k ↦ each_among (λ (n : List ℕ). Among n (map f before) → ⊥) n ns new m k
-      | inr e ↦ other (subst (λ (y : List ℕ). Among y ns) (sym e) m)
+      | inr k ↦ elim k [ inl e ↦ other (subst (λ (y : List ℕ). Among y ns) (sym e) m) | inr none ↦ elim none [ ] ]
     ])
-  where
-    of_push : (xs : List _) (n : List ℕ) → Among n (map f (xs ++ x ∷ [])) → Among n (map f xs) ⊎ (f x ≡ n)
-    of_push [] n m = elim m [ inl e ↦ inr e | inr none ↦ elim none [ ] ]
-    of_push (y ∷ xs) n m = elim m [ inl e ↦ inl (inl e) | inr k ↦ elim (of_push xs n k) [ inl i ↦ inl (inr i) | inr e ↦ inr e ] ]
 
 -- ---- complexes
 
-complexes_fit : (p : ℕ) (before : List ComplexPart) (bs : List ComplexBlock) (cs : List ComplexPart) → AllZip (IsListed p) bs cs → length before + length bs ≤ 8 → IsApart (map (λ b. b.name) bs) → Each (λ n. Among n (complex_names before) → ⊥) (map (λ b. b.name) bs)
-    → Each IsBlockLine (behind complex_stated before cs)
-complexes_fit p before [] [] h l a n = tt
-complexes_fit p before [] (c ∷ cs) h l a n = absurd h
-complexes_fit p before (b ∷ bs) [] h l a n = absurd h
-complexes_fit p before (b ∷ bs) (c ∷ cs) h l a n =
+complexes_fit : (p : ℕ) → IsTrue (served p) → (before : List ComplexPart) (bs : List ComplexBlock) (cs : List ComplexPart) → AllZip (IsListed p) bs cs → length before + length bs ≤ 8 → IsApart (map (λ b. b.name) bs) → Each (λ n. Among n (complex_names before) → ⊥) (map (λ b. b.name) bs)
+    → Each (IsRight p) (behind complex_stated before cs)
+complexes_fit p s before [] [] h l a n = tt
+complexes_fit p s before [] (c ∷ cs) h l a n = absurd h
+complexes_fit p s before (b ∷ bs) [] h l a n = absurd h
+complexes_fit p s before (b ∷ bs) (c ∷ cs) h l a n =
     let q = h.0 in
-    let fs = behind (λ (fs : List (List ℕ)) f. facet_stands fs f ∷ []) [] c.facets in
-    each_append IsBlockLine (complex_stated before c) (behind complex_stated (before ++ c ∷ []) cs) (
-      record { few = omega (arith, l); new = not_true (has_name (complex_names before) c.name) (λ e. n.0 (subst (λ (x : List ℕ). Among x (complex_names before)) q.name (any-among c.name (complex_names before) e))) },
-      each_append IsBlockLine fs _ (facet_lines b.facets q.fit [] c.facets q.given) (complex_free c),
-    )
-    (complexes_fit p (before ++ c ∷ []) bs cs h.1 (let k = length-append before (c ∷ []) in omega (arith, l, k)) a.1
+    let new : has_name (complex_names before) c.name ≡ false = false_from_ne_true (has_name (complex_names before) c.name) (λ e. n.0 (subst (λ (x : List ℕ). Among x (complex_names before)) q.name (any-among c.name (complex_names before) e))) in
+    each_append (IsRight p) (complex_stated before c) (behind complex_stated (before ++ c ∷ []) cs)
+    (complex_right p s c q.ascending q.part before (record { few = omega (arith, l); new = new }) (facet_lines p b.facets q.fit [] c.facets q.given))
+    (complexes_fit p s (before ++ c ∷ []) bs cs h.1 (let k = length-append before (c ∷ []) in omega (arith, l, k)) a.1
     (still_new (λ (c : ComplexPart). c.name) before c (map (λ (b : ComplexBlock). b.name) bs) n.1 (λ m. a.0 (subst (λ (x : List ℕ). Among x (map (λ (b : ComplexBlock). b.name) bs)) q.name m))))
 
 same_names : (p : ℕ) (bs : List ComplexBlock) (cs : List ComplexPart) → AllZip (IsListed p) bs cs → complex_names cs ≡ map (λ b. b.name) bs
@@ -244,7 +179,7 @@ record MapFits (p : ℕ) (cs : List ComplexPart) (b : MapBlock) (m : MapPart) (f
   induced : map (λ x. x.q) m.induced ≡ induced_degrees (ranks_of from) (ranks_of to)
   parts : Each (IsInducedPart true (sent_by m) from.facets p (classes_of from) (classes_of to)) m.induced
 
-module _ (job : Spelled) (cs : List ComplexPart) (all : AllZip (IsListed job.prime) job.complexes cs) (distinct : are_distinct (map (λ b. b.name) job.complexes) ≡ true) where
+module _ (job : Spelled) (is_served : IsTrue (served job.prime)) (cs : List ComplexPart) (all : AllZip (IsListed job.prime) job.complexes cs) (distinct : IsApart (map (λ b. b.name) job.complexes)) where
   abbrev IsMapFit : MapBlock → MapPart → Type 0
   IsMapFit b m = MapFits job.prime cs b m (complex_named cs m.from) (complex_named cs m.to)
 
@@ -289,14 +224,8 @@ module _ (job : Spelled) (cs : List ComplexPart) (all : AllZip (IsListed job.pri
       subst (λ (c : ComplexPart). MapFits job.prime cs b m c (complex_named cs m.to)) (sym (ap (complex_named cs) h.from_name ∙ at_name b.from is.from))
       (subst (λ (c : ComplexPart). MapFits job.prime cs b m K c) (sym (ap (complex_named cs) h.to_name ∙ at_name b.to is.to)) fits)
 
-  all_fit : (bs : List MapBlock) (ms : List MapPart) → Each (IsMapOf job.complexes) bs → AllZip (IsMapPart true job (map classes_of cs)) bs ms → AllZip IsMapFit bs ms
-  all_fit [] [] is h = tt
-  all_fit [] (m ∷ ms) is h = absurd h
-  all_fit (b ∷ bs) [] is h = absurd h
-  all_fit (b ∷ bs) (m ∷ ms) is h = (map_fits b m is.0 h.0, all_fit bs ms is.1 h.1)
-
   maps_fit : (before : List MapPart) (bs : List MapBlock) (ms : List MapPart) → AllZip IsMapFit bs ms → length before + length bs ≤ 8 → IsApart (map (λ b. b.name) bs) → Each (λ n. Among n (complex_names cs) → ⊥) (map (λ b. b.name) bs)
-      → Each (λ n. Among n (map_names before) → ⊥) (map (λ b. b.name) bs) → Each IsBlockLine (behind (map_stated cs) before ms)
+      → Each (λ n. Among n (map_names before) → ⊥) (map (λ b. b.name) bs) → Each (IsRight job.prime) (behind (map_stated cs) before ms)
   maps_fit before [] [] h l a c n = tt
   maps_fit before [] (m ∷ ms) h l a c n = absurd h
   maps_fit before (b ∷ bs) [] h l a c n = absurd h
@@ -304,18 +233,13 @@ module _ (job : Spelled) (cs : List ComplexPart) (all : AllZip (IsListed job.pri
       let q = h.0 in
       let from = complex_named cs m.from in
       let to = complex_named cs m.to in
-      let ss = behind (λ (ss : List Sent) s. send_stands from to ss s ∷ []) [] m.sends in
-      let is = numbered (induced_stated from to m) 0 m.induced in
       let new : has_name (complex_names cs ++ map_names before) m.name ≡ false =
-      not_true (has_name (complex_names cs ++ map_names before) m.name) (λ e. elim (in_append m.name (complex_names cs) (map_names before) (any-among m.name (complex_names cs ++ map_names before) e)) [
+      false_from_ne_true (has_name (complex_names cs ++ map_names before) m.name) (λ e. elim (in_append m.name (complex_names cs) (map_names before) (any-among m.name (complex_names cs ++ map_names before) e)) [
         | inl k ↦ c.0 (subst (λ (x : List ℕ). Among x (complex_names cs)) q.name k)
         | inr k ↦ n.0 (subst (λ (x : List ℕ). Among x (map_names before)) q.name k)
       ]) in
-      each_append IsBlockLine (map_stated cs before m) (behind (map_stated cs) (before ++ m ∷ []) ms) (
-        record { few = omega (arith, l); new = new; from = q.from_named; to = q.to_named },
-        each_append IsBlockLine ss (is ++ map_ends from to m ∷ []) (send_lines from to [] m.sends q.known q.ascending (λ x k. elim k [ ]))
-            (each_append IsBlockLine is (map_ends from to m ∷ []) (free_numbered (induced_stated from to m) (λ k x. (tt, free_columns (induced_column from to m x) (λ y. y.primitive) (λ j y. tt) 0 x.columns)) 0 m.induced) (q.ends, tt)),
-      )
+      each_append (IsRight job.prime) (map_stated cs before m) (behind (map_stated cs) (before ++ m ∷ []) ms)
+      (map_right job.prime is_served from to m q.induced q.parts cs before (record { few = omega (arith, l); new = new; from = q.from_named; to = q.to_named }) (send_lines job.prime from to [] m.sends q.known q.ascending (λ x k. elim k [ ])) q.ends)
       (maps_fit (before ++ m ∷ []) bs ms h.1 (let k = length-append before (m ∷ []) in omega (arith, l, k)) a.1 c.1
       (still_new (λ (m : MapPart). m.name) before m (map (λ (b : MapBlock). b.name) bs) n.1 (λ k. a.0 (subst (λ (x : List ℕ). Among x (map (λ (b : MapBlock). b.name) bs)) q.name k))))
 
@@ -326,30 +250,16 @@ complete_law job r is h limit =
     let p : ℕ = job.prime in
     let kept = kept_of p job.complexes job.maps is in
     let s : IsTrue (served p) = job-prime p job.complexes job.maps is in
-    let names = names_of (map (λ (b : ComplexBlock). b.name) job.complexes) (map (λ (b : MapBlock). b.name) job.maps) kept.distinct in
-    let all = all_listed p job.complexes r.complexes (job-complexes p job.complexes job.maps is) kept.fit h.complexes in
-    let maps = all_fit job r.complexes all names.complexes job.maps r.maps (job-maps p job.complexes job.maps is) (h.maps refl) in
-    let fit : MapBlock → MapPart → Type 0 = λ b m. MapFits p r.complexes b m (complex_named r.complexes m.from) (complex_named r.complexes m.to) in
-    let canonical : IsCanonical p r = record {
-      prime = s;
-      facets = each_right (IsListed p) (λ (c : ComplexPart). Each IsAscending c.facets) (λ b c q. q.ascending) job.complexes r.complexes all;
-      complexes = each_right (IsListed p) (λ (c : ComplexPart). IsComplexPart true true p (itself c) c) (λ b c q. q.part) job.complexes r.complexes all;
-      induced = each_right fit (λ (m : MapPart). map (λ x. x.q) m.induced ≡ induced_degrees (ranks_of (complex_named r.complexes m.from)) (ranks_of (complex_named r.complexes m.to))) (λ b m q. q.induced) job.maps r.maps maps;
-      induced_parts = each_right fit (λ (m : MapPart). Each (IsInducedPart true (sent_by m) (complex_named r.complexes m.from).facets p (classes_of (complex_named r.complexes m.from)) (classes_of (complex_named r.complexes m.to))) m.induced)
-          (λ b m q. q.parts) job.maps r.maps maps;
-    } in
+    let names = apart_split (map (λ (b : ComplexBlock). b.name) job.complexes) (map (λ (b : MapBlock). b.name) job.maps) (distinct_apart (block_names job.complexes job.maps) kept.distinct) in
+    let blocks = each_zip {S = λ b. Each IsAscending b.facets × FacetsFit b.facets} (λ b (a : Each IsAscending b.facets) (f : FacetsFit b.facets). (a, f)) job.complexes (job-complexes p job.complexes job.maps is) kept.fit in
+    let all = zip_each (λ (b : ComplexBlock). Each IsAscending b.facets × FacetsFit b.facets) (IsComplexPart true true p) (IsListed p) (λ b c q. listed_one p b c q.0 q.1) job.complexes r.complexes blocks h.complexes in
+    let fits = map_fits job s r.complexes all names.0 in
+    let maps = zip_each (IsMapOf job.complexes) (IsMapPart true job (map classes_of r.complexes)) (λ b m. MapFits p r.complexes b m (complex_named r.complexes m.from) (complex_named r.complexes m.to)) fits job.maps r.maps (job-maps p job.complexes job.maps is) (h.maps refl) in
     let sizes : limit.sizes ≡ map (λ c. sizes_of c.facets c) r.complexes = same_sizes p s job.complexes r.complexes limit.sizes all limit.are in
     let within : passing_sum p (10 ^ 12) (map (λ c. sizes_of c.facets c) r.complexes) ≡ None = subst (λ (zs : List Sizes). passing_sum p (10 ^ 12) zs ≡ None) sizes limit.within in
     let nothing : (ns : List (List ℕ)) → Each (λ n. Among n [] → ⊥) ns = λ ns. each_of_index (λ (n : List ℕ). Among n [] → ⊥) ns (λ n m k. k) in
-    let apart = subst (λ (ns : List (List ℕ)). Each (λ m. Among m ns → ⊥) (map (λ (b : MapBlock). b.name) job.maps)) (sym (same_names p job.complexes r.complexes all)) names.apart in
-    canonical_certifies r (subst (λ (q : ℕ). IsCanonical q r) (sym h.prime) canonical) (
-      tt,
-      (
-        tt,
-        each_append IsBlockLine (behind complex_stated [] r.complexes) (behind (map_stated r.complexes) [] r.maps ++ finish r.complexes ∷ [])
-            (complexes_fit p [] job.complexes r.complexes all (let k = kept.complexes in omega (arith, k)) names.each (nothing (map (λ (b : ComplexBlock). b.name) job.complexes)))
-            (each_append IsBlockLine (behind (map_stated r.complexes) [] r.maps) (finish r.complexes ∷ [])
-            (maps_fit job r.complexes all names.complexes [] job.maps r.maps maps (let k = kept.maps in omega (arith, k)) names.maps apart (nothing (map (λ (b : MapBlock). b.name) job.maps))) (tt, tt)),
-      ),
-    )
+    let apart = subst (λ (ns : List (List ℕ)). Each (λ m. Among m ns → ⊥) (map (λ (b : MapBlock). b.name) job.maps)) (sym (same_names p job.complexes r.complexes all)) names.2 in
+    let complexes = complexes_fit p s [] job.complexes r.complexes all (let k = kept.complexes in omega (arith, k)) names.0 (nothing (map (λ (b : ComplexBlock). b.name) job.complexes)) in
+    let rest = maps_fit job s r.complexes all names.0 [] job.maps r.maps maps (let k = kept.maps in omega (arith, k)) names.1 apart (nothing (map (λ (b : MapBlock). b.name) job.maps)) in
+    all_right r (subst (λ (q : ℕ). Each (IsRight q) (behind complex_stated [] r.complexes)) (sym h.prime) complexes) (subst (λ (q : ℕ). Each (IsRight q) (behind (map_stated r.complexes) [] r.maps)) (sym h.prime) rest)
     (subst (λ (q : ℕ). passing_sum q (10 ^ 12) (map (λ c. sizes_of c.facets c) r.complexes) ≡ None) (sym h.prime) within)

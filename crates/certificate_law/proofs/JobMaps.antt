@@ -3,8 +3,8 @@ use Rattle.std.proofs.Common.{◌≡◌, ℕ, zero, suc, ◌+◌, ◌<◌, ◌�
 use Rattle.std.specs.Prelude.{if◌then◌else◌}
 use Rattle.std.specs.List.{AllZip, list_any}
 use Rattle.std.specs.Str.{bytes_eq}
-use Rattle.std.proofs.lemmas.Bool.{and_parts, eq-eqb, eqb-true}
-use Rattle.linear_law.specs.Lists.{Among}
+use Rattle.std.proofs.lemmas.Bool.{and_parts, cases_Bool, eq-eqb, eqb-true, false_from_ne_true, not-true, true≢false}
+use Rattle.linear_law.specs.Lists.{Among, IsApart}
 use Rattle.linear_law.proofs.ListLemmas.{among_left, among_right, each_among, zip_change}
 use Rattle.simplicial_law.specs.Cochains.{Cochain}
 use Rattle.steenrod_law.specs.Operations.{pull_back}
@@ -34,37 +34,29 @@ bytes_same : (bs : List ℕ) → bytes_eq bs bs ≡ true
 bytes_same [] = refl
 bytes_same (b ∷ bs) = ap₂ (λ x y. x && y) (eqb_same b) (bytes_same bs)
 
-pub or_right : (a b : Bool) → b ≡ true → (a || b) ≡ true
+or_right : (a b : Bool) → b ≡ true → (a || b) ≡ true
 or_right true b h = refl
 or_right false b h = h
 
-pub among-any : (x : List ℕ) (ys : List (List ℕ)) → Among x ys → list_any (bytes_eq x) ys ≡ true
-among-any x [] m = elim m [ ]
-among-any x (y ∷ ys) m = elim m [
-  | inl e ↦ ap (λ b. b || list_any (bytes_eq x) ys) (ap (bytes_eq x) e ∙ bytes_same x)
-  | inr k ↦ or_right (bytes_eq x y) (list_any (bytes_eq x) ys) (among-any x ys k)
+pub any_from : {X : Type 0} (test : X → Bool) (x : X) (xs : List X) → Among x xs → test x ≡ true → list_any test xs ≡ true
+any_from test x [] m e = elim m [ ]
+any_from test x (y ∷ ys) m e = elim m [ inl q ↦ ap (λ b. b || list_any test ys) (ap test q ∙ e) | inr k ↦ or_right (test y) (list_any test ys) (any_from test x ys k e) ]
+
+pub any_gives : {X : Type 0} (test : X → Bool) (xs : List X) → list_any test xs ≡ true → (x : X) × Among x xs × (test x ≡ true)
+any_gives test [] h = absurd cc
+any_gives test (x ∷ xs) h = elim (cases_Bool (test x)) [
+  | inl e ↦ (x, inl refl, e)
+  | inr e ↦ (let r = any_gives test xs (sym (ap (λ b. b || list_any test xs) e) ∙ h) in (r.0, inr r.1, r.2))
 ]
 
-pub true_or_false : (b : Bool) → (b ≡ true) ⊎ (b ≡ false)
-true_or_false true = inl refl
-true_or_false false = inr refl
+pub among-any : (x : List ℕ) (ys : List (List ℕ)) → Among x ys → list_any (bytes_eq x) ys ≡ true
+among-any x ys m = any_from (bytes_eq x) x ys m (bytes_same x)
 
-pub not_true : (b : Bool) → (b ≡ true → ⊥) → b ≡ false
-not_true b n = elim (true_or_false b) [ inl e ↦ absurd (n e) | inr e ↦ e ]
-
-pub not_both : (b : Bool) → b ≡ true → b ≡ false → ⊥
-not_both true h k = cc
-not_both false h k = cc
-
-pub distinct_head : (n : List ℕ) (ns : List (List ℕ)) → are_distinct (n ∷ ns) ≡ true → Among n ns → ⊥
-distinct_head n ns h m = go (has_name ns n) (among-any n ns m) (and_parts (not (has_name ns n)) (are_distinct ns) h).0
-  where
-    go : (b : Bool) → b ≡ true → not b ≡ true → ⊥
-    go true e k = cc
-    go false e k = cc
-
-pub distinct_rest : (n : List ℕ) (ns : List (List ℕ)) → are_distinct (n ∷ ns) ≡ true → are_distinct ns ≡ true
-distinct_rest n ns h = (and_parts (not (has_name ns n)) (are_distinct ns) h).1
+pub distinct_apart : (ns : List (List ℕ)) → are_distinct ns ≡ true → IsApart ns
+distinct_apart [] h = tt
+distinct_apart (n ∷ ns) h =
+    let parts = and_parts (not (has_name ns n)) (are_distinct ns) h in
+    (λ m. true≢false (sym (among-any n ns m) ∙ not-true (has_name ns n) parts.0), distinct_apart ns parts.1)
 
 pub name_among : (bs : List ComplexBlock) (k : ℕ) → k < length bs → Among (name_at bs k) (map (λ b. b.name) bs)
 name_among [] k l = absurd (omega (arith, l))
@@ -72,25 +64,23 @@ name_among (b ∷ bs) zero l = inl refl
 name_among (b ∷ bs) (suc k) l = inr (name_among bs k (omega (arith, l)))
 
 -- the complex with the name of a block is what is listed of the block
-pub named_at : (p : ℕ) (bs : List ComplexBlock) (cs : List ComplexPart) (k : ℕ) → k < length bs → are_distinct (map (λ b. b.name) bs) ≡ true → AllZip (IsComplexPart true true p) bs cs → complex_named cs (name_at bs k) ≡ part_at cs k
+pub named_at : (p : ℕ) (bs : List ComplexBlock) (cs : List ComplexPart) (k : ℕ) → k < length bs → IsApart (map (λ b. b.name) bs) → AllZip (IsComplexPart true true p) bs cs → complex_named cs (name_at bs k) ≡ part_at cs k
 named_at p [] cs k l d h = absurd (omega (arith, l))
 named_at p (b ∷ bs) [] k l d h = absurd h
 named_at p (b ∷ bs) (c ∷ cs) zero l d h = ap (λ t. cond t c (complex_named cs b.name)) (ap (bytes_eq b.name) h.0.name ∙ bytes_same b.name)
 named_at p (b ∷ bs) (c ∷ cs) (suc k) l d h =
     let name = name_at bs k in
     let m = name_among bs k (omega (arith, l)) in
-    let other : bytes_eq name c.name ≡ false = not_true (bytes_eq name c.name) (λ e. distinct_head b.name (map (λ (b : ComplexBlock). b.name) bs) d
-    (subst (λ (n : List ℕ). Among n (map (λ (b : ComplexBlock). b.name) bs)) (same-bytes name c.name e ∙ h.0.name) m)) in
-    ap (λ t. cond t c (complex_named cs name)) other ∙ named_at p bs cs k (omega (arith, l)) (distinct_rest b.name (map (λ (b : ComplexBlock). b.name) bs) d) h.1
+    let other : bytes_eq name c.name ≡ false = false_from_ne_true (bytes_eq name c.name) (λ e. d.0 (subst (λ (n : List ℕ). Among n (map (λ (b : ComplexBlock). b.name) bs)) (same-bytes name c.name e ∙ h.0.name) m)) in
+    ap (λ t. cond t c (complex_named cs name)) other ∙ named_at p bs cs k (omega (arith, l)) d.1 h.1
 
 -- ---- sends
 
 pub any_sent : (before : List Sent) (v : ℕ) (x : Sent) → Among x before → v ≡ x.from → is_sent before v ≡ true
-any_sent [] v x m e = elim m [ ]
-any_sent (s ∷ before) v x m e = elim m [
-  | inl q ↦ ap (λ b. b || is_sent before v) (subst (λ (w : ℕ). (v == w) ≡ true) (e ∙ ap (λ (t : Sent). t.from) (sym q)) (eqb_same v))
-  | inr k ↦ or_right (v == s.from) (is_sent before v) (any_sent before v x k e)
-]
+any_sent before v x m e = any_from (λ (s : Sent). v == s.from) x before m (subst (λ (w : ℕ). (v == w) ≡ true) e (eqb_same v))
+
+pub sent_among : (ss : List Sent) (v : ℕ) → is_sent ss v ≡ true → (s : Sent) × Among s ss × (v ≡ s.from)
+sent_among ss v h = let q = any_gives (λ (s : Sent). v == s.from) ss h in (q.0, q.1, eqb-true v q.0.from q.2)
 
 -- a send that has no fault is of a vertex that was not sent before
 unsent : (a b : Bool) → if not a then Some VertexUnknown else (if b then Some VertexSentTwice else None) ≡ None → b ≡ true → ⊥
@@ -134,30 +124,20 @@ module _ (from to : List (List ℕ)) where
 image_is : (ss : List Sent) → IsFunction ss → (s : Sent) → Among s ss → image ss s.from ≡ s.to
 unfolding IsFunction
 image_is [] f s m = elim m [ ]
-image_is (x ∷ ss) f s m = elim (true_or_false (s.from == x.from)) [
+image_is (x ∷ ss) f s m = elim (cases_Bool (s.from == x.from)) [
   | inl e ↦ ap (λ t. cond t x.to (image ss s.from)) e ∙ f x s (inl refl) m (sym (eqb-true s.from x.from e))
   | inr e ↦ ap (λ t. cond t x.to (image ss s.from)) e ∙ elim m [
-    | inl q ↦ absurd (not_both (s.from == x.from) (subst (λ (u : Sent). (s.from == u.from) ≡ true) (sym q) (eqb_same s.from)) e)
+    | inl q ↦ absurd (true≢false (sym (subst (λ (u : Sent). (s.from == u.from) ≡ true) (sym q) (eqb_same s.from)) ∙ e))
     | inr k ↦ image_is ss (λ a b i j. f a b (inr i) (inr j)) s k
   ]
 ]
 
 image_none : (ss : List Sent) (v : ℕ) → ((s : Sent) → Among s ss → v ≡ s.from → ⊥) → image ss v ≡ 0
 image_none [] v h = refl
-image_none (x ∷ ss) v h = ap (λ t. cond t x.to (image ss v)) (not_true (v == x.from) (λ e. h x (inl refl) (eqb-true v x.from e))) ∙ image_none ss v (λ s m. h s (inr m))
+image_none (x ∷ ss) v h = ap (λ t. cond t x.to (image ss v)) (false_from_ne_true (v == x.from) (λ e. h x (inl refl) (eqb-true v x.from e))) ∙ image_none ss v (λ s m. h s (inr m))
 
 sent_or_not : (ss : List Sent) (v : ℕ) → ((s : Sent) × Among s ss × (v ≡ s.from)) ⊎ ((s : Sent) → Among s ss → v ≡ s.from → ⊥)
-sent_or_not [] v = inr (λ s m e. elim m [ ])
-sent_or_not (x ∷ ss) v = elim (true_or_false (v == x.from)) [
-  | inl e ↦ inl (x, inl refl, eqb-true v x.from e)
-  | inr n ↦ elim (sent_or_not ss v) [
-    | inl f ↦ inl (f.0, inr f.1, f.2)
-    | inr none ↦ inr (λ s m e. elim m [
-      | inl q ↦ not_both (v == x.from) (subst (λ (w : ℕ). (v == w) ≡ true) (e ∙ ap (λ (u : Sent). u.from) (sym q)) (eqb_same v)) n
-      | inr k ↦ none s k e
-    ])
-  ]
-]
+sent_or_not ss v = elim (cases_Bool (is_sent ss v)) [ inl e ↦ inl (sent_among ss v e) | inr e ↦ inr (λ s m q. true≢false (sym (any_sent ss v s m q) ∙ e)) ]
 
 -- ordered sends are the same map
 pub same_image : (sends listed : List Sent) → IsFunction sends → AreOrderedSends sends listed → (v : ℕ) → image listed v ≡ image sends v

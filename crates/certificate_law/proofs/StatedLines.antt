@@ -1,22 +1,19 @@
 -- The lines of which something is asked are those of the certificate, in their order.
 use Rattle.std.proofs.Common.{◌≡◌, ℕ, ◌+◌, refl, ◌∙◌, ap, ap₂, List, [], ◌∷◌, ◌++◌, map, flat_map}
 use Rattle.std.proofs.lemmas.List.{map-append}
+use Rattle.std.proofs.lemmas.List.Concat.{flat_map_single}
 use Rattle.simplicial_law.specs.Cochains.{Chain}
 use Rattle.complex_file.specs.declared.block.Sent.{Sent}
 use Rattle.report.specs.declared.columns.CartanAnswer.{CartanAnswer}
 use Rattle.report.specs.declared.columns.CartanAnswer.TheVariants.{Yes, No}
 use Rattle.report.specs.declared.columns.CartanPart.{CartanPart}
 use Rattle.report.specs.declared.columns.Column.{Column}
-use Rattle.report.specs.declared.columns.OperationPart.{OperationPart}
-use Rattle.report.specs.declared.columns.PairColumn.{PairColumn}
-use Rattle.report.specs.declared.columns.ProductPart.{ProductPart}
 use Rattle.report.specs.declared.complex.ComplexPart.{ComplexPart}
 use Rattle.report.specs.declared.complex.DegreePart.{DegreePart}
-use Rattle.report.specs.declared.map.InducedPart.{InducedPart}
 use Rattle.report.specs.declared.map.MapPart.{MapPart}
 use Rattle.certificate_law.specs.Laws.{StatedLinesLaw, line_said, verdict_said}
 use Rattle.report_text_law.specs.declared.line.Line.{Line}
-use Rattle.report_text_law.specs.declared.line.Line.TheVariants.{Below as below_line, Class as class_line, Facet as facet_line}
+use Rattle.report_text_law.specs.declared.line.Line.TheVariants.{Below as below_line, Class as class_line, Column as column_line, Facet as facet_line}
 use Rattle.report_text_law.specs.Lines.{answer_lines, cartan_lines, columns_from, complex_lines, degrees_from, induced_lines, map_lines, operation_lines, pair_lines, product_lines, send_of}
 use Rattle.certificate_law.specs.Parts.{complex_named}
 use Rattle.certificate_law.specs.Stated.{Stated, complex_opens, degree_opens, heading, induced_opens, map_opens, operation_opens, prime_is, product_opens, after, answer_stated, behind, below_stands, cartan_stated, class_stands, complex_ends, complex_stated, degree_stated, facet_stands, finish, induced_column, induced_stated, map_between, map_ends, map_stated, numbered, operation_column, operation_stated, product_column, product_stated, send_stands, with_stands}
@@ -32,21 +29,13 @@ said_behind : {X : Type 0} (line : List X → X → List Stated) (g : X → List
 said_behind line g h before [] = refl
 said_behind line g h before (x ∷ xs) = map-append line_said (line before x) (behind line (before ++ x ∷ []) xs) ∙ ap₂ (λ ys zs. ys ++ zs) (h before x) (said_behind line g h (before ++ x ∷ []) xs)
 
-facets_said : (before fs : List (List ℕ)) → said (behind (λ fs f. facet_stands fs f ∷ []) before fs) ≡ map facet_line fs
-facets_said before [] = refl
-facets_said before (f ∷ fs) = ap (λ zs. facet_line f ∷ zs) (facets_said (before ++ f ∷ []) fs)
+said_after : (line : List Chain → Chain → Stated) (g : Chain → Line) → ((b : List Chain) (y : Chain) → line_said (line b y) ≡ g y) → (before ys : List Chain) → said (after (λ b y. line b y ∷ []) before ys) ≡ map g ys
+said_after line g h before [] = refl
+said_after line g h before (y ∷ ys) = ap₂ ◌∷◌ (h before y) (said_after line g h (y ∷ before) ys)
 
-sends_said : (from to : ComplexPart) (before ss : List Sent) → said (behind (λ ss s. send_stands from to ss s ∷ []) before ss) ≡ map send_of ss
-sends_said from to before [] = refl
-sends_said from to before (s ∷ ss) = ap (λ zs. send_of s ∷ zs) (sends_said from to (before ++ s ∷ []) ss)
-
-belows_said : (c : ComplexPart) (n : ℕ) (before ys : List Chain) → said (after (λ before y. below_stands c n before y ∷ []) before ys) ≡ map below_line ys
-belows_said c n before [] = refl
-belows_said c n before (y ∷ ys) = ap (λ zs. below_line y ∷ zs) (belows_said c n (y ∷ before) ys)
-
-classes_said : (c : ComplexPart) (n : ℕ) (before zs : List Chain) → said (after (λ before z. class_stands c n before z ∷ []) before zs) ≡ map class_line zs
-classes_said c n before [] = refl
-classes_said c n before (z ∷ zs) = ap (λ ws. class_line z ∷ ws) (classes_said c n (z ∷ before) zs)
+said_columns : (line : ℕ → Column → Stated) → ((k : ℕ) (y : Column) → line_said (line k y) ≡ column_line (k + 1) y.values) → (k : ℕ) (ys : List Column) → said (numbered (λ j y. line j y ∷ with_stands y.primitive ∷ []) k ys) ≡ columns_from (k + 1) ys
+said_columns line h k [] = refl
+said_columns line h k (y ∷ ys) = ap₂ (λ x zs. x ∷ line_said (with_stands y.primitive) ∷ zs) (h k y) (said_columns line h (k + 1) ys)
 
 degrees_said : (c : ComplexPart) (n : ℕ) (ds : List DegreePart) → said (numbered (degree_stated c) n ds) ≡ degrees_from n ds
 degrees_said c n [] = refl
@@ -55,19 +44,8 @@ degrees_said c n (d ∷ ds) =
     ∙ ap₂ (λ ys zs. ys ++ zs)
     (ap (λ zs. line_said (degree_opens c n d) ∷ zs)
     (map-append line_said (after (λ before y. below_stands c n before y ∷ []) [] d.below) (after (λ before z. class_stands c n before z ∷ []) [] d.classes)
-    ∙ ap₂ (λ ys zs. ys ++ zs) (belows_said c n [] d.below) (classes_said c n [] d.classes)))
+    ∙ ap₂ (λ ys zs. ys ++ zs) (said_after (below_stands c n) below_line (λ b y. refl) [] d.below) (said_after (class_stands c n) class_line (λ b z. refl) [] d.classes)))
     (degrees_said c (n + 1) ds)
-
-pairs_said : (c : ComplexPart) (x : ProductPart) (k : ℕ) (ys : List PairColumn) → said (numbered (λ j y. product_column c x j y ∷ with_stands y.primitive ∷ []) k ys) ≡ flat_map pair_lines ys
-pairs_said c x k ys = said_numbered (λ j y. product_column c x j y ∷ with_stands y.primitive ∷ []) pair_lines (λ j y. refl) k ys
-
-operation_columns_said : (c : ComplexPart) (x : OperationPart) (k : ℕ) (ys : List Column) → said (numbered (λ j y. operation_column c x j y ∷ with_stands y.primitive ∷ []) k ys) ≡ columns_from (k + 1) ys
-operation_columns_said c x k [] = refl
-operation_columns_said c x k (y ∷ ys) = ap (λ zs. line_said (operation_column c x k y) ∷ line_said (with_stands y.primitive) ∷ zs) (operation_columns_said c x (k + 1) ys)
-
-induced_columns_said : (from to : ComplexPart) (m : MapPart) (x : InducedPart) (k : ℕ) (ys : List Column) → said (numbered (λ j y. induced_column from to m x j y ∷ with_stands y.primitive ∷ []) k ys) ≡ columns_from (k + 1) ys
-induced_columns_said from to m x k [] = refl
-induced_columns_said from to m x k (y ∷ ys) = ap (λ zs. line_said (induced_column from to m x k y) ∷ line_said (with_stands y.primitive) ∷ zs) (induced_columns_said from to m x (k + 1) ys)
 
 cartan_said : (c : ComplexPart) (k : ℕ) (x : CartanPart) → said (cartan_stated c k x) ≡ cartan_lines x
 cartan_said c k x = go x.answer
@@ -85,10 +63,10 @@ complex_said before c =
     let cs = numbered (cartan_stated c) 0 c.cartans in
     let es : List Stated = complex_ends c ∷ [] in
     ap (λ zs. line_said (complex_opens before c) ∷ zs)
-    (map-append line_said fs (ds ++ (xs ++ (os ++ (cs ++ es)))) ∙ ap₂ (λ a b. a ++ b) (facets_said [] c.facets)
+    (map-append line_said fs (ds ++ (xs ++ (os ++ (cs ++ es)))) ∙ ap₂ (λ a b. a ++ b) (said_behind (λ fs f. facet_stands fs f ∷ []) (λ f. facet_line f ∷ []) (λ b f. refl) [] c.facets ∙ flat_map_single facet_line c.facets)
     (map-append line_said ds (xs ++ (os ++ (cs ++ es))) ∙ ap₂ (λ a b. a ++ b) (degrees_said c 0 c.degrees)
-    (map-append line_said xs (os ++ (cs ++ es)) ∙ ap₂ (λ a b. a ++ b) (said_numbered (product_stated c) product_lines (λ k x. ap (λ zs. line_said (product_opens c k x) ∷ zs) (pairs_said c x 0 x.columns)) 0 c.products)
-    (map-append line_said os (cs ++ es) ∙ ap₂ (λ a b. a ++ b) (said_numbered (operation_stated c) operation_lines (λ k x. ap (λ zs. line_said (operation_opens c k x) ∷ zs) (operation_columns_said c x 0 x.columns)) 0 c.operations)
+    (map-append line_said xs (os ++ (cs ++ es)) ∙ ap₂ (λ a b. a ++ b) (said_numbered (product_stated c) product_lines (λ k x. ap (λ zs. line_said (product_opens c k x) ∷ zs) (said_numbered (λ j y. product_column c x j y ∷ with_stands y.primitive ∷ []) pair_lines (λ j y. refl) 0 x.columns)) 0 c.products)
+    (map-append line_said os (cs ++ es) ∙ ap₂ (λ a b. a ++ b) (said_numbered (operation_stated c) operation_lines (λ k x. ap (λ zs. line_said (operation_opens c k x) ∷ zs) (said_columns (operation_column c x) (λ j y. refl) 0 x.columns)) 0 c.operations)
     (map-append line_said cs es ∙ ap (λ a. a ++ said es) (said_numbered (cartan_stated c) cartan_lines (cartan_said c) 0 c.cartans))))))
 
 map_said : (from to : ComplexPart) (cs : List ComplexPart) (before : List MapPart) (m : MapPart) → said (map_between from to cs before m) ≡ map_lines m
@@ -97,8 +75,8 @@ map_said from to cs before m =
     let is = numbered (induced_stated from to m) 0 m.induced in
     let es : List Stated = map_ends from to m ∷ [] in
     ap (λ zs. line_said (map_opens cs before m) ∷ zs)
-    (map-append line_said ss (is ++ es) ∙ ap₂ (λ a b. a ++ b) (sends_said from to [] m.sends)
-    (map-append line_said is es ∙ ap (λ a. a ++ said es) (said_numbered (induced_stated from to m) induced_lines (λ k x. ap (λ zs. line_said (induced_opens from to k x) ∷ zs) (induced_columns_said from to m x 0 x.columns)) 0 m.induced)))
+    (map-append line_said ss (is ++ es) ∙ ap₂ (λ a b. a ++ b) (said_behind (λ ss s. send_stands from to ss s ∷ []) (λ s. send_of s ∷ []) (λ b s. refl) [] m.sends ∙ flat_map_single send_of m.sends)
+    (map-append line_said is es ∙ ap (λ a. a ++ said es) (said_numbered (induced_stated from to m) induced_lines (λ k x. ap (λ zs. line_said (induced_opens from to k x) ∷ zs) (said_columns (induced_column from to m x) (λ j y. refl) 0 x.columns)) 0 m.induced)))
 
 pub stated_lines_law : StatedLinesLaw
 stated_lines_law r =
