@@ -9,4 +9,3 @@ pub mod CycleLemmas
 pub mod CoboundaryLemmas
 pub mod CoordinateLemmas
 pub mod BasisLemmas
-pub mod PartLemmas
