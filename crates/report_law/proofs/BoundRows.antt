@@ -48,22 +48,7 @@ reduced-map p f (r ∷ rs) h = (
   reduced-map p f rs h.2,
 )
 
-module _ (facets : List (List ℕ)) (ascending : Each IsAscending facets) (n p : ℕ) (field : IsField p) where
-  abbrev here : List (List ℕ)
-  here = of_degree n (simplices facets)
-
-  abbrev above : List (List ℕ)
-  above = of_degree (n + 1) (simplices facets)
-
-  all_here : ListsAll (IsSimplex facets n) here
-  all_here = listed_simplices_law.of_one_degree facets n ascending
-
-  all_above : ListsAll (IsSimplex facets (n + 1)) above
-  all_above = listed_simplices_law.of_one_degree facets (n + 1) ascending
-
-  above_ordered : IsInOrder above
-  above_ordered = listed_simplices_law.degree_in_order facets (n + 1)
-
+module _ (facets : List (List ℕ)) (n p : ℕ) (field : IsField p) (here above : List (List ℕ)) (all_here : ListsAll (IsSimplex facets n) here) (all_above : ListsAll (IsSimplex facets (n + 1)) above) (above_ordered : IsInOrder above) where
   -- the coboundary by places
   L : (ℕ → ℕ) → ℕ → ℕ
   L v j = coboundary p (cochain_at here v) (get_or above j [])
@@ -115,6 +100,12 @@ module _ (facets : List (List ℕ)) (ascending : Each IsAscending facets) (n p :
     all = whole;
   }
 
+-- of a complex whose simplices of each degree are listed in order
+pub listed-bounds : (facets : List (List ℕ)) (n p : ℕ) → IsField p → (ls : ℕ → List (List ℕ)) → ((m : ℕ) → ListsAll (IsSimplex facets m) (ls m)) → ((m : ℕ) → IsInOrder (ls m)) → BoundRows facets n p
+listed-bounds facets zero p field ls all ordered = record { rows = []; members = tt; pivots = tt; reduced = tt; all = λ s h. absurd (no_bounds facets p s h) }
+listed-bounds facets (suc n) p field ls all ordered =
+    subst (λ (m : ℕ). BoundRows facets m p) (let e : n + 1 ≡ suc n = omega arith in e) (bound-rows-above facets n p field (ls n) (ls (n + 1)) (all n) (all (n + 1)) (ordered (n + 1)))
+
 pub bound-rows : (facets : List (List ℕ)) → Each IsAscending facets → (n p : ℕ) → IsField p → BoundRows facets n p
-bound-rows facets ascending zero p field = record { rows = []; members = tt; pivots = tt; reduced = tt; all = λ s h. absurd (no_bounds facets p s h) }
-bound-rows facets ascending (suc n) p field = subst (λ (m : ℕ). BoundRows facets m p) (let e : n + 1 ≡ suc n = omega arith in e) (bound-rows-above facets ascending n p field)
+bound-rows facets ascending n p field =
+    listed-bounds facets n p field (λ m. of_degree m (simplices facets)) (λ m. listed_simplices_law.of_one_degree facets m ascending) (λ m. listed_simplices_law.degree_in_order facets m)

@@ -102,7 +102,8 @@ module _ (facets : List (List ℕ)) (n p : ℕ) (large : 1 < p) where
       } in
       ap (λ (ds : List ℕ). get_or ds i 0) (once zs basis d cs (zeros zs) h none) ∙ zeros-at zs i
 
-  no-combination : (cs : List ℕ) (zs : List Cochain) (s : List ℕ) → ((i : ℕ) → get_or cs i 0 ≡ 0) → combination cs zs s ≡ 0
+  -- coefficients 0 combine to 0
+  pub no-combination : (cs : List ℕ) (zs : List Cochain) (s : List ℕ) → ((i : ℕ) → get_or cs i 0 ≡ 0) → combination cs zs s ≡ 0
   no-combination [] zs s h = refl
   no-combination (c ∷ cs) [] s h = refl
   no-combination (c ∷ cs) (z ∷ zs) s h =

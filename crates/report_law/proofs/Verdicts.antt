@@ -51,7 +51,7 @@ pairs-defined p a b n = each-of (λ (e : ℕ × ℕ). (is_defined p a (cartan_op
 
 module _ (facets : List (List ℕ)) (p : ℕ) (field : IsField p) where
   -- extensions of cochains that agree are congruent on weak simplices
-  extended-alike : (q : ℕ) (a b : Cochain) → AgreesOnSimplices facets q p a b → (f : List ℕ) → IsWeakSimplex facets f → CongruentInt p (extended q a f) (extended q b f)
+  pub extended-alike : (q : ℕ) (a b : Cochain) → AgreesOnSimplices facets q p a b → (f : List ℕ) → IsWeakSimplex facets f → CongruentInt p (extended q a f) (extended q b f)
   extended-alike q a b h f w = elim (simplex_or_none facets q f w) [
     | inl on ↦
         CongruentInt_trans (CongruentInt_of (extended-simplex facets q a f on))

@@ -13,5 +13,5 @@ mod tests;
 
 pub use degrees::{may_degree, target};
 pub use live::{blocks, lines, products};
-pub use pairs::cartan_pairs;
+pub use pairs::{cartan_op, cartan_pairs};
 pub use terms::total;

@@ -17,7 +17,7 @@ pub(crate) struct Applied {
 }
 
 /// The operation of a Cartan line: `Sq^n` at 2, `P^n` at an odd prime.
-pub(crate) fn cartan_op(p: u32, n: u32) -> Op
+pub fn cartan_op(p: u32, n: u32) -> Op
     ensures { result ≡ cartan_op_at p n }
 {
     if p == 2 {

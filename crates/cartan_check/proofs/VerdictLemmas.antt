@@ -1,0 +1,142 @@
+-- What a column tells of its cochain.
+use Rattle.std.proofs.Common.{◌≡◌, ℕ, zero, suc, ◌+◌, ◌-◌, ◌<◌, inl, inr, Bool, false, true, List, [], ◌∷◌, length, get_or, arith, refl, sym, ap, subst, ◌∙◌}
+use Rattle.std.specs.Prelude.{IsTrue, MatchOption, Some, None, is_some, slice_get}
+use Rattle.std.specs.declared.option.Option.{Option}
+use Rattle.std.proofs.lemmas.Bool.{cases_lt}
+use Rattle.std.proofs.lemmas.List.{length-map}
+use Rattle.fp_field.specs.Served.{served}
+use Rattle.fp_field.proofs.ServedLemmas.{served_field}
+use Rattle.linear_law.specs.Congruence.{negated}
+use Rattle.linear_law.proofs.CongruenceLemmas.{Congruent_of}
+use Rattle.simplicial_law.specs.Cochains.{Chain, Cochain as SimplexCochain}
+use Rattle.simplicial_law.specs.CanonicalClasses.{cochain_of}
+use Rattle.simplicial_law.specs.Places.{terms_of}
+use Rattle.complex_index.specs.declared.indexed.Cochain.{Cochain}
+use Rattle.complex_index.specs.Levels.{IsIndexOf, level}
+use Rattle.cohomology.specs.declared.basis.Column.{Column}
+use Rattle.cohomology.specs.Basis.{IsColumnOf}
+use Rattle.cohomology.specs.Classes.{AreCanonicalIn, chains_at, cochain_in}
+use Rattle.cohomology.specs.Cycles.{IsCanonicalCycle}
+use Rattle.cohomology.specs.Coordinates.{IsClosedIn}
+use Rattle.cohomology.specs.Values.{cochains_at}
+use Rattle.may_steenrod.specs.Cochains.{IsClosed}
+use Rattle.report.specs.declared.plan.Line.{Line}
+use Rattle.report_law.specs.Columns.{IsAnswer, IsFirstValue, rest_of}
+use Rattle.report_law.specs.Differences.{IsCartanDifference}
+use Rattle.report_law.specs.Live.{cartan_pairs}
+use Rattle.report_law.specs.Matrices.{Classes, class_at, line_degree}
+use Rattle.report_law.proofs.Coordinates.{bound-of-zeros, no-combination}
+use Rattle.report_law.proofs.Lists.{get_or-past}
+use Rattle.op_matrix.specs.Columns.{AreListedAs, IsColumnFor, primitive_terms}
+use Rattle.op_matrix.proofs.ColumnLemmas.{column-for, primitive-alike}
+use Rattle.cartan_check.specs.declared.Verdict.{Verdict}
+use Rattle.cartan_check.specs.declared.Verdict.TheVariants.{Yes, No}
+use Rattle.cartan_check.specs.Differences.{IsLess, IsVerdictFor}
+use Rattle.cartan_check.specs.Verdicts.{IsVerdictOf, listed_answer}
+use Rattle.cartan_check.proofs.CycleLemmas.{cycle-of}
+
+module _ (p : ℕ) (is_served : IsTrue (served p)) (keeps : Bool) (levels : List (List (List ℕ))) (n : ℕ) (classes : List (Cochain p)) (canonical : AreCanonicalIn p levels n classes) (c : Column p) where
+  abbrev zs : List SimplexCochain
+  zs = cochains_at {p = p} levels n classes
+
+  abbrev values : List ℕ
+  values = c.values.items
+
+  count : length zs ≡ length classes
+  count = length-map (chains_at {p = p} (level levels n) classes) cochain_of ∙ length-map classes (λ (d : Cochain p). terms_of (level levels n) d.row)
+
+  -- o is there exactly where chains are kept, and has P
+  abbrev pub KeepsOnly : Option (Cochain p) → (Cochain p → Type 0) → Type 0
+  KeepsOnly o P = MatchOption o (keeps ≡ false) (λ y. (keeps ≡ true) × P y)
+
+  has-chain : (o : Option (Cochain p)) (P : Cochain p → Type 0) → KeepsOnly o P → is_some o ≡ keeps
+  has-chain None P h = sym h
+  has-chain (Some y) P h = sym h.0
+
+  module _ (facets : List (List ℕ)) (z : Cochain p) (is : IsIndexOf facets levels) (degree : z.degree ≡ n) (column : IsColumnOf p keeps levels classes z values c.primitive) where
+    abbrev d : SimplexCochain
+    d = cochain_in levels n z.row
+
+    here : IsColumnFor {p = p} keeps facets levels n classes d c
+    here = column-for facets levels p is keeps (λ m. classes) n z c degree column
+
+    yes : ((i : ℕ) → i < length classes → get_or values i 0 ≡ 0) → IsAnswer keeps facets n p (chains_at {p = p} (level levels n) classes) d (listed_answer {p = p} levels n (Yes c.primitive))
+    yes h =
+        let large = (served_field p is_served).large in
+        let all : (i : ℕ) → get_or values i 0 ≡ 0 = λ i. elim (cases_lt i (length classes)) [
+          | inl l ↦ h i l
+          | inr g ↦ get_or-past values i 0 (let a = here.coordinates.count in let b = count in omega (arith, a, b, g))
+        ] in (
+          bound-of-zeros facets n p large zs d values here.coordinates all,
+          λ t. primitive-alike facets p n d (rest_of p zs d values) (primitive_terms {p = p} levels n c.primitive)
+              (record { at = λ s on. Congruent_of (let e = no-combination facets n p large values zs s all in sym (ap (λ (k : ℕ). d s + negated p k) e ∙ omega arith)) }) (here.rest t),
+        )
+
+    no : (place value : ℕ) (cycle : Option (Cochain p)) → IsFirstValue values place value → place < length classes
+        → KeepsOnly cycle (IsCanonicalCycle p levels n classes place) → IsAnswer keeps facets n p (chains_at {p = p} (level levels n) classes) d (listed_answer {p = p} levels n (No value cycle))
+    no place value None first inside kept = record { values = values; coordinates = here.coordinates; place = place; first = first; cycle_of = λ t. absurd (not-both keeps kept t) }
+      where
+        not-both : (b : Bool) → b ≡ false → IsTrue b → ⊥
+        not-both b e h = cc
+    no place value (Some y) first inside kept = record {
+      values = values;
+      coordinates = here.coordinates;
+      place = place;
+      first = first;
+      cycle_of = λ t. cycle-of facets levels n p (served_field p is_served) is classes place y canonical inside kept.1;
+    }
+
+  pub yes-verdict : ((i : ℕ) → i < length classes → get_or values i 0 ≡ 0) → IsVerdictFor {p = p} keeps levels n classes c (Yes c.primitive)
+  yes-verdict h = record { answer = λ facets z is degree column. yes facets z is degree column h; kept = λ z column. has-chain c.primitive _ column.primitive_of }
+
+  pub no-verdict : (place value : ℕ) (cycle : Option (Cochain p)) → IsFirstValue values place value → place < length classes
+      → ((z : Cochain p) → IsColumnOf p keeps levels classes z values c.primitive → KeepsOnly cycle (IsCanonicalCycle p levels n classes place))
+      → IsVerdictFor {p = p} keeps levels n classes c (No value cycle)
+  no-verdict place value cycle first inside kept = record {
+    answer = λ facets z is degree column. no facets z is degree column place value cycle first inside (kept z column);
+    kept = λ z column. has-chain cycle (IsCanonicalCycle p levels n classes place) (kept z column);
+  }
+
+-- ---- the verdict on a line
+
+-- the class that a report lists at a place
+listed-class : (p : ℕ) (levels : List (List (List ℕ))) (classes : ℕ → List (Cochain p)) (all : Classes) → AreListedAs {p = p} levels classes all → (n i : ℕ) (z : Cochain p) → slice_get (classes n) (i - 1) ≡ Some z
+    → cochain_in levels n z.row ≡ class_at all n i
+listed-class p levels classes all as_listed n i z at =
+    sym (ap (λ (cs : List Chain). cochain_of (get_or cs (i - 1) [])) (as_listed.each n) ∙ ap cochain_of (go (classes n) (i - 1) at))
+  where
+    inside : {X : Type 0} (x y : X) → Some x ≡ Some y → x ≡ y
+    inside x y e = cc
+
+    never : {X : Type 0} {x : X} → None ≡ Some x → ⊥
+    never q = cc
+
+    go : (cs : List (Cochain p)) (k : ℕ) → slice_get cs k ≡ Some z → get_or (chains_at {p = p} (level levels n) cs) k [] ≡ terms_of (level levels n) z.row
+    go [] k e = absurd (never e)
+    go (c ∷ cs) zero e = ap (λ (d : Cochain p). terms_of (level levels n) d.row) (inside c z e)
+    go (c ∷ cs) (suc k) e = go cs k e
+
+closed : (p : ℕ) (levels : List (List (List ℕ))) (line : Line) (x y d : Cochain p) → IsLess {p = p} levels line x y (cartan_pairs p line.a line.b line.n) d → IsClosedIn p levels d
+closed p levels line x y d h = subst (λ (m : ℕ). IsClosed p levels m d.row) (sym h.degree) h.closed
+
+pub verdict-of : (p : ℕ) (keeps : Bool) (levels : List (List (List ℕ))) (classes : ℕ → List (Cochain p)) (line : Line) (x y d : Cochain p) (c : Column p) (verdict : Verdict p)
+    → slice_get (classes line.a) (line.i - 1) ≡ Some x → slice_get (classes line.b) (line.j - 1) ≡ Some y → IsLess {p = p} levels line x y (cartan_pairs p line.a line.b line.n) d
+    → (IsClosedIn p levels d → IsColumnOf p keeps levels (classes d.degree) d c.values.items c.primitive) → IsVerdictFor {p = p} keeps levels d.degree (classes d.degree) c verdict → IsVerdictOf {p = p} keeps levels classes line verdict
+verdict-of p keeps levels classes line x y d c verdict at_x at_y h column v = record {
+  listed = λ facets all is as_listed.
+      let n : ℕ = line_degree p line in
+      let z : SimplexCochain = cochain_in levels n d.row in
+      let u = listed-class p levels classes all as_listed line.a line.i x at_x in
+      let w = listed-class p levels classes all as_listed line.b line.j y at_y in
+      let D : SimplexCochain → SimplexCochain → Type 0 = λ s t. IsCartanDifference facets p line.a line.b line.n s t z in
+      let made : D (cochain_in levels line.a x.row) (cochain_in levels line.b y.row) =
+      record { whole = h.whole; is_whole = h.is_whole facets is; parts = h.parts; are_parts = h.are_parts facets is; difference = h.difference facets is } in
+      let A : ℕ → Type 0 = λ m. IsAnswer keeps facets m p (chains_at {p = p} (level levels m) (classes m)) (cochain_in levels m d.row) (listed_answer {p = p} levels m verdict) in
+      let answer : A n = subst A h.degree (v.answer facets d is refl (column (closed p levels line x y d h))) in
+      record {
+        difference = z;
+        is_difference = subst (λ (t : SimplexCochain). D (class_at all line.a line.i) t) w (subst (λ (s : SimplexCochain). D s (cochain_in levels line.b y.row)) u made);
+        is_answer = subst (λ (cs : List Chain). IsAnswer keeps facets n p cs z (listed_answer {p = p} levels n verdict)) (sym (as_listed.each n)) answer;
+      };
+  kept = v.kept d (column (closed p levels line x y d h));
+}

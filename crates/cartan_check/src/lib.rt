@@ -1,0 +1,163 @@
+//! The verdicts on Cartan lines, over either depth of the cohomology of a complex.
+#![tactic(auto)]
+
+ghost use Rattle.std.specs.Prelude.{◌≡◌, ◌≤◌, ◌<◌, ◌+◌, ℕ, List, [], length, get_or, true, IfOk, IsTrue, MatchOption};
+ghost use Rattle.fp_field.specs.Served.{served};
+ghost use Rattle.report_law.specs.Columns.{IsFirstValue};
+ghost use Rattle.report_law.specs.Live.{cartan_op as cartan_op_at, cartan_pairs as cartan_pairs_of, is_defined};
+ghost use Rattle.op_matrix.specs.Columns.{HasElement};
+ghost use Rattle.cartan_check.specs.Differences.{IsCocycleIn, IsLess, IsLinePair, IsPart, IsVerdictFor};
+ghost use Rattle.cartan_check.specs.Verdicts.{HasElements, IsVerdictOf};
+
+use cohomology::{Basis, Column};
+use complex_index::{Cochain, Indexed};
+use fp_field::Fp;
+use may_elements::MayTable;
+use may_steenrod::cup;
+use op_matrix::operation;
+use report::Line;
+use std::alloc::{AllocError, Global};
+use term_total::{cartan_op, cartan_pairs};
+
+/// Whether the difference of the two sides of a Cartan line is a coboundary.
+#[derive(Drop)]
+pub enum Verdict<const P: u32> {
+    /// It is one, with its canonical primitive where primitives are kept.
+    Yes {
+        primitive: Option<Cochain<P>>,
+    },
+    /// It is none: its first coordinate that is not 0, with the canonical cycle of that class where primitives are kept.
+    No {
+        value: Fp<P>,
+        cycle: Option<Cochain<P>>,
+    },
+}
+
+/// The operation of a line on the product of two cocycles.
+fn whole<const P: u32>(
+    alloc: Global,
+    table: &MayTable<P>,
+    index: &Indexed,
+    line: Line,
+    x: &Cochain<P>,
+    y: &Cochain<P>,
+) -> Result<Cochain<P>, AllocError>
+    requires prime { IsTrue (served P) }
+    requires low { line.a + line.b ≤ 15 }
+    requires defined { is_defined P (line.a + line.b) (cartan_op_at P line.n) ≡ true }
+    requires stored { HasElement P table.now (line.a + line.b) (cartan_op_at P line.n) }
+    requires first { IsCocycleIn P index.now line.a x.now }
+    requires second { IsCocycleIn P index.now line.b y.now }
+    ensures { IfOk result (λ r. IsLess index.now line x.now y.now [] r) }
+{
+    let product = cup(alloc, index, x, y)?;
+    operation(alloc, table, index, cartan_op(P, line.n), &product)
+}
+
+/// The product of the operations of a pair on two cocycles.
+fn part<const P: u32>(
+    alloc: Global,
+    table: &MayTable<P>,
+    index: &Indexed,
+    line: Line,
+    pair: (u32, u32),
+    x: &Cochain<P>,
+    y: &Cochain<P>,
+) -> Result<Cochain<P>, AllocError>
+    requires prime { IsTrue (served P) }
+    requires low { line.a + line.b ≤ 15 }
+    requires pair { IsLinePair P table.now line pair }
+    requires first { IsCocycleIn P index.now line.a x.now }
+    requires second { IsCocycleIn P index.now line.b y.now }
+    ensures { IfOk result (λ r. IsPart index.now line x.now y.now pair r) }
+{
+    let left = operation(alloc, table, index, cartan_op(P, pair.0), x)?;
+    let right = operation(alloc, table, index, cartan_op(P, pair.1), y)?;
+    cup(alloc, index, &left, &right)
+}
+
+/// The operation of a line on the product of two cocycles, less the products of the operations on them.
+fn difference<const P: u32>(
+    alloc: Global,
+    table: &MayTable<P>,
+    index: &Indexed,
+    line: Line,
+    x: &Cochain<P>,
+    y: &Cochain<P>,
+) -> Result<Cochain<P>, AllocError>
+    requires prime { IsTrue (served P) }
+    requires low { line.a + line.b ≤ 15 }
+    requires defined { is_defined P (line.a + line.b) (cartan_op_at P line.n) ≡ true }
+    requires stored { HasElements P table.now line }
+    requires first { IsCocycleIn P index.now line.a x.now }
+    requires second { IsCocycleIn P index.now line.b y.now }
+    ensures { IfOk result (λ r. IsLess index.now line x.now y.now (cartan_pairs_of P line.a line.b line.n) r) }
+{
+    let pairs = cartan_pairs(alloc, P, line.a, line.b, line.n)?;
+    let mut difference = whole(alloc, table, index, line, x, y)?;
+    for pair in pairs.as_slice() {
+        let part = part(alloc, table, index, line, *pair, x, y)?;
+        difference.row.add_scaled(&part.row, Fp::new(1).neg())?;
+    }
+    Ok(difference)
+}
+
+/// The first place below `rank` at which a value is not 0.
+fn first_place<const P: u32>(values: &[Fp<P>], rank: u32) -> Option<u32>
+    ensures { MatchOption result ((i : ℕ) → i < rank → get_or values.now i 0 ≡ 0) (λ place. (place < rank) × IsFirstValue values.now place (get_or values.now place 0)) }
+{
+    for place in 0..rank {
+        if !values.get(place as usize)?.is_zero() {
+            return Some(place);
+        }
+    }
+    None
+}
+
+/// The verdict on a cocycle of degree n with this column.
+fn verdict_of_column<const P: u32, B: Basis<P>>(
+    alloc: Global,
+    basis: &B,
+    n: u32,
+    column: Column<P>,
+) -> Result<Verdict<P>, AllocError>
+    requires { IsTrue (served P) }
+    ensures { IfOk result (λ v. (levels : List (List (List ℕ))) → B.is_of levels basis.now → IsVerdictFor B.keeps levels n (B.classes basis.now n) column.entry v) }
+{
+    let Some(place) = first_place(&column.values, basis.rank(n)) else {
+        return Ok(Verdict::Yes {
+            primitive: column.primitive,
+        });
+    };
+    let value = column.values[place as usize];
+    let cycle = match column.primitive {
+        Some(_) => Some(basis.cycle(alloc, n, place + 1)?),
+        None => None,
+    };
+    Ok(Verdict::No { value, cycle })
+}
+
+/// The verdict on a line: whether the operation n on the product of its two classes, of degrees that add up to 15 at most, is in
+/// cohomology the sum of the products of the operations on them. It is defined on their degree, and at an odd prime the May elements of all these operations are stored.
+pub fn cartan<const P: u32, B: Basis<P>>(
+    alloc: Global,
+    basis: &B,
+    index: &Indexed,
+    table: &MayTable<P>,
+    line: Line,
+) -> Result<Verdict<P>, AllocError>
+    requires prime { IsTrue (served P) }
+    requires of { B.is_of index.now basis.now }
+    requires low { line.a + line.b ≤ 15 }
+    requires defined { is_defined P (line.a + line.b) (cartan_op_at P line.n) ≡ true }
+    requires stored { HasElements P table.now line }
+    requires first { (1 ≤ line.i) × (line.i ≤ length (B.classes basis.now line.a)) }
+    requires second { (1 ≤ line.j) × (line.j ≤ length (B.classes basis.now line.b)) }
+    ensures { IfOk result (λ v. IsVerdictOf B.keeps index.now (B.classes basis.now) line v) }
+{
+    let x = basis.class(line.a, line.i);
+    let y = basis.class(line.b, line.j);
+    let difference = difference(alloc, table, index, line, x, y)?;
+    let column = basis.column(alloc, &difference)?;
+    verdict_of_column(alloc, basis, difference.degree, column)
+}
