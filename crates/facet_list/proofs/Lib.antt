@@ -1,0 +1,2 @@
+pub mod FreeFacets
+pub mod MarkLemmas
