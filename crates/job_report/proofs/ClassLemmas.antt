@@ -1,0 +1,178 @@
+-- The classes of a complex as they are kept by place, and as they are listed.
+use Rattle.std.proofs.Common.{◌≡◌, ◌∙◌, ℕ, zero, suc, ◌+◌, ◌-◌, ◌<◌, ◌≤◌, inl, inr, List, [], ◌∷◌, ◌++◌, length, map, take, get_or, arith, refl, sym, ap, ap₂, subst}
+use Rattle.std.specs.Prelude.{Bool, IsTrue, slice_get, Some}
+use Rattle.std.specs.List.{AllZip}
+use Rattle.std.proofs.lemmas.Bool.{cases_lt}
+use Rattle.std.proofs.lemmas.List.{length-map, map-append, take_more}
+use Rattle.std.proofs.lemmas.Simd.{map-map}
+use Rattle.signed_sum.specs.Lists.{numbers_from}
+use Rattle.linear_law.specs.Lists.{Among, Each, IsAscending}
+use Rattle.linear_law.proofs.ListLemmas.{each_among, each_get_or, each_itself, length_alike}
+use Rattle.simplicial_law.specs.Simplices.{IsSimplex}
+use Rattle.simplicial_law.specs.Cochains.{Chain, IsCoboundary, IsCocycle}
+use Rattle.simplicial_law.specs.Canonical.{IsCanonicalModulo}
+use Rattle.simplicial_law.specs.CanonicalClasses.{AreCanonicalModulo, cochain_of}
+use Rattle.simplicial_law.specs.ListedSimplices.{of_degree, simplices}
+use Rattle.simplicial_law.proofs.ListedSimplices.{listed_simplices_law}
+use Rattle.complex_index.specs.declared.indexed.Cochain.{Cochain}
+use Rattle.complex_index.specs.Levels.{IsIndexOf, level}
+use Rattle.simplicial_law.specs.Places.{terms_of}
+use Rattle.sparse_rows.specs.Rows.{IsBelow}
+use Rattle.cohomology.specs.Classes.{AreCanonicalIn, IsPlaced, chains_at}
+use Rattle.report.specs.declared.complex.DegreePart.{DegreePart}
+use Rattle.report.specs.declared.plan.Sizes.{Sizes}
+use Rattle.report_law.specs.Columns.{ArePrimitives}
+use Rattle.report_law.specs.Matrices.{AreClasses, Classes, ranks}
+use Rattle.report_law.specs.Terms.{AreSizes, simplex_counts}
+use Rattle.report_law.proofs.Lists.{get_or-map, get_or-past}
+use Rattle.report_law.proofs.Unique.{same-order}
+use Rattle.op_matrix.specs.Columns.{AreListedAs}
+use Rattle.job_report.specs.Listed.{class_counts, level_counts, listed_classes}
+use Rattle.job_report.specs.Parts.{IsListedDegree}
+
+-- ---- lists over numbers
+
+pub numbers-get : {X : Type 0} (g : ℕ → X) (a k n : ℕ) (d : X) → n < k → get_or (map g (numbers_from a k)) n d ≡ g (a + n)
+numbers-get g a zero n d l = absurd (omega (arith, l))
+numbers-get g a (suc k) zero d l = let e : a ≡ a + 0 = omega arith in ap g e
+numbers-get g a (suc k) (suc n) d l = let e : suc a + n ≡ a + suc n = omega arith in numbers-get g (suc a) k n d (omega (arith, l)) ∙ ap g e
+
+pub numbers-at : {X : Type 0} (g : ℕ → X) (k n : ℕ) (d : X) → n < k → get_or (map g (numbers_from 0 k)) n d ≡ g n
+numbers-at g k n d l = let e : 0 + n ≡ n = omega arith in numbers-get g 0 k n d l ∙ ap g e
+
+pub numbers-length : (a k : ℕ) → length (numbers_from a k) ≡ k
+numbers-length a zero = refl
+numbers-length a (suc k) = ap suc (numbers-length (suc a) k)
+
+pub numbers-count : {X : Type 0} (g : ℕ → X) (k : ℕ) → length (map g (numbers_from 0 k)) ≡ k
+numbers-count g k = length-map (numbers_from 0 k) g ∙ numbers-length 0 k
+
+-- what stands at a number
+pub counted-at : {Y : Type 0} (R : ℕ → Y → Type 0) (a k : ℕ) (ys : List Y) (n : ℕ) (d : Y) → n < k → AllZip R (numbers_from a k) ys → R (a + n) (get_or ys n d)
+counted-at R a zero ys n d l h = absurd (omega (arith, l))
+counted-at R a (suc k) [] n d l h = absurd h
+counted-at R a (suc k) (y ∷ ys) zero d l h = let e : a ≡ a + 0 = omega arith in subst (λ (m : ℕ). R m y) e h.0
+counted-at R a (suc k) (y ∷ ys) (suc n) d l h = let e : suc a + n ≡ a + suc n = omega arith in subst (λ (m : ℕ). R m (get_or ys n d)) e (counted-at R (suc a) k ys n d (omega (arith, l)) h.1)
+
+-- ---- items at places
+
+each-slice : {X : Type 0} (P : X → Type 0) (xs : List X) (i : ℕ) (x : X) → slice_get xs i ≡ Some x → Each P xs → P x
+each-slice P [] i x e h = absurd cc
+each-slice P (y ∷ ys) zero x e h = let q : y ≡ x = cc in subst P q h.0
+each-slice P (y ∷ ys) (suc i) x e h = each-slice P ys i x e h.1
+
+slice-item : {X : Type 0} (xs : List X) (i : ℕ) (x : X) → slice_get xs i ≡ Some x → get_or xs i x ≡ x
+slice-item [] i x e = refl
+slice-item (y ∷ ys) zero x e = cc
+slice-item (y ∷ ys) (suc i) x e = slice-item ys i x e
+
+pub chains-more : {p : ℕ} (here : List (List ℕ)) (zs : List (Cochain p)) (i : ℕ) (z : Cochain p) (y : Chain) (ys new : List Chain) → i < length zs → slice_get zs (i + 1 - 1) ≡ Some z
+    → ys ≡ chains_at {p = p} here (take i zs) → y ≡ terms_of here z.row → new ≡ ys ++ y ∷ [] → new ≡ chains_at {p = p} here (take (i + 1) zs)
+chains-more {p = p} here zs i z y ys new l at h e is =
+    let back : i + 1 - 1 ≡ i = omega arith in
+    let f : Cochain p → Chain = λ c. terms_of here c.row in
+    let same = slice-item zs i z (subst (λ (k : ℕ). slice_get zs k ≡ Some z) back at) in
+    is ∙ ap₂ (λ (xs : List Chain) (x : Chain). xs ++ x ∷ []) h (e ∙ ap f (sym same)) ∙ sym (ap (map f) (take_more zs i z l) ∙ map-append f (take i zs) (get_or zs i z ∷ []))
+
+-- ---- classes
+
+module _ (p : ℕ) (levels : List (List (List ℕ))) (classes : ℕ → List (Cochain p)) (canonical : (n : ℕ) → AreCanonicalIn p levels n (classes n)) where
+  abbrev listed : Classes
+  listed = listed_classes {p = p} levels classes
+
+  abbrev chains-in : ℕ → List Chain
+  chains-in n = chains_at {p = p} (level levels n) (classes n)
+
+  pub count : length listed ≡ length levels
+  count = numbers-count chains-in (length levels)
+
+  pub ranks-are : ranks listed ≡ class_counts {p = p} levels classes
+  ranks-are = map-map (λ (cs : List Chain). length cs) chains-in (numbers_from 0 (length levels)) ∙ go (numbers_from 0 (length levels))
+    where
+      go : (ns : List ℕ) → map (λ (n : ℕ). length (chains_at {p = p} (level levels n) (classes n))) ns ≡ map (λ (n : ℕ). length (classes n)) ns
+      go [] = refl
+      go (n ∷ ns) = ap₂ (λ (x : ℕ) (xs : List ℕ). x ∷ xs) (length-map (classes n) _) (go ns)
+
+  pub rank-at : (i n : ℕ) → 1 ≤ i → i ≤ get_or (class_counts {p = p} levels classes) n 0 → i ≤ length (classes n)
+  rank-at i n a l = elim (cases_lt n (length levels)) [
+    | inl k ↦ let e = numbers-at (λ n. length (classes n)) (length levels) n 0 k in omega (arith, l, e)
+    | inr k ↦
+        let c = numbers-count (λ n. length (classes n)) (length levels) in
+        let z = get_or-past (class_counts {p = p} levels classes) n 0 (omega (arith, k, c)) in absurd (omega (arith, a, l, z))
+  ]
+
+  pub class-inside : (n i : ℕ) (z : Cochain p) → slice_get (classes n) (i + 1 - 1) ≡ Some z → IsBelow (length (level levels n)) z.row
+  class-inside n i z e = (each-slice (IsPlaced p levels n) (classes n) (i + 1 - 1) z e (canonical n).placed).inside
+
+  module _ (facets : List (List ℕ)) (is : IsIndexOf facets levels) where
+    on-level : (n : ℕ) (s : List ℕ) → IsSimplex facets n s → n < length levels
+    on-level n s on = elim (cases_lt n (length levels)) [
+      | inl l ↦ l
+      | inr m ↦ let k = (is.lists n).whole s on in let e = ap (λ (ss : List (List ℕ)). length ss) (get_or-past levels n [] m) in let l = k.1 in absurd (omega (arith, e, l))
+    ]
+
+    none : (n : ℕ) (cs : List Chain) → length levels ≤ n → AreCanonicalModulo facets n p (IsCocycle facets n p) (IsCoboundary facets n p) cs → cs ≡ []
+    none n [] m h = refl
+    none n (c ∷ cs) m h = go h.pivots h.canonical
+      where
+        go : (ss : List (List ℕ)) → AllZip (λ s terms. IsCanonicalModulo facets n p (IsCocycle facets n p) (IsCoboundary facets n p) s (cochain_of terms)) ss (c ∷ cs) → (c ∷ cs) ≡ []
+        go [] k = absurd k
+        go (s ∷ ss) k = let l = on-level n s k.0.canonical.pivot.lead.on in absurd (omega (arith, l, m))
+
+    pub as-listed : AreListedAs {p = p} levels classes listed
+    as-listed = record {
+      each = λ n. elim (cases_lt n (length levels)) [
+        | inl l ↦ numbers-at chains-in (length levels) n [] l
+        | inr m ↦ get_or-past listed n [] (subst (λ (k : ℕ). k ≤ n) (sym count) m) ∙ sym (none n (chains-in n) m ((canonical n).basis facets is).canonical)
+      ];
+    }
+
+    pub are-classes : AreClasses facets p listed
+    are-classes = record {
+      each = λ n l. subst (λ (cs : List Chain). AreCanonicalModulo facets n p (IsCocycle facets n p) (IsCoboundary facets n p) cs) (sym (as-listed.each n)) ((canonical n).basis facets is).canonical;
+      inhabited = λ n l. (get_or (level levels n) 0 [], each_get_or (IsSimplex facets n) (level levels n) 0 [] (is.inhabited n (subst (λ (k : ℕ). n < k) count l)) (is.lists n).sound);
+      whole = λ n s on. subst (λ (k : ℕ). n < k) (sym count) (on-level n s on);
+    }
+
+    -- ---- sizes
+
+    pub of-degree : (n : ℕ) → Each IsAscending facets → level levels n ≡ of_degree n (simplices facets)
+    of-degree n up =
+        let here = is.lists n in
+        let there = listed_simplices_law.of_one_degree facets n up in
+        same-order (level levels n) (of_degree n (simplices facets)) (is.in_order n) (listed_simplices_law.degree_in_order facets n)
+        (λ s m. stands s (of_degree n (simplices facets)) (there.whole s (each_among (IsSimplex facets n) s (level levels n) here.sound m)))
+        (λ s m. stands s (level levels n) (here.whole s (each_among (IsSimplex facets n) s (of_degree n (simplices facets)) there.sound m)))
+      where
+        stands : (s : List ℕ) (xs : List (List ℕ)) → (k : ℕ) × (k < length xs) × ((d : List ℕ) → get_or xs k d ≡ s) → Among s xs
+        stands s xs k = subst (λ (t : List ℕ). Among t xs) (k.2 []) (each_get_or (λ t. Among t xs) xs k.0 [] k.1 (each_itself xs))
+
+    pub sizes-are : (z : Sizes) → Each IsAscending facets → z.simplices ≡ level_counts levels → z.ranks ≡ class_counts {p = p} levels classes → AreSizes p facets z
+    sizes-are z up s r = record {
+      classes = listed;
+      are = are-classes;
+      ranks_are = r ∙ sym ranks-are;
+      simplices_are = s ∙ counts (numbers_from 0 (length levels)) ∙ ap (simplex_counts facets) (sym count);
+    }
+      where
+        counts : (ns : List ℕ) → map (λ n. length (level levels n)) ns ≡ map (λ n. length (of_degree n (simplices facets))) ns
+        counts [] = refl
+        counts (n ∷ ns) = ap₂ (λ (x : ℕ) (xs : List ℕ). x ∷ xs) (ap (λ (ss : List (List ℕ)). length ss) (of-degree n up)) (counts ns)
+
+-- ---- the degrees of a report
+
+module _ (p : ℕ) (detailed : Bool) (levels : List (List (List ℕ))) (classes : ℕ → List (Cochain p)) where
+  pub degree-classes : (ns : List ℕ) (ds : List DegreePart) → AllZip (IsListedDegree {p = p} detailed levels classes) ns ds → map (λ d. d.classes) ds ≡ map (λ n. chains_at {p = p} (level levels n) (classes n)) ns
+  degree-classes [] [] h = refl
+  degree-classes [] (d ∷ ds) h = absurd h
+  degree-classes (n ∷ ns) [] h = absurd h
+  degree-classes (n ∷ ns) (d ∷ ds) h = ap₂ (λ (x : List Chain) (xs : Classes). x ∷ xs) h.0.listed (degree-classes ns ds h.1)
+
+  pub below-are : (facets : List (List ℕ)) → IsIndexOf facets levels → (ds : List DegreePart) → AllZip (IsListedDegree {p = p} detailed levels classes) (numbers_from 0 (length levels)) ds
+      → IsTrue detailed → (n : ℕ) → n < length ds → ArePrimitives facets n p (get_or (map (λ d. d.below) ds) n [])
+  below-are facets is ds h t n l =
+      let few : n < length levels = subst (λ (k : ℕ). n < k) (length_alike (IsListedDegree {p = p} detailed levels classes) (numbers_from 0 (length levels)) ds h ∙ numbers-length 0 (length levels)) l in
+      let zero-more : 0 + n ≡ n = omega arith in
+      let none : DegreePart = record { below = []; classes = [] } in
+      subst (λ (cs : List Chain). ArePrimitives facets n p cs) (sym (get_or-map (λ (d : DegreePart). d.below) ds n none))
+      ((subst (λ (m : ℕ). IsListedDegree {p = p} detailed levels classes m (get_or ds n none)) zero-more (counted-at (IsListedDegree {p = p} detailed levels classes) 0 (length levels) ds n none few h)).below t facets is)

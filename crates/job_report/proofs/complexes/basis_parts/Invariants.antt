@@ -1,0 +1,7 @@
+use Rattle.std.proofs.Common.{false, length, take}
+use Rattle.std.specs.List.{AllZip}
+use Rattle.report_law.specs.Reports.{IsComplexPart}
+use Rattle.job_report.proofs.complexes.basis_parts.Given as goal
+
+abbrev pub invariant-loop-block : goal.invariant-loop-block
+invariant-loop-block g l = AllZip (IsComplexPart false false g.row.P) (take (length l.yielded) l.blocks) l.parts.items

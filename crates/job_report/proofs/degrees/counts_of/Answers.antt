@@ -1,0 +1,13 @@
+use Rattle.std.proofs.Common.{◌≡◌, ◌∙◌, ℕ, ap, arith, length, map}
+use Rattle.signed_sum.specs.Lists.{numbers_from}
+use Rattle.complex_index.specs.Levels.{level}
+use Rattle.job_report.proofs.Zips.{count-more}
+use Rattle.job_report.proofs.degrees.counts_of.Goals as goal
+
+pub loop-n-preserved : goal.loop-n-preserved
+loop-n-preserved c = count-more (λ n. length (level c.args.index.now n)) c.loop-n.n c.loop-n.counts.items _ _ c.loop-n.invariant c.count.ensures c.in_ok-push.ensures.items
+
+pub returns : goal.returns
+returns c =
+    let e : c.loop-n.n ≡ length c.args.index.now = omega arith in
+    c.loop-n.invariant ∙ ap (λ (k : ℕ). map (λ n. length (level c.args.index.now n)) (numbers_from 0 k)) e

@@ -1,0 +1,10 @@
+use Rattle.std.proofs.Common.{List, [], take}
+use Rattle.std.specs.List.{AllZip}
+use Rattle.report_law.specs.Matrices.{Classes}
+use Rattle.report_law.specs.Reports.{IsMapPart}
+use Rattle.job_report.specs.Jobs.{AreAllListed}
+use Rattle.job_report.proofs.maps.map_parts.Given as goal
+
+abbrev pub invariant-loop-map : goal.invariant-loop-map
+invariant-loop-map g l = (all : List Classes) → AreAllListed {p = g.row.P} g.B.Basis.classes l.known all
+    → AllZip (IsMapPart g.B.Basis.keeps (record { prime = g.row.P; complexes = l.complexes; maps = [] }) all) (take l.map-index l.maps) l.parts.items

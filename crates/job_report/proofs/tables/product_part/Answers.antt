@@ -1,0 +1,37 @@
+use Rattle.std.proofs.Common.{◌∙◌, ◌+◌, ℕ, List, ap, ap₂, length, lit<, map, subst, sym}
+use Rattle.std.specs.List.{AllZip}
+use Rattle.linear_law.specs.Lists.{Each}
+use Rattle.job_report.specs.Listed.{IsListedColumn}
+use Rattle.cohomology.specs.declared.basis.Column.{Column}
+use Rattle.report_law.specs.Parts.{number_pairs, unnumbered}
+use Rattle.job_report.proofs.TableLemmas.{inside, listed-product, products-inside, same-count}
+use Rattle.job_report.proofs.tables.product_part.Goals as goal
+
+pub pair_columns-requires : goal.pair_columns-requires
+pair_columns-requires g c =
+    let p : ℕ = g.row.P in
+    let levels = c.args.index.now in
+    let classes = g.B.Basis.classes c.args.basis.now in
+    let canonical = g.met.B.Basis.canonical levels c.args.basis.now c.requires.of in
+    let is = c.requires.complex in
+    let x = c.args.product in
+    let e = c.deref-2.ensures.value in (
+      lit< tt,
+      (
+        subst (Each (inside p g.B.Basis.keeps levels classes canonical (x.a + x.b))) (sym e)
+            (products-inside p g.B.Basis.keeps levels classes canonical x c.in_ok-columns.columns.items c.in_ok-columns.ensures is.facets is.index),
+        same-count p g.B.Basis.keeps levels classes canonical x c.in_ok-columns.columns.items c.in_ok-columns.ensures is.facets is.index c.deref.result.now
+            (c.deref.ensures.value ∙ c.in_ok-pairs.ensures ∙ ap₂ number_pairs c.rank.ensures c.rank-2.ensures)
+            ∙ ap (λ (cs : List (Column p)). length cs) (sym e),
+      ),
+    )
+
+pub returns : goal.returns
+returns g c =
+    let p : ℕ = g.row.P in
+    let levels = c.args.index.now in
+    let classes = g.B.Basis.classes c.args.basis.now in
+    let canonical = g.met.B.Basis.canonical levels c.args.basis.now c.requires.of in
+    listed-product p g.B.Basis.keeps levels classes canonical c.args.product c.in_ok-columns.columns.items c.in_ok-columns.ensures c.in_ok-columns-2.columns
+    (c.in_ok-columns-2.ensures.numbers ∙ c.deref.ensures.value ∙ c.in_ok-pairs.ensures ∙ ap₂ number_pairs c.rank.ensures c.rank-2.ensures)
+    (subst (λ (cs : List (Column p)). AllZip (IsListedColumn {p = p} g.B.Basis.keeps levels (c.args.product.a + c.args.product.b)) cs (map unnumbered c.in_ok-columns-2.columns)) c.deref-2.ensures.value c.in_ok-columns-2.ensures.columns)

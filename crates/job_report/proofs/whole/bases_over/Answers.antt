@@ -1,0 +1,32 @@
+use Rattle.std.proofs.Common.{ℕ, List, false, subst, sym}
+use Rattle.std.specs.List.{AllZip}
+use Rattle.linear_law.specs.Lists.{Each}
+use Rattle.complex_file.specs.declared.block.ComplexBlock.{ComplexBlock}
+use Rattle.complex_file.specs.Views.{content}
+use Rattle.report.specs.declared.form.Form.TheVariants.{Basis}
+use Rattle.report.specs.declared.map.MapPart.{MapPart}
+use Rattle.report_law.specs.Reports.{IsComplexPart, IsReportOf}
+use Rattle.job_report.specs.declared.known.Known.{Known}
+use Rattle.job_report.specs.Jobs.{CanBeIndexed, IsKnown}
+use Rattle.job_report.proofs.JobLemmas.{is-served, job-fits}
+use Rattle.job_report.proofs.PartLemmas.{bases-report}
+use Rattle.job_report.proofs.whole.bases_over.Goals as goal
+
+pub known_of-requires : goal.known_of-requires
+known_of-requires g c =
+    let p : ℕ = g.row.P in
+    let job = c.args.job.now in
+    let served = is-served job.prime p job.complexes job.maps job.kept c.requires in
+    let fits = job-fits job.prime job.complexes job.maps job.kept in
+    record { prime = served; complexes = subst (λ (bs : List ComplexBlock). Each (λ b. CanBeIndexed b.facets) bs) (sym c.as_slice-blocks.ensures) fits }
+
+pub basis_parts-requires : goal.basis_parts-requires
+basis_parts-requires g c = subst (λ (ks : List (Known _)). AllZip (IsKnown g.B.Basis.is_of) c.as_slice-blocks.result.now ks) (sym c.deref.ensures.value) c.in_ok-known.ensures
+
+pub returns : goal.returns
+returns g c =
+    let p : ℕ = g.row.P in
+    let job = c.args.job.now in
+    let cs = c.in_ok-basis_parts.field-0 in
+    subst (λ (ms : List MapPart). IsReportOf Basis (content job) (record { prime = p; complexes = cs; maps = ms })) (sym c.new.ensures)
+    (bases-report (content job) cs p c.requires (subst (λ (bs : List ComplexBlock). AllZip (IsComplexPart false false p) bs cs) c.as_slice-blocks.ensures c.in_ok-basis_parts.ensures))

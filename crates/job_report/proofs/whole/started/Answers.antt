@@ -1,0 +1,82 @@
+use Rattle.std.proofs.Common.{◌≡◌, ℕ, List, lit<, subst, sym}
+use Rattle.std.specs.Prelude.{None, Some}
+use Rattle.std.specs.List.{AllZip}
+use Rattle.linear_law.specs.Lists.{Each}
+use Rattle.complex_file.specs.declared.block.ComplexBlock.{ComplexBlock}
+use Rattle.report.specs.declared.plan.Sizes.{Sizes}
+use Rattle.report_law.specs.Terms.{AreSizes, passing_sum}
+use Rattle.term_total.specs.Counts.{IsPart}
+use Rattle.job_report.specs.declared.known.Known.{Known}
+use Rattle.job_report.specs.Jobs.{CanBeIndexed, IsKnown, IsSize}
+use Rattle.job_report.specs.Parts.{AreStored}
+use Rattle.job_report.proofs.JobLemmas.{ascending-facets, is-served, job-fits, same-error}
+use Rattle.job_report.proofs.PartLemmas.{all-parts, all-sizes, all-stored}
+use Rattle.job_report.proofs.whole.started.Goals as goal
+
+pub known_of-requires : goal.known_of-requires
+known_of-requires g c =
+    let p : ℕ = g.row.P in
+    let job = c.args.job.now in
+    let served = is-served job.prime p job.complexes job.maps job.kept c.requires.prime in
+    let fits = job-fits job.prime job.complexes job.maps job.kept in
+    record { prime = served; complexes = subst (λ (bs : List ComplexBlock). Each (λ b. CanBeIndexed b.facets) bs) (sym c.as_slice.ensures) fits }
+
+pub charged-requires : goal.charged-requires
+charged-requires g c =
+    let p : ℕ = g.row.P in
+    let job = c.args.job.now in (
+      lit< tt,
+      (
+        is-served job.prime p job.complexes job.maps job.kept c.requires.prime,
+        (
+          c.requires.low,
+          subst (Each IsPart) (sym c.deref-2.ensures.value) (all-parts p g.B.Basis.is_of g.B.Basis.classes g.met.B.Basis.canonical c.deref.result.now c.in_ok-sizes.sizes.items c.in_ok-sizes.ensures),
+        ),
+      ),
+    )
+
+pub returns-in-Ok : goal.returns-in-Ok
+returns-in-Ok g c =
+    let p : ℕ = g.row.P in
+    let job = c.args.job.now in
+    let served = is-served job.prime p job.complexes job.maps job.kept c.requires.prime in
+    let fits = job-fits job.prime job.complexes job.maps job.kept in
+    let zs = c.in_ok-sizes.sizes.items in
+    let known = subst (λ (bs : List ComplexBlock). AllZip (IsKnown g.B.Basis.is_of) bs c.in_ok-known.known.items) c.as_slice.ensures c.in_ok-known.ensures in
+    let sizes = all-sizes p g.B.Basis.is_of g.B.Basis.classes g.met.B.Basis.canonical job.complexes c.in_ok-known.known.items zs (ascending-facets job.complexes fits) known
+    (subst (λ (ks : List (Known _)). AllZip (IsSize {p = p} g.B.Basis.classes) ks zs) c.deref.ensures.value c.in_ok-sizes.ensures) in
+    record {
+      known = known;
+      stored = all-stored p c.in-Ok.table job.complexes zs served (ascending-facets job.complexes fits) sizes (subst (Each (λ (z : Sizes). AreStored p c.in-Ok.table z.ranks)) c.deref-2.ensures.value c.in-Ok.ensures.stored);
+      within = record {
+        sizes = zs;
+        are = subst (λ (q : ℕ). AllZip (λ (b : ComplexBlock) (z : Sizes). AreSizes q b.facets z) job.complexes zs) (sym c.requires.prime) sizes;
+        within = subst (λ (q : ℕ). passing_sum q c.args.limit zs ≡ None) (sym c.requires.prime) (subst (λ (us : List Sizes). passing_sum p c.args.limit us ≡ None) c.deref-2.ensures.value c.in-Ok.ensures.within);
+      };
+      refused = λ count most e. absurd cc;
+    }
+
+pub returns-in-Err : goal.returns-in-Err
+returns-in-Err g c =
+    let p : ℕ = g.row.P in
+    let job = c.args.job.now in
+    let served = is-served job.prime p job.complexes job.maps job.kept c.requires.prime in
+    let fits = job-fits job.prime job.complexes job.maps job.kept in
+    let zs = c.in_ok-sizes.sizes.items in
+    let known = subst (λ (bs : List ComplexBlock). AllZip (IsKnown g.B.Basis.is_of) bs c.in_ok-known.known.items) c.as_slice.ensures c.in_ok-known.ensures in
+    let sizes = all-sizes p g.B.Basis.is_of g.B.Basis.classes g.met.B.Basis.canonical job.complexes c.in_ok-known.known.items zs (ascending-facets job.complexes fits) known
+    (subst (λ (ks : List (Known _)). AllZip (IsSize {p = p} g.B.Basis.classes) ks zs) c.deref.ensures.value c.in_ok-sizes.ensures) in
+    record {
+      known = tt;
+      stored = tt;
+      within = tt;
+      refused = λ count most e.
+          let k = c.in-Err.ensures.refused count most (same-error _ _ e) in (
+            k.0,
+            record {
+              sizes = zs;
+              are = subst (λ (q : ℕ). AllZip (λ (b : ComplexBlock) (z : Sizes). AreSizes q b.facets z) job.complexes zs) (sym c.requires.prime) sizes;
+              passes = subst (λ (q : ℕ). passing_sum q c.args.limit zs ≡ Some count) (sym c.requires.prime) (subst (λ (us : List Sizes). passing_sum p c.args.limit us ≡ Some count) c.deref-2.ensures.value k.1);
+            },
+          );
+    }

@@ -1,0 +1,4 @@
+pub mod Listed
+pub mod Parts
+pub mod Jobs
+pub mod Sends

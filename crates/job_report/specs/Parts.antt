@@ -1,0 +1,64 @@
+-- The parts of a report, over the levels and the classes of a complex.
+use Rattle.std.specs.Prelude.{◌≡◌, ℕ, ◌-◌, Bool, IsSome, IsTrue, List, [], ℤ}
+use Rattle.linear_law.specs.Lists.{Each}
+use Rattle.complex_index.specs.declared.indexed.Cochain.{Cochain}
+use Rattle.complex_index.specs.Levels.{IsIndexOf, level}
+use Rattle.cohomology.specs.Classes.{chains_at}
+use Rattle.may_elements.specs.Stored.{stored_at}
+use Rattle.report.specs.declared.columns.CartanAnswer.{CartanAnswer}
+use Rattle.report.specs.declared.columns.CartanAnswer.TheVariants.{Yes, No}
+use Rattle.report.specs.declared.columns.CartanPart.{CartanPart}
+use Rattle.report.specs.declared.columns.OperationPart.{OperationPart}
+use Rattle.report.specs.declared.columns.ProductPart.{ProductPart}
+use Rattle.report.specs.declared.complex.DegreePart.{DegreePart}
+use Rattle.report.specs.declared.map.InducedPart.{InducedPart}
+use Rattle.report.specs.declared.plan.Block.{Block}
+use Rattle.report.specs.declared.plan.Line.{Line}
+use Rattle.report.specs.declared.plan.Product.{Product}
+use Rattle.report_law.specs.Columns.{ArePrimitives}
+use Rattle.report_law.specs.Parts.{block_of, line_of, product_of}
+use Rattle.report_law.specs.Reports.{IsCartanPart, IsInducedPart, IsOperationPart, IsProductPart}
+use Rattle.report_law.specs.Terms.{complex_elements}
+use Rattle.cartan_check.specs.declared.Verdict.{Verdict}
+use Rattle.cartan_check.specs.declared.Verdict.TheVariants.{Yes as Primitive, No as Cycle}
+use Rattle.job_report.specs.Listed.{IsInside, listed_classes}
+
+-- d lists the degree n: its classes, and where primitives are kept those below it
+pub record IsListedDegree {p : ℕ} (detailed : Bool) (levels : List (List (List ℕ))) (classes : ℕ → List (Cochain p)) (n : ℕ) (d : DegreePart) : Type 0 where
+  pub listed : d.classes ≡ chains_at (level levels n) (classes n)
+  pub below : IsTrue detailed → (facets : List (List ℕ)) → IsIndexOf facets levels → ArePrimitives facets n p d.below
+
+-- x has the heading h, and is what it is to be of each complex with these levels
+pub record IsPartFor {H X : Type 0} (heading : X → H) (levels : List (List (List ℕ))) (Is : List (List ℕ) → X → Type 0) (h : H) (x : X) : Type 0 where
+  pub headed : heading x ≡ h
+  pub part : (facets : List (List ℕ)) → IsIndexOf facets levels → Is facets x
+
+module _ {p : ℕ} (detailed : Bool) (levels : List (List (List ℕ))) (classes : ℕ → List (Cochain p)) where
+  abbrev pub IsListedProduct : Product → ProductPart → Type 0
+  IsListedProduct = IsPartFor product_of levels (λ facets x. IsProductPart detailed facets p (listed_classes levels classes) x)
+
+  abbrev pub IsListedOperation : Block → OperationPart → Type 0
+  IsListedOperation = IsPartFor block_of levels (λ facets o. IsOperationPart detailed facets p (listed_classes levels classes) o)
+
+  abbrev pub IsListedLine : Line → CartanPart → Type 0
+  IsListedLine = IsPartFor line_of levels (λ facets l. IsCartanPart detailed facets p (listed_classes levels classes) l)
+
+-- the matrix in degree q of a map f from a complex with the levels `from` to one with the levels `to`
+abbrev pub IsListedInduced : {p : ℕ} → Bool → (ℕ → ℕ) → List (List (List ℕ)) → List (List (List ℕ)) → (ℕ → List (Cochain p)) → (ℕ → List (Cochain p)) → ℕ → InducedPart → Type 0
+IsListedInduced {p} detailed f from to source target =
+    IsPartFor (λ x. x.q) from (λ facets x. IsInducedPart detailed f facets p (listed_classes from source) (listed_classes to target) x)
+
+-- two answers that agree in what is listed
+abbrev pub IsSameAnswer : Bool → CartanAnswer → CartanAnswer → Type 0
+IsSameAnswer detailed (Yes x) (Yes y) = IsTrue detailed → y ≡ x
+IsSameAnswer detailed (No v x) (No w y) = (w ≡ v) × (IsTrue detailed → y ≡ x)
+IsSameAnswer detailed _ _ = ⊥
+
+-- the May elements of all live blocks and lines are stored
+abbrev pub AreStored : ℕ → List (ℕ × List (List ℕ × ℤ)) → List ℕ → Type 0
+AreStored p table ranks = Each (λ d. IsSome (stored_at d table)) (complex_elements p (record { simplices = []; ranks = ranks }))
+
+-- the chain of a verdict in degree n, if there is one, is at places of simplices
+abbrev pub IsInsideVerdict : {p : ℕ} → List (List (List ℕ)) → ℕ → Verdict p → Type 0
+IsInsideVerdict levels n (Primitive primitive) = IsInside levels (n - 1) primitive
+IsInsideVerdict levels n (Cycle value cycle) = IsInside levels n cycle

@@ -1,0 +1,101 @@
+ghost use Rattle.std.specs.Prelude.{◌≡◌, true, false, IfOk, IsTrue, map};
+ghost use Rattle.std.specs.List.{AllZip};
+ghost use Rattle.fp_field.specs.Served.{served};
+ghost use Rattle.linear_law.specs.Lists.{Each};
+ghost use Rattle.report_law.specs.Parts.{classes_of};
+ghost use Rattle.report_law.specs.Reports.{IsComplexPart};
+ghost use Rattle.job_report.specs.Jobs.{AreAllListed, CanBeIndexed, HasStored, IsKnown};
+ghost use Rattle.job_report.specs.Listed.{listed_classes};
+
+use crate::degrees::{degree_parts, ranks_of};
+use crate::depth::Depth;
+use crate::known::Known;
+use crate::tables::{cartan_parts, operation_parts, product_parts};
+use comch_io::Listed;
+use complex_file::{ComplexBlock, Name};
+use facet_list::maximal_facets;
+use may_elements::MayTable;
+use report::ComplexPart;
+use std::alloc::{AllocError, Global};
+
+/// What is listed of a complex without its tables: its name and its classes.
+fn basis_part<const P: u32, B: Depth<P>>(
+    alloc: Global,
+    block: &ComplexBlock,
+    known: &Known<B>,
+) -> Result<ComplexPart, AllocError>
+    requires { IsKnown B.is_of block.now known.now }
+    ensures { IfOk result (λ c. IsComplexPart false false P block.now c) }
+{
+    Ok(ComplexPart {
+        name: Name::new(alloc, block.name.bytes())?,
+        facets: Listed::new(alloc),
+        degrees: degree_parts(alloc, &known.index, &known.basis)?,
+        products: Listed::new(alloc),
+        operations: Listed::new(alloc),
+        cartans: Listed::new(alloc),
+    })
+}
+
+/// What is listed of the complexes of a job without their tables, in their order.
+pub fn basis_parts<const P: u32, B: Depth<P>>(
+    alloc: Global,
+    blocks: &[ComplexBlock],
+    known: &[Known<B>],
+) -> Result<Listed<ComplexPart>, AllocError>
+    requires { AllZip (IsKnown B.is_of) blocks.now known.now }
+    ensures { IfOk result (λ cs. AllZip (IsComplexPart false false P) blocks.now cs) }
+{
+    let mut parts = Vec::new(alloc);
+    for (block, known) in blocks.iter().zip(known) {
+        parts.push(basis_part(alloc, block, known)?)?;
+    }
+    Ok(Listed::from(parts))
+}
+
+/// What is listed of a complex, with its tables.
+fn complex_part<const P: u32, B: Depth<P>>(
+    alloc: Global,
+    block: &ComplexBlock,
+    known: &Known<B>,
+    table: &MayTable<P>,
+) -> Result<ComplexPart, AllocError>
+    requires prime { IsTrue (served P) }
+    requires complex { CanBeIndexed block.now.facets }
+    requires known { IsKnown B.is_of block.now known.now }
+    requires stored { HasStored P table.now block.now }
+    ensures part { IfOk result (λ c. IsComplexPart true B.keeps P block.now c) }
+    ensures classes { IfOk result (λ c. classes_of c ≡ listed_classes known.now.index (B.classes known.now.basis)) }
+{
+    let Known { index, basis } = known;
+    let ranks = ranks_of(alloc, index, basis)?;
+    Ok(ComplexPart {
+        name: Name::new(alloc, block.name.bytes())?,
+        facets: maximal_facets(alloc, index)?,
+        degrees: degree_parts(alloc, index, basis)?,
+        products: product_parts(alloc, index, basis, &ranks)?,
+        operations: operation_parts(alloc, index, basis, table, &ranks)?,
+        cartans: cartan_parts(alloc, index, basis, table, &ranks)?,
+    })
+}
+
+/// What is listed of the complexes of a job, in their order.
+pub fn complex_parts<const P: u32, B: Depth<P>>(
+    alloc: Global,
+    blocks: &[ComplexBlock],
+    known: &[Known<B>],
+    table: &MayTable<P>,
+) -> Result<Listed<ComplexPart>, AllocError>
+    requires prime { IsTrue (served P) }
+    requires complexes { Each (λ b. CanBeIndexed b.facets) blocks.now }
+    requires known { AllZip (IsKnown B.is_of) blocks.now known.now }
+    requires stored { Each (HasStored P table.now) blocks.now }
+    ensures parts { IfOk result (λ cs. AllZip (IsComplexPart true B.keeps P) blocks.now cs) }
+    ensures classes { IfOk result (λ cs. AreAllListed B.classes known.now (map classes_of cs)) }
+{
+    let mut parts = Vec::new(alloc);
+    for (block, known) in blocks.iter().zip(known) {
+        parts.push(complex_part(alloc, block, known, table)?)?;
+    }
+    Ok(Listed::from(parts))
+}

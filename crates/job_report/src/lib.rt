@@ -1,0 +1,16 @@
+//! The report of a job: the canonical bases of its complexes, its matrices and verdicts, with or without their certificate.
+#![tactic(auto)]
+
+mod chains;
+mod columns;
+mod complexes;
+mod degrees;
+mod depth;
+mod known;
+mod maps;
+mod refused;
+mod tables;
+mod whole;
+
+pub use refused::MakeRefused;
+pub use whole::{make_bases, make_report};
