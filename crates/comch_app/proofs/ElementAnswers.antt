@@ -1,5 +1,5 @@
 -- What is known of a request, and of the candidates of an element.
-use Rattle.std.proofs.Common.{◌≡◌, ℕ, ◌≤◌, ◌^◌, ◌&&◌, Bool, true, false, List, [], ◌∷◌, Some, None, Ok, Err, Result, IfOk, IfSome, ℤ, if◌then◌else◌, nat_le, option_and_then, refl, arith, codes, bytes_eq}
+use Rattle.std.proofs.Common.{◌≡◌, ℕ, ◌≤◌, ◌^◌, ◌&&◌, Bool, true, false, List, [], ◌∷◌, Some, None, Ok, Err, Result, IfOk, IfSome, ℤ, if◌then◌else◌, nat_le, option_and_then, option_map, refl, arith, codes, bytes_eq}
 use Rattle.std.specs.declared.option.Option.{Option}
 use Rattle.std.proofs.lemmas.Bool.{leb-true}
 use Rattle.std.specs.Cmp.Lexicographic.{slice_cmp}
@@ -13,8 +13,8 @@ use Rattle.comch_app.specs.Answers.{IsElementText}
 use Rattle.comch_app.specs.CommandLine.{Given}
 use Rattle.comch_app.specs.Elements.{element_text}
 use Rattle.comch_app.specs.declared.request.Request.{Request}
-use Rattle.comch_app.specs.declared.request.Request.TheVariants.{May}
-use Rattle.comch_app.specs.Requests.{IsAnswerable, basis_request, may_request, number_word, request_by}
+use Rattle.comch_app.specs.declared.request.Request.TheVariants.{Certify, May, Report}
+use Rattle.comch_app.specs.Requests.{IsAnswerable, basis_request, certify_request, limit_of, may_request, number_word, report_request, request_by}
 
 both : (a b : Bool) → (a && b) ≡ true → (a ≡ true) × (b ≡ true)
 both true b e = (refl, e)
@@ -37,6 +37,30 @@ basis_known [] None = tt
 basis_known [] (Some t) = tt
 basis_known (n ∷ ns) t = tt
 
+limited : (n : ℕ) (b : Bool) → (nat_le 1 n && nat_le n (10 ^ 12)) ≡ b → IfSome (if b then Some n else None) (λ l. l ≤ 10 ^ 12)
+limited n true e = leb-true n (10 ^ 12) (both (nat_le 1 n) (nat_le n (10 ^ 12)) e).1
+limited n false e = tt
+
+limit_from : (o : Option ℕ) → IfSome (option_and_then (λ n. if nat_le 1 n && nat_le n (10 ^ 12) then Some n else None) o) (λ l. l ≤ 10 ^ 12)
+limit_from None = tt
+limit_from (Some n) = limited n (nat_le 1 n && nat_le n (10 ^ 12)) refl
+
+limit_known : (t : Option Text) → IfSome (limit_of t) (λ l. l ≤ 10 ^ 12)
+limit_known None = omega arith
+limit_known (Some word) = limit_from (number_word word)
+
+mapped : (o : Option ℕ) (f : ℕ → Request) → ((l : ℕ) → l ≤ 10 ^ 12 → IsAnswerable (f l)) → IfSome o (λ l. l ≤ 10 ^ 12) → IfSome (option_map f o) IsAnswerable
+mapped None f h k = tt
+mapped (Some l) f h k = h l k
+
+report_known : (ns : List Text) (t : Option Text) → IfSome (report_request ns t) IsAnswerable
+report_known [] t = mapped (limit_of t) Report (λ l h. h) (limit_known t)
+report_known (n ∷ ns) t = tt
+
+certify_known : (ns : List Text) (t : Option Text) → IfSome (certify_request ns t) IsAnswerable
+certify_known [] t = mapped (limit_of t) Certify (λ l h. h) (limit_known t)
+certify_known (n ∷ ns) t = tt
+
 may_known : (ns : List Text) (t : Option Text) → IfSome (may_request ns t) IsAnswerable
 may_known [] t = tt
 may_known (p ∷ []) t = tt
@@ -48,7 +72,9 @@ may_known (p ∷ d ∷ n ∷ ns) t = tt
 pub answerable : (g : Given) → IfSome (request_by g) IsAnswerable
 answerable g = from g.command _ (λ word.
     either (bytes_eq word (codes "basis")) _ _ (basis_known g.numbers g.terms)
-    (either (bytes_eq word (codes "may")) _ _ (may_known g.numbers g.terms) tt))
+    (either (bytes_eq word (codes "report")) _ _ (report_known g.numbers g.terms)
+    (either (bytes_eq word (codes "certify")) _ _ (certify_known g.numbers g.terms)
+    (either (bytes_eq word (codes "may")) _ _ (may_known g.numbers g.terms) tt))))
 
 -- the count tells whether the candidates pass the limit
 pub few : (n c : ℕ) → c ≡ cut_off n → c ≤ 10 ^ 8 → n ≤ 10 ^ 8

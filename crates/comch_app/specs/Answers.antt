@@ -1,15 +1,14 @@
 -- What the program answers to words and bytes.
-use Rattle.std.specs.Prelude.{◌≡◌, ◌≤◌, ◌<◌, ◌^◌, ℕ, ℤ, List, map, Ok, Err}
+use Rattle.std.specs.Prelude.{◌≡◌, ◌≤◌, ◌<◌, ◌^◌, ℕ, ℤ, List, Some, Ok, Err, IfSome}
 use Rattle.std.specs.declared.option.Option.{Option}
 use Rattle.std.specs.Io.KnownBytes.{Appends}
-use Rattle.std.specs.List.{AllZip}
-use Rattle.simplicial_law.specs.CanonicalClasses.{AreCanonicalBases}
 use Rattle.comch_io.specs.Reading.{AppendsPrefix}
 use Rattle.complex_file.specs.Input.{Spelled, input_of}
-use Rattle.complex_file.specs.declared.block.ComplexBlock.{ComplexBlock}
-use Rattle.report.specs.declared.complex.ComplexPart.{ComplexPart}
-use Rattle.report.specs.declared.form.Form.TheVariants.{Basis}
+use Rattle.report.specs.declared.form.Form.{Form}
 use Rattle.report.specs.declared.job.Report.{Report}
+use Rattle.report_law.specs.Headline.{Headline}
+use Rattle.report_law.specs.Reports.{IsReportOf}
+use Rattle.report_law.specs.Terms.{IsWithinLimit, PassesLimit}
 use Rattle.report_text_law.specs.Text.{text_of}
 use Rattle.std.specs.Cmp.Lexicographic.{slice_cmp}
 use Rattle.std.specs.Ordering.{nat_cmp}
@@ -22,24 +21,30 @@ use Rattle.comch_app.specs.declared.status.Status.{Status}
 use Rattle.comch_app.specs.declared.status.Status.TheVariants.{Done, BadWords, InputRefused, TooManyTerms, OutOfMemory, ReadFault, WriteFault}
 use Rattle.comch_app.specs.Refusals.{refusal}
 
--- What is printed of a complex: its name, and for each degree up to its dimension the canonical classes at the prime p,
--- which are a basis of the cohomology of that degree.
-pub record IsBasisPart (p : ℕ) (block : ComplexBlock) (part : ComplexPart) : Type 0 where
-  pub name : part.name ≡ block.name
-  pub bases : AreCanonicalBases block.facets p (map (λ d. d.classes) part.degrees)
+-- ---- bases, reports and certificates
 
--- the text of the bases of a job: what is printed of each complex, in the order of the file
-abbrev pub IsBasisText : Spelled → List ℕ → Type 0
-IsBasisText job text = (r : Report) × (r.prime ≡ job.prime) × AllZip (IsBasisPart job.prime) job.complexes r.complexes × (text ≡ text_of Basis r)
+-- The text of the report of a job in a form: what is listed is the job's canonical data, and the headline holds of it.
+pub record IsReportText (form : Form) (job : Spelled) (text : List ℕ) : Type 0 where
+  pub report : Report
+  pub of_job : IsReportOf form job report
+  pub headline : Headline form job report
+  pub text_is : text ≡ text_of form report
 
--- What `basis` may answer to these bytes: the text of the bases of the job that they spell, or the line of their first
--- fault. Want of memory and a failed read may stand in the place of both.
-abbrev pub BasisAnswers : List ℕ → Status → List ℕ → Type 0
-BasisAnswers bytes Done text = (job : Spelled) × (input_of bytes ≡ Ok job) × IsBasisText job text
-BasisAnswers bytes (InputRefused kind line) text = (input_of bytes ≡ Err (record { kind = kind; line = line })) × (text ≡ refusal (InputRefused kind line))
-BasisAnswers bytes OutOfMemory text = text ≡ refusal OutOfMemory
-BasisAnswers bytes ReadFault text = text ≡ refusal ReadFault
-BasisAnswers bytes _ text = ⊥
+-- What is answered to a job: the text of its report, or, where there is a limit, that its counted terms pass it.
+abbrev pub JobAnswers : Form → Option ℕ → Spelled → Status → List ℕ → Type 0
+JobAnswers form limit job Done text = IfSome limit (IsWithinLimit job) × IsReportText form job text
+JobAnswers form limit job (TooManyTerms count most) text = (limit ≡ Some most) × PassesLimit job most count × (text ≡ refusal (TooManyTerms count most))
+JobAnswers form limit job _ text = ⊥
+
+-- What may be answered to these bytes, where a report in this form is wanted: the answer to the job that they spell, or
+-- the line of their first fault. Want of memory and a failed read may stand in the place of both.
+abbrev pub ReportAnswers : Form → Option ℕ → List ℕ → Status → List ℕ → Type 0
+ReportAnswers form limit bytes (InputRefused kind line) text = (input_of bytes ≡ Err (record { kind = kind; line = line })) × (text ≡ refusal (InputRefused kind line))
+ReportAnswers form limit bytes OutOfMemory text = text ≡ refusal OutOfMemory
+ReportAnswers form limit bytes ReadFault text = text ≡ refusal ReadFault
+ReportAnswers form limit bytes status text = (job : Spelled) × (input_of bytes ≡ Ok job) × JobAnswers form limit job status text
+
+-- ---- May elements
 
 -- the text of the May element of degree d for p: its terms are ascending lists of values, none with the coefficient 0
 abbrev pub IsElementText : ℕ → ℕ → List ℕ → Type 0
@@ -52,6 +57,8 @@ MayAnswers p d (TooManyTerms count limit) text =
     (10 ^ 8 < candidate_count p d) × (count ≡ cut_off (candidate_count p d)) × (limit ≡ 10 ^ 8) × (text ≡ refusal (TooManyTerms count limit))
 MayAnswers p d OutOfMemory text = text ≡ refusal OutOfMemory
 MayAnswers p d _ text = ⊥
+
+-- ---- runs
 
 -- What may be answered to words that are not taken.
 abbrev pub RefusesWords : Status → List ℕ → Type 0

@@ -2,8 +2,6 @@ pub mod Codes
 pub mod CommandLine
 pub mod Requests
 pub mod Refusals
-pub mod Blocks
-pub mod Chains
 pub mod Elements
 pub mod Answers
 pub mod Steps

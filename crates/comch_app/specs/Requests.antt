@@ -1,12 +1,12 @@
 -- Which words are taken, and what they ask for.
-use Rattle.std.specs.Prelude.{◌≤◌, ℕ, ◌&&◌, nat_le, length, List, [], ◌∷◌, Some, None, IsTrue, codes, if◌then◌else◌, option_and_then}
+use Rattle.std.specs.Prelude.{◌≤◌, ◌^◌, ℕ, ◌&&◌, nat_le, length, List, [], ◌∷◌, Some, None, IsTrue, codes, if◌then◌else◌, option_and_then, option_map}
 use Rattle.std.specs.declared.option.Option.{Option}
 use Rattle.std.specs.Str.{bytes_eq}
 use Rattle.clap.specs.Words.{Text}
 use Rattle.fp_field.specs.Served.{served}
 use Rattle.complex_file.specs.Text.{is_not_empty, number_after}
 use Rattle.comch_app.specs.declared.request.Request.{Request}
-use Rattle.comch_app.specs.declared.request.Request.TheVariants.{Basis, May}
+use Rattle.comch_app.specs.declared.request.Request.TheVariants.{Basis, Report, Certify, May}
 use Rattle.comch_app.specs.CommandLine.{Given, given}
 
 -- the number that a word of one to thirteen digits writes
@@ -17,6 +17,20 @@ number_word word = if is_not_empty word && nat_le (length word) 13 then number_a
 abbrev pub basis_request : List Text → Option Text → Option Request
 basis_request [] None = Some Basis
 basis_request _ _ = None
+
+-- the limit that `--terms` gives, from 1 to 10^12, and 10^8 where it does not stand
+abbrev pub limit_of : Option Text → Option ℕ
+limit_of None = Some (10 ^ 8)
+limit_of (Some word) = option_and_then (λ n. if nat_le 1 n && nat_le n (10 ^ 12) then Some n else None) (number_word word)
+
+-- `report` and `certify` stand without numbers
+abbrev pub report_request : List Text → Option Text → Option Request
+report_request [] terms = option_map Report (limit_of terms)
+report_request _ _ = None
+
+abbrev pub certify_request : List Text → Option Text → Option Request
+certify_request [] terms = option_map Certify (limit_of terms)
+certify_request _ _ = None
 
 -- the prime is one that is served, and the degree is from 0 to 60
 abbrev pub may_at : ℕ → ℕ → Option Request
@@ -30,7 +44,9 @@ may_request _ _ = None
 abbrev pub request_named : Text → List Text → Option Text → Option Request
 request_named word numbers terms =
     if bytes_eq word (codes "basis") then basis_request numbers terms
-    else (if bytes_eq word (codes "may") then may_request numbers terms else None)
+    else (if bytes_eq word (codes "report") then report_request numbers terms
+    else (if bytes_eq word (codes "certify") then certify_request numbers terms
+    else (if bytes_eq word (codes "may") then may_request numbers terms else None)))
 
 abbrev pub request_by : Given → Option Request
 request_by g = option_and_then (λ word. request_named word g.numbers g.terms) g.command
@@ -39,7 +55,16 @@ request_by g = option_and_then (λ word. request_named word g.numbers g.terms) g
 abbrev pub request_of : List Text → Option Request
 request_of words = option_and_then request_by (given words)
 
--- the prime and the degree of a request are within their limits
+-- the numbers of a request are within their limits
 abbrev pub IsAnswerable : Request → Type 0
 IsAnswerable Basis = Unit {0}
+IsAnswerable (Report limit) = limit ≤ 10 ^ 12
+IsAnswerable (Certify limit) = limit ≤ 10 ^ 12
 IsAnswerable (May p d) = IsTrue (served p) × (d ≤ 60)
+
+-- the request is answered from a job that is read
+abbrev pub ReadsJob : Option Request → Type 0
+ReadsJob (Some Basis) = Unit {0}
+ReadsJob (Some (Report limit)) = Unit {0}
+ReadsJob (Some (Certify limit)) = Unit {0}
+ReadsJob _ = ⊥

@@ -1,5 +1,5 @@
 -- What the steps of a run give: forms for the contracts of private functions.
-use Rattle.std.specs.Prelude.{◌≡◌, ◌⊎◌, ℕ, ◌≤◌, List, Err, Result}
+use Rattle.std.specs.Prelude.{◌≡◌, ◌⊎◌, ℕ, ◌≤◌, ◌^◌, List, Some, None, Err, Result}
 use Rattle.std.specs.declared.option.Option.{Option}
 use Rattle.std.specs.Io.KnownBytes.{Appends, IsAtEnd}
 use Rattle.comch_io.specs.Causes.{Rose}
@@ -8,6 +8,11 @@ use Rattle.comch_app.specs.declared.status.Status.{Status}
 use Rattle.comch_app.specs.declared.status.Status.TheVariants.{Done, InputRefused, TooManyTerms, WriteFault}
 use Rattle.comch_app.specs.declared.answer.Stop.{Stop}
 use Rattle.comch_app.specs.declared.answer.Stop.TheVariants as stop
+use Rattle.comch_app.specs.declared.answer.Wanted.{Wanted}
+use Rattle.comch_app.specs.declared.answer.Wanted.TheVariants as wanted
+use Rattle.complex_file.specs.Input.{Spelled}
+use Rattle.report.specs.declared.form.Form.TheVariants.{Basis}
+use Rattle.comch_app.specs.Answers.{JobAnswers, ReportAnswers}
 use Rattle.comch_app.specs.Refusals.{refusal}
 
 -- a stop at a read comes only where the count of faults rose, and everything else leaves the count
@@ -33,3 +38,17 @@ SaysIt status text old new result = ((result ≡ status) × Appends old new text
 
 abbrev pub SaidCause : Status → ℕ → ℕ → Status → Type 0
 SaidCause status before now result = ((result ≡ status) × (now ≡ before)) ⊎ ((result ≡ WriteFault) × (before ≤ now) × Rose before now)
+
+-- a limit that is wanted is within its own
+abbrev pub IsWithinMost : Wanted → Type 0
+IsWithinMost wanted.Bases = Unit {0}
+IsWithinMost (wanted.Report form limit) = limit ≤ 10 ^ 12
+
+-- what is answered to a job, and to bytes
+abbrev pub WantedOf : Wanted → Spelled → Status → List ℕ → Type 0
+WantedOf wanted.Bases = JobAnswers Basis None
+WantedOf (wanted.Report form limit) = JobAnswers form (Some limit)
+
+abbrev pub WantedAnswers : Wanted → List ℕ → Status → List ℕ → Type 0
+WantedAnswers wanted.Bases = ReportAnswers Basis None
+WantedAnswers (wanted.Report form limit) = ReportAnswers form (Some limit)

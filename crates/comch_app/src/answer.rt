@@ -1,19 +1,27 @@
-ghost use Rattle.std.specs.Prelude.{◌≡◌, IfOk, IfSome};
+ghost use Rattle.std.specs.Prelude.{◌≡◌, ◌≤◌, ◌^◌, IfOk, IfSome, None, Some};
 ghost use Rattle.complex_file.specs.Views.{content};
-ghost use Rattle.comch_app.specs.Answers.{BasisAnswers, IsBasisText};
-ghost use Rattle.comch_app.specs.Refusals.{refusal};
-ghost use Rattle.comch_app.specs.Steps.{IsMade, IsReadWhole, StopCause};
+ghost use Rattle.comch_app.specs.Answers.{IsReportText, JobAnswers};
+ghost use Rattle.comch_app.specs.Steps.{IsMade, IsReadWhole, IsWithinMost, StopCause, WantedAnswers, WantedOf};
 
 use crate::Status;
-use crate::bases::basis_report;
-use crate::refusal::input_refusal;
+use crate::refusal::{input_refused, too_many_terms};
 use comch_io::{Bytes, ReadEnd, Source, read_all};
 use complex_file::{InputKind, Job, JobRefused, read_job};
+use job_report::{MakeRefused, make_bases, make_report};
 use report_text::{Form, print};
 use std::alloc::{AllocError, Global};
 
 // How many bytes a job may have.
 const LIMIT: u64 = 1_048_576;
+
+/// What is wanted of a job.
+#[derive(Clone, Copy, Debug, PartialEq, Eq)]
+pub enum Wanted {
+    /// Its bases.
+    Bases,
+    /// Its report in a form, where its counted terms do not pass the limit.
+    Report { form: Form, limit: u64 },
+}
 
 /// Why no answer was made.
 #[derive(Clone, Copy, Debug, PartialEq, Eq)]
@@ -33,48 +41,75 @@ impl From<AllocError> for Stop {
     }
 }
 
-// The refusal of an input.
-fn refused(alloc: Global, kind: InputKind, line: u64) -> Result<(Status, Bytes), AllocError>
-    ensures status { IfOk result (λ p. p.0 ≡ Status.InputRefused kind line) }
-    ensures text { IfOk result (λ p. p.1 ≡ refusal (Status.InputRefused kind line)) }
+// The bases of a job.
+fn bases_answer(alloc: Global, job: &Job) -> Result<(Status, Bytes), AllocError>
+    ensures { IfOk result (λ p. JobAnswers Form.Basis None (content job.now) p.0 p.1) }
 {
-    let text = input_refusal(alloc, kind, line)?;
-    Ok((Status::InputRefused { kind, line }, text))
-}
-
-// The answer to a job.
-fn job_answer(alloc: Global, job: &Job) -> Result<(Status, Bytes), AllocError>
-    ensures status { IfOk result (λ p. p.0 ≡ Status.Done) }
-    ensures text { IfOk result (λ p. IsBasisText (content job.now) p.1) }
-{
-    let report = basis_report(alloc, job)?;
+    let report = make_bases(alloc, job)?;
     let text = print(alloc, &report, Form::Basis)?;
     Ok((Status::Done, text))
 }
 
-// The answer to the bytes of an input.
-fn bytes_answer(alloc: Global, bytes: &[u8]) -> Result<(Status, Bytes), AllocError>
-    ensures answer { IfOk result (λ p. BasisAnswers bytes.now p.0 p.1) }
-    ensures made { IfOk result (λ p. IsMade p.0 p.1) }
+// The report of a job, or that its counted terms pass the limit.
+fn report_answer(
+    alloc: Global,
+    job: &Job,
+    form: Form,
+    limit: u64,
+) -> Result<(Status, Bytes), AllocError>
+    requires { limit ≤ 10 ^ 12 }
+    ensures { IfOk result (λ p. JobAnswers form (Some limit) (content job.now) p.0 p.1) }
 {
-    match read_job(alloc, bytes) {
-        Ok(job) => job_answer(alloc, &job),
-        Err(JobRefused::OutOfMemory) => Err(AllocError),
-        Err(JobRefused::InputRefused { kind, line }) => refused(alloc, kind, line),
+    match make_report(alloc, job, form, limit) {
+        Ok(report) => {
+            let text = print(alloc, &report, form)?;
+            Ok((Status::Done, text))
+        }
+        Err(MakeRefused::TooManyTerms { count, limit }) => too_many_terms(alloc, count, limit),
+        Err(MakeRefused::OutOfMemory) => Err(AllocError),
     }
 }
 
-/// The status and the text that `basis` answers to what the source has left. All is read before
+// The answer to a job.
+fn job_answer(alloc: Global, job: &Job, wanted: Wanted) -> Result<(Status, Bytes), AllocError>
+    requires { IsWithinMost wanted }
+    ensures { IfOk result (λ p. WantedOf wanted (content job.now) p.0 p.1) }
+{
+    match wanted {
+        Wanted::Bases => bases_answer(alloc, job),
+        Wanted::Report { form, limit } => report_answer(alloc, job, form, limit),
+    }
+}
+
+// The answer to the bytes of an input.
+fn bytes_answer(alloc: Global, bytes: &[u8], wanted: Wanted) -> Result<(Status, Bytes), AllocError>
+    requires { IsWithinMost wanted }
+    ensures answer { IfOk result (λ p. WantedAnswers wanted bytes.now p.0 p.1) }
+    ensures made { IfOk result (λ p. IsMade p.0 p.1) }
+{
+    match read_job(alloc, bytes) {
+        Ok(job) => job_answer(alloc, &job, wanted),
+        Err(JobRefused::OutOfMemory) => Err(AllocError),
+        Err(JobRefused::InputRefused { kind, line }) => input_refused(alloc, kind, line),
+    }
+}
+
+/// The status and the text that are answered to what the source has left. All is read before
 /// anything is made.
-pub fn basis<S: Source>(alloc: Global, source: &mut S) -> Result<(Status, Bytes), Stop>
-    ensures answer { IfSome (S.left source.old) (λ bytes. IfOk result (λ p. BasisAnswers bytes p.0 p.1)) }
+pub fn answer<S: Source>(
+    alloc: Global,
+    source: &mut S,
+    wanted: Wanted,
+) -> Result<(Status, Bytes), Stop>
+    requires { IsWithinMost wanted }
+    ensures answer { IfSome (S.left source.old) (λ bytes. IfOk result (λ p. WantedAnswers wanted bytes p.0 p.1)) }
     ensures made { IfOk result (λ p. IsMade p.0 p.1) }
     ensures whole { IfOk result (λ p. IsReadWhole (S.left source.new) p.0) }
     ensures cause { StopCause (S.faults source.old) (S.faults source.new) result }
 {
     match read_all(alloc, source, LIMIT) {
-        Ok(bytes) => Ok(bytes_answer(alloc, bytes.as_slice())?),
-        Err(ReadEnd::TooLong) => Ok(refused(alloc, InputKind::TooLong, 0)?),
+        Ok(bytes) => Ok(bytes_answer(alloc, bytes.as_slice(), wanted)?),
+        Err(ReadEnd::TooLong) => Ok(input_refused(alloc, InputKind::TooLong, 0)?),
         Err(ReadEnd::Fault) => Err(Stop::Read),
         Err(ReadEnd::OutOfMemory) => Err(Stop::Memory),
     }

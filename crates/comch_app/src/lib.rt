@@ -2,8 +2,6 @@
 #![tactic(auto)]
 
 mod answer;
-mod bases;
-mod chains;
 mod may;
 mod refusal;
 mod request;
@@ -13,6 +11,3 @@ mod words;
 
 pub use status::Status;
 pub use top::run;
-
-#[cfg(test)]
-mod tests;

@@ -7,15 +7,13 @@ ghost use Rattle.comch_app.specs.Elements.{element_heading, element_text, spaced
 ghost use Rattle.comch_app.specs.Steps.{IsMade};
 
 use crate::Status;
-use crate::refusal::{add_number, terms_refusal};
+use crate::refusal::{add_number, too_many_terms};
+use crate::request::DEFAULT_LIMIT;
 use comch_io::Bytes;
 use may_elements::MayTable;
 use operad_law::formal_sum::FormalSum;
 use std::alloc::{AllocError, Global};
 use surjection::surj::Surj;
-
-// How many candidates an element may have.
-const LIMIT: u64 = 100_000_000;
 
 // Adds the values of a surjection, each behind a blank.
 #[tactic(auto, using(crate::proofs::Printed::flat_more))]
@@ -101,15 +99,8 @@ fn answer_at<const P: u32>(alloc: Global, degree: u32) -> Result<(Status, Bytes)
     ensures made { IfOk result (λ p. IsMade p.0 p.1) }
 {
     let count = MayTable::<P>::candidates(degree);
-    if count > LIMIT {
-        let text = terms_refusal(alloc, count, LIMIT)?;
-        return Ok((
-            Status::TooManyTerms {
-                count,
-                limit: LIMIT,
-            },
-            text,
-        ));
+    if count > DEFAULT_LIMIT {
+        return too_many_terms(alloc, count, DEFAULT_LIMIT);
     }
     let element = MayTable::<P>::build(alloc, degree)?;
     let text = printed(alloc, P, degree, &element)?;

@@ -15,8 +15,8 @@ pub fn add_number(alloc: Global, text: &mut Bytes, n: u64) -> Result<(), AllocEr
     text.extend(digits.as_bytes())
 }
 
-/// The line of a refused input.
-pub fn input_refusal(alloc: Global, kind: InputKind, line: u64) -> Result<Bytes, AllocError>
+// The line of a refused input.
+fn input_line(alloc: Global, kind: InputKind, line: u64) -> Result<Bytes, AllocError>
     ensures { IfOk result (λ b. b ≡ refusal (Status.InputRefused kind line)) }
 {
     let mut text = Bytes::new(alloc);
@@ -28,8 +28,21 @@ pub fn input_refusal(alloc: Global, kind: InputKind, line: u64) -> Result<Bytes,
     Ok(text)
 }
 
-/// The line of a refusal for the number of terms.
-pub fn terms_refusal(alloc: Global, count: u64, limit: u64) -> Result<Bytes, AllocError>
+/// The answer to an input that spells no job.
+pub fn input_refused(
+    alloc: Global,
+    kind: InputKind,
+    line: u64,
+) -> Result<(Status, Bytes), AllocError>
+    ensures status { IfOk result (λ p. p.0 ≡ Status.InputRefused kind line) }
+    ensures text { IfOk result (λ p. p.1 ≡ refusal (Status.InputRefused kind line)) }
+{
+    let text = input_line(alloc, kind, line)?;
+    Ok((Status::InputRefused { kind, line }, text))
+}
+
+// The line of a refusal for the number of terms.
+fn terms_line(alloc: Global, count: u64, limit: u64) -> Result<Bytes, AllocError>
     ensures { IfOk result (λ b. b ≡ refusal (Status.TooManyTerms count limit)) }
 {
     let mut text = Bytes::new(alloc);
@@ -39,4 +52,13 @@ pub fn terms_refusal(alloc: Global, count: u64, limit: u64) -> Result<Bytes, All
     add_number(alloc, &mut text, limit)?;
     text.push(b'\n')?;
     Ok(text)
+}
+
+/// The answer where the counted terms pass the limit.
+pub fn too_many_terms(alloc: Global, count: u64, limit: u64) -> Result<(Status, Bytes), AllocError>
+    ensures status { IfOk result (λ p. p.0 ≡ Status.TooManyTerms count limit) }
+    ensures text { IfOk result (λ p. p.1 ≡ refusal (Status.TooManyTerms count limit)) }
+{
+    let text = terms_line(alloc, count, limit)?;
+    Ok((Status::TooManyTerms { count, limit }, text))
 }

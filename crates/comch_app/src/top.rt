@@ -1,17 +1,19 @@
-ghost use Rattle.std.specs.Prelude.{◌≡◌, ℕ, ◌<◌, ◌⊎◌, IfSome, None, Some, map, string_bytes};
+ghost use Rattle.std.specs.Prelude.{◌≡◌, ◌≢◌, ℕ, ◌<◌, ◌≤◌, ◌⊎◌, IfSome, IsTrue, None, Some, map, string_bytes};
 ghost use Rattle.std.specs.Io.KnownBytes.{IsAtEnd};
 ghost use Rattle.comch_io.specs.Causes.{Rose};
-ghost use Rattle.comch_app.specs.declared.request.Request.TheVariants.{Basis, May};
-ghost use Rattle.comch_app.specs.Answers.{BasisAnswers, Ends, MayAnswers, RefusesWords, WritesRefusal};
-ghost use Rattle.comch_app.specs.Requests.{request_of};
-ghost use Rattle.comch_app.specs.Steps.{SaidCause, SaysIt};
+ghost use Rattle.fp_field.specs.Served.{served};
+ghost use Rattle.comch_app.specs.declared.request.Request.TheVariants.{Basis, Certify, May, Report};
+ghost use Rattle.comch_app.specs.Answers.{Ends, MayAnswers, RefusesWords, ReportAnswers, WritesRefusal};
+ghost use Rattle.comch_app.specs.Requests.{ReadsJob, request_of};
+ghost use Rattle.comch_app.specs.Steps.{IsWithinMost, SaidCause, SaysIt, WantedAnswers};
 
 use crate::Status;
-use crate::answer::{Stop, basis};
+use crate::answer::{Stop, Wanted, answer};
 use crate::may::may;
 use crate::request::Request;
 use crate::words::request_of;
 use comch_io::{Sink, Source, write_all};
+use report_text::Form;
 use std::alloc::Global;
 
 // Writes a text, and ends with this status.
@@ -22,6 +24,49 @@ fn said<K: Sink>(sink: &mut K, status: Status, text: &[u8]) -> Status
     match write_all(sink, text) {
         Ok(()) => status,
         Err(_) => Status::WriteFault,
+    }
+}
+
+// Writes what is wanted of the job that the source has left.
+fn job_run<S: Source, K: Sink>(
+    alloc: Global,
+    source: &mut S,
+    sink: &mut K,
+    wanted: Wanted,
+) -> Status
+    requires { IsWithinMost wanted }
+    ensures answers { IfSome (S.left source.old) (λ bytes.
+        Ends (WantedAnswers wanted bytes) (K.written sink.old) (K.written sink.new) result) }
+    ensures words { result ≢ Status.BadWords }
+    ensures refusal { WritesRefusal (K.written sink.old) (K.written sink.new) result }
+    ensures whole { result ≡ Status.Done → IsAtEnd (S.left source.new) }
+    ensures read { result ≡ Status.ReadFault → Rose (S.faults source.old) (S.faults source.new) }
+    ensures write { result ≡ Status.WriteFault → Rose (K.faults sink.old) (K.faults sink.new) }
+    ensures reads { S.faults source.old < S.faults source.new →
+        (result ≡ Status.ReadFault) ⊎ (result ≡ Status.WriteFault) }
+    ensures writes { K.faults sink.old < K.faults sink.new → result ≡ Status.WriteFault }
+{
+    match answer(alloc, source, wanted) {
+        Ok((status, text)) => said(sink, status, text.as_slice()),
+        Err(Stop::Memory) => said(sink, Status::OutOfMemory, b"refused memory\n"),
+        Err(Stop::Read) => said(sink, Status::ReadFault, b"refused read\n"),
+    }
+}
+
+// Writes the May element of a degree for a prime.
+fn may_run<K: Sink>(alloc: Global, sink: &mut K, prime: u32, degree: u32) -> Status
+    requires prime { IsTrue (served prime) }
+    requires low { degree ≤ 60 }
+    ensures answers { Ends (MayAnswers prime degree) (K.written sink.old) (K.written sink.new) result }
+    ensures words { result ≢ Status.BadWords }
+    ensures refusal { WritesRefusal (K.written sink.old) (K.written sink.new) result }
+    ensures read { result ≢ Status.ReadFault }
+    ensures write { result ≡ Status.WriteFault → Rose (K.faults sink.old) (K.faults sink.new) }
+    ensures writes { K.faults sink.old < K.faults sink.new → result ≡ Status.WriteFault }
+{
+    match may(alloc, prime, degree) {
+        Ok((status, text)) => said(sink, status, text.as_slice()),
+        Err(_) => said(sink, Status::OutOfMemory, b"refused memory\n"),
     }
 }
 
@@ -41,19 +86,25 @@ pub fn run<S: Source, K: Sink>(
         × (source.new ≡ source.old) }
     ensures words { result ≡ Status.BadWords → request_of (map string_bytes words.now) ≡ None }
 
-    // What `basis` answers, where the source tells what it has left.
+    // What `basis`, `report` and `certify` answer, where the source tells what it has left.
     ensures basis { request_of (map string_bytes words.now) ≡ Some Basis →
         IfSome (S.left source.old) (λ bytes.
-        Ends (BasisAnswers bytes) (K.written sink.old) (K.written sink.new) result) }
+        Ends (ReportAnswers Form.Basis None bytes) (K.written sink.old) (K.written sink.new) result) }
+    ensures report { (limit : ℕ) → request_of (map string_bytes words.now) ≡ Some (Report limit) →
+        IfSome (S.left source.old) (λ bytes.
+        Ends (ReportAnswers Form.Short (Some limit) bytes) (K.written sink.old) (K.written sink.new) result) }
+    ensures certify { (limit : ℕ) → request_of (map string_bytes words.now) ≡ Some (Certify limit) →
+        IfSome (S.left source.old) (λ bytes.
+        Ends (ReportAnswers Form.Certificate (Some limit) bytes) (K.written sink.old) (K.written sink.new) result) }
 
     // What `may` answers; nothing is read.
     ensures may { (p d : ℕ) → request_of (map string_bytes words.now) ≡ Some (May p d) →
         Ends (MayAnswers p d) (K.written sink.old) (K.written sink.new) result
         × (source.new ≡ source.old) }
 
-    // Whatever the source tells, a refusal is one line, and a run of `basis` that is done has read to the end.
+    // Whatever the source tells, a refusal is one line, and a run over a job that is done has read to the end.
     ensures refusal { WritesRefusal (K.written sink.old) (K.written sink.new) result }
-    ensures whole { request_of (map string_bytes words.now) ≡ Some Basis → result ≡ Status.Done → IsAtEnd (S.left source.new) }
+    ensures whole { ReadsJob (request_of (map string_bytes words.now)) → result ≡ Status.Done → IsAtEnd (S.left source.new) }
 
     // Faults have their causes, and none is passed over.
     ensures read { result ≡ Status.ReadFault → Rose (S.faults source.old) (S.faults source.new) }
@@ -65,14 +116,15 @@ pub fn run<S: Source, K: Sink>(
     match request_of(alloc, words) {
         Err(_) => said(sink, Status::OutOfMemory, b"refused memory\n"),
         Ok(None) => said(sink, Status::BadWords, b"refused words\n"),
-        Ok(Some(Request::Basis)) => match basis(alloc, source) {
-            Ok((status, text)) => said(sink, status, text.as_slice()),
-            Err(Stop::Memory) => said(sink, Status::OutOfMemory, b"refused memory\n"),
-            Err(Stop::Read) => said(sink, Status::ReadFault, b"refused read\n"),
-        },
-        Ok(Some(Request::May { prime, degree })) => match may(alloc, prime, degree) {
-            Ok((status, text)) => said(sink, status, text.as_slice()),
-            Err(_) => said(sink, Status::OutOfMemory, b"refused memory\n"),
-        },
+        Ok(Some(Request::Basis)) => job_run(alloc, source, sink, Wanted::Bases),
+        Ok(Some(Request::Report { limit })) => {
+            let form = Form::Short;
+            job_run(alloc, source, sink, Wanted::Report { form, limit })
+        }
+        Ok(Some(Request::Certify { limit })) => {
+            let form = Form::Certificate;
+            job_run(alloc, source, sink, Wanted::Report { form, limit })
+        }
+        Ok(Some(Request::May { prime, degree })) => may_run(alloc, sink, prime, degree),
     }
 }

@@ -2,9 +2,9 @@ ghost use Rattle.std.specs.Prelude.{◌≡◌, Some, IfOk, IfSome, map, MatchRes
 ghost use Rattle.clap.specs.Words.{app_of, kind_of, found_of};
 ghost use Rattle.comch_app.specs.CommandLine.{given, given_in, line, GivesUp, IsRule, command_rule, numbers_rule, terms_rule};
 ghost use Rattle.complex_file.specs.Text.{is_digit};
-ghost use Rattle.comch_app.specs.Requests.{IsAnswerable, basis_request, may_at, may_request, number_word, request_of, request_by, request_named};
+ghost use Rattle.comch_app.specs.Requests.{IsAnswerable, basis_request, certify_request, limit_of, may_at, may_request, number_word, report_request, request_of, request_by, request_named};
 
-use crate::request::Request;
+use crate::request::{DEFAULT_LIMIT, Request};
 use clap::error::ErrorKind;
 use clap::{Arg, ArgMatches, Command, Error};
 use fp_field::served;
@@ -12,6 +12,9 @@ use std::alloc::{AllocError, Global};
 
 // The greatest degree of a May element that may be asked for.
 const MOST_DEGREE: u64 = 60;
+
+// The greatest limit on the counted terms.
+const MOST_TERMS: u64 = 1_000_000_000_000;
 
 // The word that names a command.
 fn command_arg<'a>(alloc: Global) -> Arg<'a>
@@ -89,6 +92,41 @@ fn basis_request(numbers: &[&str], terms: Option<&str>) -> Option<Request>
     }
 }
 
+// The limit that `--terms` gives, or the one that stands where it is not given.
+fn limit_of(terms: Option<&str>) -> Option<u64>
+    ensures { result ≡ limit_of (option_map (λ s. s.now) terms.entry) }
+{
+    let Some(word) = terms else {
+        return Some(DEFAULT_LIMIT);
+    };
+    let limit = number_of(word)?;
+    if 1 <= limit && limit <= MOST_TERMS {
+        Some(limit)
+    } else {
+        None
+    }
+}
+
+fn report_request(numbers: &[&str], terms: Option<&str>) -> Option<Request>
+    ensures { result ≡ report_request (map (λ s. s.now) numbers.now) (option_map (λ s. s.now) terms.entry) }
+{
+    if !numbers.is_empty() {
+        return None;
+    }
+    let limit = limit_of(terms)?;
+    Some(Request::Report { limit })
+}
+
+fn certify_request(numbers: &[&str], terms: Option<&str>) -> Option<Request>
+    ensures { result ≡ certify_request (map (λ s. s.now) numbers.now) (option_map (λ s. s.now) terms.entry) }
+{
+    if !numbers.is_empty() {
+        return None;
+    }
+    let limit = limit_of(terms)?;
+    Some(Request::Certify { limit })
+}
+
 // The request of the element of a degree for a prime, where both are within their limits.
 fn may_at(prime: u64, degree: u64) -> Option<Request>
     ensures { result ≡ may_at prime degree }
@@ -118,6 +156,10 @@ fn request_named(word: &str, numbers: &[&str], terms: Option<&str>) -> Option<Re
 {
     if word == "basis" {
         basis_request(numbers, terms)
+    } else if word == "report" {
+        report_request(numbers, terms)
+    } else if word == "certify" {
+        certify_request(numbers, terms)
     } else if word == "may" {
         may_request(numbers, terms)
     } else {

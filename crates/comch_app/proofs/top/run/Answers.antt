@@ -1,24 +1,31 @@
 use Rattle.std.proofs.Common.{refl}
-use Rattle.comch_app.proofs.Endings.{for_each, memory_ends_basis, memory_ends_may, memory_ends_words, read_ends_basis, words_end}
+use Rattle.comch_app.proofs.Endings.{memory_ends, memory_ends_may, memory_ends_words, one_element, words_end}
+use Rattle.comch_app.specs.Answers.{Ends, MayAnswers}
+use Rattle.comch_app.specs.declared.answer.Wanted.TheVariants as wanted
+use Rattle.report.specs.declared.form.Form.TheVariants as form
 use Rattle.comch_app.proofs.top.run.Goals as goal
 
 pub returns-in-Err-clause-refuses : goal.returns-in-Err-clause-refuses
 returns-in-Err-clause-refuses g c none = (memory_ends_words _ _ _ c.said.ensures.says, refl)
 
 pub returns-in-Err-clause-basis : goal.returns-in-Err-clause-basis
-returns-in-Err-clause-basis g c some = for_each (g.S.Source.left c.args.source.now) _ (λ bytes. memory_ends_basis bytes _ _ _ c.said.ensures.says)
+returns-in-Err-clause-basis g c some = memory_ends wanted.Bases (g.S.Source.left c.args.source.now) _ _ _ c.said.ensures.says
 
-pub returns-in-Ok-None-clause-refuses : goal.returns-in-Ok-None-clause-refuses
-returns-in-Ok-None-clause-refuses g c none = (words_end _ _ _ c.said-in-Ok-None.ensures.says, refl)
+pub returns-in-Err-clause-report : goal.returns-in-Err-clause-report
+returns-in-Err-clause-report g c limit some = memory_ends (wanted.Report form.Short limit) (g.S.Source.left c.args.source.now) _ _ _ c.said.ensures.says
 
-pub returns-in-Err-Memory-clause-basis : goal.returns-in-Err-Memory-clause-basis
-returns-in-Err-Memory-clause-basis g c some = for_each (g.S.Source.left c.args.source.now) _ (λ bytes. memory_ends_basis bytes _ _ _ c.said-in-Err-Memory.ensures.says)
-
-pub returns-in-Err-Read-clause-basis : goal.returns-in-Err-Read-clause-basis
-returns-in-Err-Read-clause-basis g c some = for_each (g.S.Source.left c.args.source.now) _ (λ bytes. read_ends_basis bytes _ _ _ c.said-in-Err-Read.ensures.says)
+pub returns-in-Err-clause-certify : goal.returns-in-Err-clause-certify
+returns-in-Err-clause-certify g c limit some = memory_ends (wanted.Report form.Certificate limit) (g.S.Source.left c.args.source.now) _ _ _ c.said.ensures.says
 
 pub returns-in-Err-clause-may : goal.returns-in-Err-clause-may
 returns-in-Err-clause-may g c p d some = (memory_ends_may p d _ _ _ c.said.ensures.says, refl)
 
-pub returns-in-Err-may-clause-may : goal.returns-in-Err-may-clause-may
-returns-in-Err-may-clause-may g c p d some = (memory_ends_may p d _ _ _ c.said-in-Err-may.ensures.says, refl)
+pub returns-in-Ok-None-clause-refuses : goal.returns-in-Ok-None-clause-refuses
+returns-in-Ok-None-clause-refuses g c none = (words_end _ _ _ c.said-in-Ok-None.ensures.says, refl)
+
+pub returns-in-Ok-Some-May-clause-may : goal.returns-in-Ok-Some-May-clause-may
+returns-in-Ok-Some-May-clause-may g c p d some = (
+  one_element (λ q n. Ends (MayAnswers q n) (g.K.Sink.written c.args.sink.now) (g.K.Sink.written c.may_run.new.sink) c.may_run.result) _ _ c.in-Ok-Some-May.field-0-0 c.in-Ok-Some-May.prime c.in-Ok-Some-May.degree p d
+      c.in-Ok-Some-May.field-0-is c.in-Ok-Some-May.field-0-0-is c.in-Ok-Some-May.ensures.request some c.may_run.ensures.answers,
+  refl,
+)

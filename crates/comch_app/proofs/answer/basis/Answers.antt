@@ -1,6 +1,0 @@
-use Rattle.comch_app.proofs.Endings.{long_answers}
-use Rattle.comch_app.proofs.answer.basis.Goals as goal
-
-pub returns-in_ok-refused-in-Err-TooLong-clause-answer : goal.returns-in_ok-refused-in-Err-TooLong-clause-answer
-returns-in_ok-refused-in-Err-TooLong-clause-answer g c =
-    long_answers (g.S.Source.left c.args.source.now) c.in-Err-TooLong.field-0 _ _ c.in-Err-TooLong.field-0-is c.in-Err-TooLong.ensures.exact c.in_ok-refused-in-Err-TooLong.ensures.status c.in_ok-refused-in-Err-TooLong.ensures.text

@@ -1,7 +1,0 @@
-use Rattle.std.proofs.Common.{◌≡◌, take}
-use Rattle.simplicial_law.specs.Places.{terms_of}
-use Rattle.complex_index.specs.Levels.{level}
-use Rattle.comch_app.proofs.chains.chain_of.Given as goal
-
-abbrev pub invariant-loop-place : goal.invariant-loop-place
-invariant-loop-place g l = l.chain ≡ terms_of (level l.index l.cochain.degree) (take l.place-index l.place-items)

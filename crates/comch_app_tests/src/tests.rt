@@ -1,0 +1,265 @@
+use crate::rows::{
+    BALL, BALL_REPORT, CIRCLE, CIRCLE_AT_5, CIRCLE_CERTIFIED, EDGE_CERTIFIED, EMPTY_MAPS_CERTIFIED,
+    LARGE, MAPS, MAPS_REPORT, MOORE, MOORE_REPORT, PLANE, PLANE_REPORT, POINT_REPORT, SPHERE,
+    TORUS, TORUS_REPORT, TWO_POINTS, WIDE,
+};
+use comch_app::run;
+use comch_io::{MemSink, MemSource, Source};
+use std::alloc::{AllocError, Global};
+use std::process::Abort;
+use std::test::Fail;
+
+fn words_of(alloc: Global, line: &str) -> Result<Vec<String>, AllocError> {
+    let mut words = Vec::new(alloc);
+    for word in line.split_whitespace() {
+        words.push(String::from_str(alloc, word)?)?;
+    }
+    Ok(words)
+}
+
+// A text in which a semicolon stands for the end of a line, and a comma begins a facet.
+fn spelled(alloc: Global, text: &str) -> Result<String, AllocError> {
+    let lines = text.replace(alloc, ",", ";facet ")?;
+    lines.replace(alloc, ";", "\n")
+}
+
+// The words are answered to a job with this exit code and this text.
+fn try_row(
+    rt: &impl Abort,
+    alloc: Global,
+    line: &str,
+    prime: u32,
+    blocks: &str,
+    code: u8,
+    text: &str,
+) -> Result<(), Fail> {
+    let words = words_of(alloc, line)?;
+    let job = format!(in alloc; "comch 1;prime {prime};{blocks}")?;
+    let input = spelled(alloc, job.as_str())?;
+    let wanted = spelled(alloc, text)?;
+    let mut source = MemSource::new(alloc, input.as_bytes(), [].as_slice())?;
+    let mut sink = MemSink::new(alloc, 9_999, [].as_slice())?;
+    let status = run(alloc, words.as_slice(), &mut source, &mut sink);
+    assert_eq!(rt; status.code(), code, "{job}");
+    assert_eq!(rt; sink.text(), wanted.as_bytes(), "{job}");
+    Ok(())
+}
+
+#[test]
+fn jobs_are_answered(rt: HostRuntime) -> Result<(), Fail> {
+    let alloc = rt.alloc();
+    let rows: [(&str, u32, &str, u8, &str); 27] = [
+        ("basis", 5, "", 0, "comch basis 1;prime 5;done;"),
+        (
+            "basis",
+            2,
+            "complex none;end;",
+            0,
+            "comch basis 1;prime 2;complex none;end;done;",
+        ),
+        (
+            "basis",
+            2,
+            "complex pt,000;end;",
+            0,
+            "comch basis 1;prime 2;complex pt;degree 0 rank 1;class 1:0;end;done;",
+        ),
+        (
+            "basis",
+            2,
+            PLANE,
+            0,
+            "comch basis 1;prime 2;complex rp2;degree 0 rank 1;class 1:1 1:2 1:3 1:4 1:5 1:6;\
+            degree 1 rank 1;class 1:2.3 1:2.4 1:3.5 1:4.6 1:5.6;degree 2 rank 1;class 1:4.5.6;end;done;",
+        ),
+        (
+            "basis",
+            3,
+            PLANE,
+            0,
+            "comch basis 1;prime 3;complex rp2;degree 0 rank 1;class 1:1 1:2 1:3 1:4 1:5 1:6;\
+            degree 1 rank 0;degree 2 rank 0;end;done;",
+        ),
+        (
+            "basis",
+            2,
+            MOORE,
+            0,
+            "comch basis 1;prime 2;complex moore;degree 0 rank 1;\
+            class 1:0 1:1 1:2 1:3 1:4 1:5 1:6 1:7 1:8 1:9 1:10 1:11 1:12;\
+            degree 1 rank 0;degree 2 rank 0;end;done;",
+        ),
+        ("basis", 7, "", 3, "refused input 17 line 2;"),
+        ("certify", 2, "complex a,0 0;", 3, "refused input 5 line 4;"),
+        ("report", 2, "complex a,0 1", 3, "refused input 15 line 4;"),
+        (
+            "report --terms 1",
+            2,
+            "complex e,0 1;end;map f e e;send 0 1;send 1 0;end;",
+            3,
+            "refused input 13 line 9;",
+        ),
+        ("basis", 2, WIDE, 3, "refused input 6 line 4;"),
+        ("basis", 2, LARGE, 3, "refused input 7 line 5;"),
+        ("report", 5, "", 0, "comch report 1;prime 5;done;"),
+        (
+            "certify",
+            3,
+            "complex none;end;",
+            0,
+            "comch certificate 1;prime 3;complex none;end;done;",
+        ),
+        ("report", 2, "complex pt,0;end;", 0, POINT_REPORT),
+        ("report", 5, "complex two,0,1;end;", 0, TWO_POINTS),
+        ("certify", 3, CIRCLE, 0, CIRCLE_CERTIFIED),
+        ("report", 5, CIRCLE, 0, CIRCLE_AT_5),
+        ("report", 3, TORUS, 0, TORUS_REPORT),
+        ("report", 3, MOORE, 0, MOORE_REPORT),
+        ("report --terms 180", 3, BALL, 0, BALL_REPORT),
+        ("--terms=0000000000180 report", 3, BALL, 0, BALL_REPORT),
+        (
+            "report --terms 179",
+            3,
+            BALL,
+            4,
+            "refused terms 180 limit 179;",
+        ),
+        (
+            "certify --terms 179",
+            3,
+            BALL,
+            4,
+            "refused terms 180 limit 179;",
+        ),
+        (
+            "report",
+            5,
+            SPHERE,
+            4,
+            "refused terms 1892578126 limit 100000000;",
+        ),
+        (
+            "certify",
+            2,
+            "complex edge,1 0,0,0 1;end;map id edge edge;send 1 1;send 0 0;end;",
+            0,
+            EDGE_CERTIFIED,
+        ),
+        (
+            "certify",
+            3,
+            "complex none;end;complex pt,0;end;map f none pt;end;map g none none;end;",
+            0,
+            EMPTY_MAPS_CERTIFIED,
+        ),
+    ];
+    for (line, prime, blocks, code, text) in rows {
+        try_row(&rt, alloc, line, prime, blocks, code, text)?;
+    }
+    Ok(())
+}
+
+#[test]
+fn maps_follow_the_complexes(rt: HostRuntime) -> Result<(), Fail> {
+    let alloc = rt.alloc();
+    for (maps, report) in [("", "done;"), (MAPS, MAPS_REPORT)] {
+        let blocks = format!(in alloc; "{PLANE}{maps}")?;
+        let text = format!(in alloc; "{PLANE_REPORT}{report}")?;
+        try_row(&rt, alloc, "report", 2, blocks.as_str(), 0, text.as_str())?;
+    }
+    Ok(())
+}
+
+#[test]
+fn faults_have_their_codes(rt: HostRuntime) -> Result<(), Fail> {
+    let alloc = rt.alloc();
+    let point = b"# a point\r\ncomch 1\r\nprime 2\r\ncomplex pt\r\nfacet 000\r\nend\r\n".as_slice();
+    let cases: [(&[u8], &[u64], usize, u8, &str); 5] = [
+        (b"", &[], 99, 3, "refused input 15 line 1\n"),
+        (point, &[0], 99, 6, "refused read\n"),
+        (point, &[0], 7, 7, "refused"),
+        (point, &[], 5, 7, "comch"),
+        (
+            point,
+            &[],
+            99,
+            0,
+            "comch basis 1\nprime 2\ncomplex pt\ndegree 0 rank 1\nclass 1:0\nend\ndone\n",
+        ),
+    ];
+    let words = words_of(alloc, "basis")?;
+    for (input, failing, room, code, text) in cases {
+        let mut source = MemSource::new(alloc, input, failing)?;
+        let mut sink = MemSink::new(alloc, room, [].as_slice())?;
+        let status = run(alloc, words.as_slice(), &mut source, &mut sink);
+        assert_eq!(rt; status.code(), code);
+        assert_eq!(rt; sink.text(), text.as_bytes());
+    }
+    Ok(())
+}
+
+#[test]
+fn other_words_are_refused_unread(rt: HostRuntime) -> Result<(), Fail> {
+    let alloc = rt.alloc();
+    let lines = [
+        "",
+        "Basis",
+        "basis extra",
+        "basis 2",
+        "basis -- 2 3",
+        "basis --terms 5",
+        "report 2",
+        "certify 2 3",
+        "report --terms",
+        "report --terms 0",
+        "report --terms x",
+        "report --terms 1000000000001",
+        "certify --terms 10000000000000",
+        "certify --terms 00000000000001",
+        "report --terms 5 --terms 5",
+        "--help",
+        "--version",
+        "basis --help",
+        "may 3",
+        "may 7 2",
+        "may 3 61",
+        "may +3 2",
+        "may 3 00000000000002",
+        "may 3 2 --terms 5",
+    ];
+    for line in lines {
+        let words = words_of(alloc, line)?;
+        let mut source = MemSource::new(alloc, b"comch", [].as_slice())?;
+        let mut sink = MemSink::new(alloc, 99, [].as_slice())?;
+        let status = run(alloc, words.as_slice(), &mut source, &mut sink);
+        assert_eq!(rt; status.code(), 2, "{line}");
+        assert_eq!(rt; sink.text(), b"refused words\n".as_slice());
+        let mut piece = [0u8; 9];
+        let left = source.read(&mut piece).expect(&rt, "a read");
+        assert_eq!(rt; left, 5);
+    }
+    Ok(())
+}
+
+#[test]
+fn elements_are_printed_unread(rt: HostRuntime) -> Result<(), Fail> {
+    let alloc = rt.alloc();
+    let cases: [(&str, u8, &str); 3] = [
+        (
+            "may 3 2",
+            0,
+            "may 3 2\n1 : 1 2 3 1 2\n1 : 1 2 3 2 3\n1 : 1 3 1 2 3\ndone\n",
+        ),
+        ("may 2 03", 0, "may 2 3\n1 : 1 2 1 2 1\ndone\n"),
+        ("may 5 16", 4, "refused terms 1892578125 limit 100000000\n"),
+    ];
+    for (line, code, text) in cases {
+        let words = words_of(alloc, line)?;
+        let mut source = MemSource::new(alloc, b"comch", [0].as_slice())?;
+        let mut sink = MemSink::new(alloc, 99, [].as_slice())?;
+        let status = run(alloc, words.as_slice(), &mut source, &mut sink);
+        assert_eq!(rt; status.code(), code);
+        assert_eq!(rt; sink.text(), text.as_bytes());
+    }
+    Ok(())
+}
