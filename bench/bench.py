@@ -1,11 +1,11 @@
 #!/usr/bin/env python3
-"""Time and peak memory of `comch basis` on inputs of growing size, and of `comch may`.
+"""Time and peak memory of comch on inputs of growing size.
 
 usage: bench/bench.py PROGRAM [PRIME] [GROUP ..]
 
 PROGRAM is the built program (crates/comch/out/comch, after `rt run` in crates/comch), PRIME is 2, 3
-or 5 (default 2), and the groups are torus, random, dense, sphere, wide, strip, ground, hostile and
-may (default: all).
+or 5 (default 2), and the groups are torus, random, dense, sphere, wide, strip, ground and hostile,
+which run `basis`; report and certify, which run these commands; and may (default: all).
 
 Each input is made here, written to the program's standard input, and run RUNS times. One line is
 printed for each: simplices, bytes of input and of output, the least of the processor seconds, the
@@ -92,6 +92,13 @@ def repeated(facets, times, last=()):
     yield from last
 
 
+def example(name):
+    """The facets of a complex in examples/."""
+    path = os.path.join(os.path.dirname(os.path.dirname(os.path.abspath(__file__))), "examples", name)
+    with open(path) as lines:
+        return [tuple(map(int, line.split()[1:])) for line in lines if line.startswith("facet ")]
+
+
 def text_of(prime, facets):
     lines = ["comch 1", f"prime {prime}", "complex x"]
     lines += ["facet " + " ".join(map(str, facet)) for facet in facets]
@@ -129,7 +136,17 @@ GROUPS = {
         ("one too many", lambda: repeated(12, 1700, [range(900000, 900012)])),
         ("too wide", lambda: [range(16 * i, 16 * i + 16) for i in range(9000)]),
     ],
+    "report": [
+        *((f"torus {m}", lambda m=m: torus(m)) for m in (100, 500, 1000, 15000)),
+        ("k3 surface", lambda: example("k3_surface.txt")),
+        *((f"sphere {k - 2}", lambda k=k: sphere(k)) for k in (6, 7, 8, 9, 10)),
+        ("triangles 160", lambda: some_triangles(160, 11776, 1)),
+    ],
+    "certify": [(f"torus {m}", lambda m=m: torus(m)) for m in (100, 500, 1000, 3000)],
 }
+
+# the words that a group is run with; the others run `basis`
+WORDS = {"report": ["report", "--terms", "1000000000000"], "certify": ["certify"]}
 
 
 def peak_of(pid):
@@ -201,15 +218,17 @@ def main():
         groups = [group for group in groups if group != "may"]
     if not groups:
         return
-    print(f"basis at {prime}; {os.cpu_count()} processors; least of {RUNS} runs")
+    print(f"at {prime}; {os.cpu_count()} processors; least of {RUNS} runs")
     print(f"{'input':14} {'simplices':>9} {'in kB':>8} {'out kB':>8} {'seconds':>8} {'grows':>5} {'peak MB':>8} {'grows':>5} {'peak/io':>8}")
     for group in groups:
         last = None
+        words = WORDS.get(group, ["basis"])
+        print(" ".join(words))
         for name, make in GROUPS[group]:
             facets = [tuple(facet) for facet in make()]
             text = text_of(prime, facets)
             size = count_simplices(facets)
-            results = [run(program, ["basis"], text) for _ in range(RUNS)]
+            results = [run(program, words, text) for _ in range(RUNS)]
             seconds = min(r[0] for r in results)
             peak = max(r[1] for r in results)
             out = results[0][2]
