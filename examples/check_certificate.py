@@ -3,10 +3,10 @@
 
 usage: check_certificate.py < CERTIFICATE
 
-It prints `yes`, or `no C line L` with the least condition that fails and the first line where it does. The conditions
-are those of docs/OUTPUT.md, and the definitions those of docs/MATHEMATICS.md: cochains and their coboundary, interval
-cuts and their sign, May elements by table reduction, the operations with their constants. It goes over all cuts, and is
-slow: minutes for a thousand simplices.
+It prints `yes`, or `no C line L` with the least condition that fails and the first line where it does. The
+spelling is that of docs/OUTPUT.md, and the conditions and definitions are those of docs/MATHEMATICS.md: cochains and
+their coboundary, interval cuts and their sign, May elements by table reduction, the operations with their constants. It
+goes over all cuts, and is slow.
 """
 
 import re
