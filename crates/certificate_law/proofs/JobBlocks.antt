@@ -91,7 +91,7 @@ facet_lines p facets h before (f ∷ fs) within =
 vertex_of : (v : ℕ) (f : List ℕ) → has_vertex f v ≡ true → Among v f
 vertex_of v f h = let q = any_gives (λ w. v == w) f h in subst (λ (w : ℕ). Among w f) (sym (eqb-true v q.0 q.2)) q.1
 
-vertex_in : (v : ℕ) (fs : List (List ℕ)) → is_vertex fs v ≡ true → (f : List ℕ) × Among f fs × Among v f
+pub vertex_in : (v : ℕ) (fs : List (List ℕ)) → is_vertex fs v ≡ true → (f : List ℕ) × Among f fs × Among v f
 vertex_in v fs h = let q = any_gives (λ f. has_vertex f v) fs h in (q.0, q.1, vertex_of v q.0 q.2)
 
 in_vertex : (v : ℕ) (fs : List (List ℕ)) (f : List ℕ) → Among f fs → Among v f → is_vertex fs v ≡ true

@@ -46,9 +46,9 @@ use Rattle.certificate_law.proofs.SameSimplices.{SameSimplices}
 
 -- ---- what a job keeps
 
-record Kept (cs : List ComplexBlock) (ms : List MapBlock) : Type 0 where
-  complexes : length cs ≤ 8
-  maps : length ms ≤ 8
+pub record Kept (cs : List ComplexBlock) (ms : List MapBlock) : Type 0 where
+  pub complexes : length cs ≤ 8
+  pub maps : length ms ≤ 8
   distinct : are_distinct (block_names cs ms) ≡ true
   fit : Each (λ b. FacetsFit b.facets) cs
 
@@ -58,7 +58,7 @@ fit_of (b ∷ bs) h =
     let parts = and_parts (is_complex b.facets) (list_all (λ (b : ComplexBlock). is_complex b.facets) bs) h in
     (facets_fit b.facets (no-fault (complex_fault b.facets) (and_parts (list_all is_facet b.facets) (is_none (complex_fault b.facets)) parts.0).1), fit_of bs parts.1)
 
-kept_of : (p : ℕ) (cs : List ComplexBlock) (ms : List MapBlock) → is_job p cs ms ≡ true → Kept cs ms
+pub kept_of : (p : ℕ) (cs : List ComplexBlock) (ms : List MapBlock) → is_job p cs ms ≡ true → Kept cs ms
 unfolding is_job
 kept_of p cs ms h =
     let a = (and_parts (served p) _ h).1 in

@@ -21,3 +21,6 @@ pub mod MaximalFacets
 pub mod JobMaps
 pub mod JobBlocks
 pub mod JobLaw
+pub mod WrittenJobs
+pub mod FewLines
+pub mod Limits

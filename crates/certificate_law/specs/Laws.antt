@@ -1,5 +1,5 @@
 -- The laws of certificates.
-use Rattle.std.specs.Prelude.{◌≡◌, ℕ, ◌+◌, ◌^◌, true, map, length}
+use Rattle.std.specs.Prelude.{◌≡◌, ℕ, ◌+◌, ◌<◌, ◌^◌, true, map, length}
 use Rattle.linear_law.specs.Lists.{Each}
 use Rattle.complex_file.specs.Input.{Spelled}
 use Rattle.complex_file.specs.Jobs.{is_job}
@@ -74,3 +74,11 @@ StatedLinesLaw = (r : Report) → map line_said (stated r) ≡ certificate_lines
 -- The certificate of a job certifies, where the counted terms are within the limit.
 abbrev pub CompleteLaw : Type 0
 CompleteLaw = (job : Spelled) (r : Report) → is_job job.prime job.complexes job.maps ≡ true → IsReportOf Certificate job r → IsWithinLimit job (10 ^ 12) → Certifies r
+
+-- The certificate of a job is well formed: so its text spells it, and is read back.
+abbrev pub WellFormedLaw : Type 0
+WellFormedLaw = (job : Spelled) (r : Report) → is_job job.prime job.complexes job.maps ≡ true → IsReportOf Certificate job r → is_well_formed r ≡ true
+
+-- The certificate of a job has fewer lines than a number of 64 bits can count.
+abbrev pub FewLinesLaw : Type 0
+FewLinesLaw = (job : Spelled) (r : Report) → is_job job.prime job.complexes job.maps ≡ true → IsReportOf Certificate job r → length (certificate_lines r.prime r.complexes r.maps) < 2 ^ 64

@@ -1,7 +1,7 @@
 //! When a report certifies, and what it shows then: definitions and laws.
 #![tactic(auto)]
 
-ghost use Rattle.certificate_law.specs.Laws.{CertifiedLaw, CompleteLaw, FirstFailureLaw, StatedLinesLaw};
+ghost use Rattle.certificate_law.specs.Laws.{CertifiedLaw, CompleteLaw, FewLinesLaw, FirstFailureLaw, StatedLinesLaw, WellFormedLaw};
 ghost use Rattle.certificate_law.specs.Sections.{SectionLaw};
 
 /// A report that certifies does not fail, and no report fails first at two lines or at two conditions.
@@ -27,4 +27,14 @@ pub fn section_law()
 /// The certificate of a job certifies.
 pub fn complete_law()
     ensures { CompleteLaw }
+{}
+
+/// The certificate of a job is well formed.
+pub fn well_formed_law()
+    ensures { WellFormedLaw }
+{}
+
+/// The certificate of a job has fewer than 2^64 lines.
+pub fn few_lines_law()
+    ensures { FewLinesLaw }
 {}

@@ -1,0 +1,539 @@
+-- The certificate of a job is well formed: so it is spelled, and read back.
+use Rattle.std.proofs.Common.{◌≡◌, ℕ, zero, suc, ◌+◌, ◌*◌, ◌^◌, not, ◌<◌, ◌≤◌, ◌==◌, ◌&&◌, nat_le, true, IsTrue, inl, inr, refl, sym, ◌∙◌, ap, subst, arith, List, [], ◌∷◌, ◌++◌, length, map, get_or}
+use Rattle.std.specs.Prelude.{flat_map, nat_lt, is_none}
+use Rattle.std.specs.List.{AllZip, list_all}
+use Rattle.std.specs.Ordering.{is_lt}
+use Rattle.std.proofs.lemmas.Bool.{and_from, and_parts, cases_eq, cases_lt, leb-true, lt-ltb, ltb-false, ltb-true}
+use Rattle.std.proofs.lemmas.List.{length-map}
+use Rattle.fp_field.specs.Served.{served}
+use Rattle.signed_sum.specs.Lists.{numbers_from}
+use Rattle.linear_law.specs.Lists.{Among, Each, IsAscending}
+use Rattle.linear_law.proofs.Counting.{apart_short}
+use Rattle.linear_law.proofs.ListLemmas.{among_map, each_among, each_append, each_get_or, each_map, each_of_map, length_alike}
+use Rattle.linear_law.proofs.TriangularBases.{each_of_index}
+use Rattle.simplicial_law.specs.Simplices.{IsInOrder, IsSimplex, Precedes}
+use Rattle.simplicial_law.specs.Cochains.{Chain, Cochain}
+use Rattle.simplicial_law.specs.Canonical.{IsCanonicalClass}
+use Rattle.simplicial_law.specs.CanonicalClasses.{AreCanonicalClasses, AreTerms, cochain_of}
+use Rattle.simplicial_law.specs.ListedSimplices.{simplex_cmp, simplices}
+use Rattle.simplicial_law.proofs.ListedSimplices.{simplices_whole}
+use Rattle.steenrod_law.specs.Operations.{pull_back}
+use Rattle.complex_file.specs.declared.block.ComplexBlock.{ComplexBlock}
+use Rattle.complex_file.specs.declared.block.MapBlock.{MapBlock}
+use Rattle.complex_file.specs.declared.block.Sent.{Sent}
+use Rattle.complex_file.specs.Complexes.{complex_fault, is_ascending, is_complex, is_facet}
+use Rattle.complex_file.specs.Input.{Spelled}
+use Rattle.complex_file.specs.Maps.{image, is_vertex as is_vertex_of}
+use Rattle.complex_file.specs.Jobs.{are_distinct, facets_at, block_names, is_job, is_map}
+use Rattle.complex_file.specs.Text.{is_name, is_not_empty}
+use Rattle.complex_file.specs.Written.{name_at}
+use Rattle.report.specs.declared.columns.CartanAnswer.{CartanAnswer}
+use Rattle.report.specs.declared.columns.CartanAnswer.TheVariants.{Yes, No}
+use Rattle.report.specs.declared.columns.CartanPart.{CartanPart}
+use Rattle.report.specs.declared.columns.Column.{Column}
+use Rattle.report.specs.declared.columns.OpWord.{OpWord}
+use Rattle.report.specs.declared.columns.OpWord.TheVariants as word
+use Rattle.report.specs.declared.columns.OperationPart.{OperationPart}
+use Rattle.report.specs.declared.columns.ProductPart.{ProductPart}
+use Rattle.report.specs.declared.complex.ComplexPart.{ComplexPart}
+use Rattle.report.specs.declared.complex.DegreePart.{DegreePart}
+use Rattle.report.specs.declared.map.InducedPart.{InducedPart}
+use Rattle.report.specs.declared.map.MapPart.{MapPart}
+use Rattle.report.specs.declared.plan.Block.{Block}
+use Rattle.report.specs.declared.plan.Line.{Line as CartanLine}
+use Rattle.report.specs.declared.plan.Product.{Product}
+use Rattle.report_law.specs.Columns.{IsAnswer, IsColumn, IsPrimitive, IsPrimitiveAt}
+use Rattle.report_law.specs.Live.{all_lines, blocks, class_numbers, degrees, has_class, is_defined, lines, lines_of_pair, products}
+use Rattle.report_law.specs.Matrices.{Classes, IsOperationColumn, classes_in, cochains_in, line_degree, ranks}
+use Rattle.report_law.specs.Parts.{below_in, block_of, classes_of, op_named, op_of, line_of, number_pairs, numbers_of, product_of, ranks_of, unnumbered}
+use Rattle.report_law.specs.Reports.{AreTables, IsCartanPart, IsComplexPart, IsInducedPart, IsMapPart, IsMaximal, IsOperationPart, IsProductPart}
+use Rattle.report_law.proofs.Blocks.{has-degree, of-blocks, rank-of}
+use Rattle.report_law.proofs.Lists.{get_or-past, of-filter, of-flat_map, of-map, of-numbers}
+use Rattle.report_law.proofs.Maps.{IsMapOf, all-among, ascends as ascending-list, complex-ascends, job-maps, no-fault}
+use Rattle.report_text_law.specs.declared.line.Line.{Line}
+use Rattle.report_text_law.specs.declared.line.Line.TheVariants.{Below as below_line, Class as class_line, Facet as facet_line, Done as done_line, End as end_line}
+use Rattle.report_text_law.specs.Lines.{certificate_lines, complex_lines, degree_lines, degrees_from, columns_from, pair_lines, product_lines, operation_lines, answer_lines, cartan_lines, table_lines, send_of, induced_lines, map_lines}
+use Rattle.report_text_law.specs.WellFormed.{are_values, ascends, is_chain, is_line, is_simplex, is_u32, is_term, is_unit, is_vertex, is_well_formed, terms_ascend}
+use Rattle.certificate_law.specs.Laws.{WellFormedLaw}
+use Rattle.certificate_law.proofs.Building.{at_index}
+use Rattle.certificate_law.proofs.CanonicalData.{in_order_apart}
+use Rattle.certificate_law.proofs.CertifiedBases.{below_at, classes_at, no_degree}
+use Rattle.certificate_law.proofs.JobBlocks.{FacetsFit, facets_fit, known_vertices, vertex_in}
+use Rattle.certificate_law.proofs.Places.{EachAt}
+use Rattle.certificate_law.proofs.PivotCounts.{ascending_apart, simplex_same_or_not}
+
+-- ---- lists of lines
+
+abbrev IsFine : ℕ → Line → Type 0
+IsFine p l = is_line p l ≡ true
+
+all_fine : (p : ℕ) (ls : List Line) → Each (IsFine p) ls → list_all (is_line p) ls ≡ true
+all_fine p [] h = refl
+all_fine p (l ∷ ls) h = and_from (is_line p l) (list_all (is_line p) ls) h.0 (all_fine p ls h.1)
+
+each_flat : {X : Type 0} (P : Line → Type 0) (f : X → List Line) (xs : List X) → ((x : X) → Among x xs → Each P (f x)) → Each P (flat_map f xs)
+each_flat P f [] h = tt
+each_flat P f (x ∷ xs) h = each_append P (f x) (flat_map f xs) (h x (inl refl)) (each_flat P f xs (λ y m. h y (inr m)))
+
+flat_parts : {X : Type 0} (p : ℕ) (P : X → Type 0) (f : X → List Line) (xs : List X) → ((x : X) → Among x xs → P x → Each (IsFine p) (f x)) → Each P xs → Each (IsFine p) (flat_map f xs)
+flat_parts p P f xs g h = each_flat (IsFine p) f xs (λ x m. g x m (each_among P x xs h m))
+
+-- ---- numbers
+
+small : (n : ℕ) → n ≤ 200000 → is_u32 n ≡ true
+small n h = lt-ltb n (2 ^ 32) (omega (arith, h))
+
+-- ---- simplices and chains
+
+ascends_from : (vs : List ℕ) → IsAscending vs → ascends vs ≡ true
+ascends_from [] h = refl
+ascends_from (v ∷ []) h = refl
+ascends_from (v ∷ w ∷ ws) h = and_from (nat_lt v w) (ascends (w ∷ ws)) (lt-ltb v w h.0.0) (ascends_from (w ∷ ws) h.1)
+
+abbrev pub AreLow : List (List ℕ) → Type 0
+AreLow facets = Each (λ f. list_all is_vertex f ≡ true) facets
+
+low_vertices : (f s : List ℕ) → list_all is_vertex f ≡ true → Each (λ v. Among v f) s → list_all is_vertex s ≡ true
+low_vertices f [] h w = refl
+low_vertices f (v ∷ vs) h w = and_from (is_vertex v) (list_all is_vertex vs) (all-among is_vertex f v h w.0) (low_vertices f vs h w.1)
+
+fine_simplex : (facets : List (List ℕ)) → AreLow facets → (n : ℕ) (s : List ℕ) → IsSimplex facets n s → is_simplex s ≡ true
+fine_simplex facets low n [] h = absurd (let e = h.size in omega (arith, e))
+fine_simplex facets low n (v ∷ vs) h =
+    and_from (list_all is_vertex (v ∷ vs)) (ascends (v ∷ vs))
+    (low_vertices h.facet (v ∷ vs) (each_among (λ f. list_all is_vertex f ≡ true) h.facet facets low h.listed) h.within) (ascends_from (v ∷ vs) h.ascending)
+
+fine_facet : (f : List ℕ) → is_facet f ≡ true → is_simplex f ≡ true
+fine_facet [] h = absurd cc
+fine_facet (v ∷ vs) h =
+    let parts = and_parts (is_ascending (v ∷ vs)) (list_all (λ v. nat_le v 999999) (v ∷ vs)) (and_parts (is_not_empty (v ∷ vs)) _ h).1 in
+    and_from (list_all is_vertex (v ∷ vs)) (ascends (v ∷ vs)) parts.1 (ascends_from (v ∷ vs) (ascending-list (v ∷ vs) parts.0))
+
+fine_terms : (facets : List (List ℕ)) → AreLow facets → (n p : ℕ) (ts : Chain) → Each (λ t. (0 < t.0) × (t.0 < p)) ts → Each (λ t. IsSimplex facets n t.1) ts → list_all (is_term p) ts ≡ true
+fine_terms facets low n p [] h on = refl
+fine_terms facets low n p (t ∷ ts) h on =
+    and_from (is_term p t) (list_all (is_term p) ts)
+    (and_from (is_unit p t.0) (is_simplex t.1) (and_from (nat_lt 0 t.0) (nat_lt t.0 p) (lt-ltb 0 t.0 h.0.0) (lt-ltb t.0 p h.0.1)) (fine_simplex facets low n t.1 on.0))
+    (fine_terms facets low n p ts h.1 on.1)
+
+next_order : (s : List ℕ) (ss : List (List ℕ)) → IsInOrder (s ∷ ss) → IsInOrder ss
+next_order s ss h j k l m = h (suc j) (suc k) (omega (arith, l)) (omega (arith, m))
+
+fine_order : (ts : Chain) → IsInOrder (map (λ t. t.1) ts) → terms_ascend ts ≡ true
+fine_order [] h = refl
+fine_order (t ∷ []) h = refl
+fine_order (t ∷ u ∷ us) h =
+    let first : Precedes t.1 u.1 = h 0 1 (omega arith) (omega arith) in
+    and_from (is_lt (simplex_cmp t.1 u.1)) (terms_ascend (u ∷ us)) (ap is_lt first) (fine_order (u ∷ us) (next_order t.1 (map (λ (t : ℕ × List ℕ). t.1) (u ∷ us)) h))
+
+fine_chain : (facets : List (List ℕ)) → AreLow facets → (n p : ℕ) (ts : Chain) → AreTerms facets n p ts → is_chain p ts ≡ true
+fine_chain facets low n p ts h = and_from (list_all (is_term p) ts) (terms_ascend ts) (fine_terms facets low n p ts h.coefficients h.simplices) (fine_order ts h.in_order)
+
+fine_primitive : (facets : List (List ℕ)) → AreLow facets → (n p : ℕ) (z : Cochain) (ts : Chain) → IsPrimitive facets n p z ts → is_chain p ts ≡ true
+fine_primitive facets low zero p z ts h = ap (is_chain p) h.1
+fine_primitive facets low (suc n) p z ts h = fine_chain facets low n p ts h.1
+
+fine_values : (p : ℕ) (vs : List ℕ) → Each (λ v. v < p) vs → are_values p vs ≡ true
+fine_values p [] h = refl
+fine_values p (v ∷ vs) h = and_from (nat_lt v p) (are_values p vs) (lt-ltb v p h.0) (fine_values p vs h.1)
+
+-- ---- columns
+
+each_first : {X Y : Type 0} (R : X → Y → Type 0) (P : X → Type 0) → ((x : X) (y : Y) → R x y → P x) → (xs : List X) (ys : List Y) → AllZip R xs ys → Each P xs
+each_first R P f [] [] h = tt
+each_first R P f [] (y ∷ ys) h = absurd h
+each_first R P f (x ∷ xs) [] h = absurd h
+each_first R P f (x ∷ xs) (y ∷ ys) h = (f x y h.0, each_first R P f xs ys h.1)
+
+each_second : {X Y : Type 0} (R : X → Y → Type 0) (P : Y → Type 0) → ((x : X) (y : Y) → R x y → P y) → (xs : List X) (ys : List Y) → AllZip R xs ys → Each P ys
+each_second R P f [] [] h = tt
+each_second R P f [] (y ∷ ys) h = absurd h
+each_second R P f (x ∷ xs) [] h = absurd h
+each_second R P f (x ∷ xs) (y ∷ ys) h = (f x y h.0, each_second R P f xs ys h.1)
+
+-- the values and the chain of a column are such
+abbrev IsFineColumn : ℕ → Column → Type 0
+IsFineColumn p y = (are_values p y.values ≡ true) × (is_chain p y.primitive ≡ true)
+
+fine_column : (facets : List (List ℕ)) → AreLow facets → (n p : ℕ) (zs : List Cochain) (z : Cochain) (y : Column) → IsColumn true facets n p zs z y.values y.primitive → IsFineColumn p y
+fine_column facets low n p zs z y h = (fine_values p y.values h.coordinates.small, fine_primitive facets low n p _ y.primitive (h.rest refl))
+
+fine_columns : (p j : ℕ) (ys : List Column) → j + length ys ≤ 200000 → Each (IsFineColumn p) ys → Each (IsFine p) (columns_from j ys)
+fine_columns p j [] few h = tt
+fine_columns p j (y ∷ ys) few h =
+    (and_from (is_u32 j) (are_values p y.values) (small j (omega (arith, few))) h.0.0, (h.0.1, fine_columns p (j + 1) ys (omega (arith, few)) h.1))
+
+-- ---- live blocks and lines
+
+-- at most 16 degrees, each with at most 100,000 classes
+pub record AreFew (ranks : List ℕ) : Type 0 where
+  pub degrees : length ranks ≤ 16
+  pub classes : (n : ℕ) → get_or ranks n 0 ≤ 100000
+
+low_product : (ranks : List ℕ) (x : Product) → Among x (products ranks) → (x.a < length ranks) × (x.b < length ranks)
+low_product ranks x m =
+    let f = of-filter (λ (y : Product). has_class ranks y.a && (has_class ranks y.b && has_class ranks (y.a + y.b))) (flat_map (λ a. map (λ b. record { a = a; b = b }) (degrees ranks)) (degrees ranks)) x m in
+    let t = and_parts (has_class ranks x.a) (has_class ranks x.b && has_class ranks (x.a + x.b)) f.1 in
+    (has-degree ranks x.a t.0, has-degree ranks x.b (and_parts (has_class ranks x.b) (has_class ranks (x.a + x.b)) t.1).0)
+
+low_pair : (h k : ℕ) (t : ℕ × ℕ) → Among t (number_pairs h k) → (t.0 ≤ h) × (t.1 ≤ k)
+low_pair h k t m =
+    let i = of-flat_map (λ i. map (λ j. (i, j)) (numbers_from 1 k)) (numbers_from 1 h) t m in
+    let j = of-map (λ j. (i.0, j)) (numbers_from 1 k) t i.2 in
+    let a = of-numbers i.0 1 h i.1 in
+    let b = of-numbers j.0 1 k j.1 in
+    let e : i.0 ≡ t.0 = ap (λ (u : ℕ × ℕ). u.0) j.2 in
+    let f : j.0 ≡ t.1 = ap (λ (u : ℕ × ℕ). u.1) j.2 in
+    (omega (arith, a, e), omega (arith, b, f))
+
+low_block : (p : ℕ) (ranks : List ℕ) (x : Block) → Among x (blocks p ranks) → (x.from < length ranks) × (x.to < length ranks)
+low_block p ranks x m =
+    let f = of-filter (λ (y : Block). has_class ranks y.from && has_class ranks y.to) _ x m in
+    let t = and_parts (has_class ranks x.from) (has_class ranks x.to) f.1 in
+    (has-degree ranks x.from t.0, has-degree ranks x.to t.1)
+
+-- the numbers of a line
+record IsLowLine (ranks : List ℕ) (l : CartanLine) : Type 0 where
+  a : l.a < length ranks
+  b : l.b < length ranks
+  i : l.i ≤ get_or ranks l.a 0
+  j : l.j ≤ get_or ranks l.b 0
+  n : l.n ≤ l.a + l.b
+
+low_line : (p : ℕ) (ranks : List ℕ) (l : CartanLine) → Among l (lines p ranks) → IsLowLine ranks l
+low_line p ranks l m =
+    let all = (of-filter (λ (k : CartanLine). _) (all_lines ranks) l m).0 in
+    let a = of-flat_map (λ a. flat_map (λ b. flat_map (λ i. flat_map (lines_of_pair a b i) (class_numbers ranks b)) (class_numbers ranks a)) (degrees ranks)) (degrees ranks) l all in
+    let b = of-flat_map (λ b. flat_map (λ i. flat_map (lines_of_pair a.0 b i) (class_numbers ranks b)) (class_numbers ranks a.0)) (degrees ranks) l a.2 in
+    let i = of-flat_map (λ i. flat_map (lines_of_pair a.0 b.0 i) (class_numbers ranks b.0)) (class_numbers ranks a.0) l b.2 in
+    let j = of-flat_map (lines_of_pair a.0 b.0 i.0) (class_numbers ranks b.0) l i.2 in
+    let n = of-map (λ n. record { a = a.0; i = i.0; b = b.0; j = j.0; n = n }) (numbers_from 0 (a.0 + b.0 + 1)) l j.2 in
+    let aa = of-numbers a.0 0 (length ranks) a.1 in
+    let bb = of-numbers b.0 0 (length ranks) b.1 in
+    let ii = of-numbers i.0 1 (get_or ranks a.0 0) i.1 in
+    let jj = of-numbers j.0 1 (get_or ranks b.0 0) j.1 in
+    let nn = of-numbers n.0 0 (a.0 + b.0 + 1) n.1 in
+    subst (IsLowLine ranks) n.2 (record { a = omega (arith, aa); b = omega (arith, bb); i = omega (arith, ii); j = omega (arith, jj); n = omega (arith, nn) })
+
+-- the number of an operation is at most its degree
+low_number : (p q : ℕ) (w : OperationPart) → is_defined p q (op_of w) ≡ true → w.number ≤ q
+low_number p q w h = number_of w.word h
+  where
+    number_of : (word : OpWord) → is_defined p q (op_named word w.number) ≡ true → w.number ≤ q
+    number_of word.Sq k = leb-true w.number q (and_parts (p == 2) (nat_le w.number q) k).1
+    number_of word.Power k = let l : 2 * w.number ≤ q = leb-true (2 * w.number) q (and_parts (not (p == 2)) (nat_le (2 * w.number) q) k).1 in omega (arith, l)
+    number_of word.BocksteinPower k = let l : 2 * w.number < q = ltb-true (2 * w.number) q (and_parts (not (p == 2)) (nat_lt (2 * w.number) q) k).1 in omega (arith, l)
+
+-- ---- a complex
+
+module _ (p : ℕ) (b : ComplexBlock) (c : ComplexPart) (good : Each (λ f. is_facet f ≡ true) b.facets) (low : AreLow b.facets) (fit : FacetsFit b.facets) (ascending : Each IsAscending b.facets) (part : IsComplexPart true true p b c) where
+  tables : AreTables true b.facets p (classes_of c) c
+  tables = part.tables refl
+
+  count : length (classes_of c) ≡ length c.degrees
+  count = length-map c.degrees (λ (d : DegreePart). d.classes)
+
+  short : (n : ℕ) (s : List ℕ) → IsSimplex b.facets n s → n < 16
+  short n s on =
+      let l = apart_short cases_eq s on.facet (ascending_apart s on.ascending) on.within in
+      let size = on.size in
+      let narrow = ltb-false 16 (length on.facet) (fit.narrow on.facet on.listed) in
+      omega (arith, l, size, narrow)
+
+  pub few_degrees : length (classes_of c) ≤ 16
+  few_degrees = at_most (length (classes_of c)) (λ n l. let s = part.classes.inhabited n l in short n s.0 s.1)
+    where
+      at_most : (k : ℕ) → ((n : ℕ) → n < k → n < 16) → k ≤ 16
+      at_most zero h = omega arith
+      at_most (suc k) h = let l = h k (omega arith) in omega (arith, l)
+
+  pub few_simplices : (n : ℕ) (ss : List (List ℕ)) → IsInOrder ss → Each (IsSimplex b.facets n) ss → length ss ≤ 100000
+  few_simplices n [] order on = omega arith
+  few_simplices n (s ∷ ss) order on =
+      let l = apart_short simplex_same_or_not (s ∷ ss) (simplices b.facets) (in_order_apart (s ∷ ss) order) (each_map (λ t k. simplices_whole b.facets n t ascending k) (s ∷ ss) on) in
+      let k = fit.few on.0.facet on.0.listed in
+      omega (arith, l, k)
+
+  few_listed : (n : ℕ) (zs : List Chain) → AreCanonicalClasses b.facets n p zs → length zs ≤ 100000
+  few_listed n zs h =
+      let R : List ℕ → Chain → Type 0 = λ s terms. IsCanonicalClass b.facets n p s (cochain_of terms) in
+      let l = few_simplices n h.pivots h.in_order (each_first R (IsSimplex b.facets n) (λ s terms k. k.canonical.pivot.lead.on) h.pivots zs h.canonical) in
+      let e = length_alike R h.pivots zs h.canonical in
+      omega (arith, l, e)
+
+  pub few_classes : (n : ℕ) → length (classes_in (classes_of c) n) ≤ 100000
+  few_classes n = elim (cases_lt n (length (classes_of c))) [
+    | inl l ↦ few_listed n (classes_in (classes_of c) n) (part.classes.each n l)
+    | inr l ↦ (let e = ap (λ (zs : List Chain). length zs) (get_or-past (classes_of c) n [] l) in omega (arith, e))
+  ]
+
+  pub few : AreFew (ranks_of c)
+  few = record {
+    degrees = let l = few_degrees in let e = length-map (classes_of c) (λ (cs : List Chain). length cs) in omega (arith, l, e);
+    classes = λ n. let l = few_classes n in let e = rank-of (classes_of c) n in omega (arith, l, e);
+  }
+
+  fine_facets : Each (IsFine p) (map facet_line c.facets)
+  fine_facets = each_of_map (IsFine p) facet_line c.facets (each_map (λ f k. facet_fine f k) c.facets (part.facets refl).each)
+    where
+      facet_fine : (f : List ℕ) → IsMaximal b.facets f → is_simplex f ≡ true
+      facet_fine f k = fine_facet f (each_among (λ f. is_facet f ≡ true) f b.facets good k.given)
+
+  fine_degree : (n : ℕ) → n < length c.degrees → Each (IsFine p) (degree_lines n (get_or c.degrees n no_degree))
+  fine_degree n l =
+      let d : DegreePart = get_or c.degrees n no_degree in
+      let top = few_degrees in
+      let h = few_classes n in
+      let k = count in
+      let here : n < length (classes_of c) = omega (arith, l, k) in
+      let z = part.classes.each n here in
+      let y = part.below refl n l in
+      let R : List ℕ → Chain → Type 0 = IsPrimitiveAt b.facets n p in
+      let belows : Each (λ ts. is_chain p ts ≡ true) d.below = subst (λ (ys : List Chain). Each (λ ts. is_chain p ts ≡ true) ys) (sym (below_at c n))
+      (each_second R (λ ts. is_chain p ts ≡ true) (λ s ts q. fine_primitive b.facets low n p q.bound ts q.primitive) y.pivots (below_in c n) y.primitives) in
+      let classes : Each (λ ts. is_chain p ts ≡ true) d.classes = subst (λ (zs : List Chain). Each (λ ts. is_chain p ts ≡ true) zs) (sym (classes_at c n))
+      (each_map (λ ts q. fine_chain b.facets low n p ts q) (classes_in (classes_of c) n) z.terms) in
+      let rank : length d.classes ≤ 200000 = (let e = ap (λ (zs : List Chain). length zs) (classes_at c n) in omega (arith, h, e)) in (
+        and_from (is_u32 (n + 1)) (is_u32 (length d.classes)) (small (n + 1) (omega (arith, here, top))) (small (length d.classes) rank),
+        each_append (IsFine p) (map below_line d.below) (map class_line d.classes) (each_of_map (IsFine p) below_line d.below belows) (each_of_map (IsFine p) class_line d.classes classes),
+      )
+
+  fine_degrees : (n : ℕ) (ds : List DegreePart) → EachAt (λ n d. Each (IsFine p) (degree_lines n d)) n ds → Each (IsFine p) (degrees_from n ds)
+  unfolding EachAt
+  fine_degrees n [] h = tt
+  fine_degrees n (d ∷ ds) h = each_append (IsFine p) (degree_lines n d) (degrees_from (n + 1) ds) h.0 (fine_degrees (n + 1) ds h.1)
+
+  fine_product : (x : ProductPart) → Among x c.products → IsProductPart true b.facets p (classes_of c) x → Each (IsFine p) (product_lines x)
+  fine_product x m h =
+      let at = low_product (ranks_of c) (product_of x) (subst (λ (xs : List Product). Among (product_of x) xs) tables.products (among_map product_of x (product_of x) c.products m refl)) in
+      let top = few.degrees in
+      let n : ℕ = x.a + x.b in
+      let R : Cochain → Column → Type 0 = λ z y. IsColumn true b.facets n p (cochains_in (classes_of c) n) z y.values y.primitive in
+      let columns = each_second R (IsFineColumn p) (λ z y q. fine_column b.facets low n p (cochains_in (classes_of c) n) z y q) _ (map unnumbered x.columns) h.block in
+      let left = few_classes x.a in
+      let right = few_classes x.b in (
+        and_from (is_u32 x.a) (is_u32 x.b) (small x.a (let l = at.0 in omega (arith, l, top))) (small x.b (let l = at.1 in omega (arith, l, top))),
+        each_flat (IsFine p) pair_lines x.columns (λ y k.
+            let t = low_pair (length (classes_in (classes_of c) x.a)) (length (classes_in (classes_of c) x.b)) (numbers_of y)
+            (subst (λ (ts : List (ℕ × ℕ)). Among (numbers_of y) ts) h.numbers (among_map numbers_of y (numbers_of y) x.columns k refl)) in
+            let f : IsFineColumn p (unnumbered y) = each_among (IsFineColumn p) (unnumbered y) (map unnumbered x.columns) columns (among_map unnumbered y (unnumbered y) x.columns k refl) in
+            let i = t.0 in
+            let j = t.1 in
+            (and_from (is_u32 y.i) (is_u32 y.j && are_values p y.values) (small y.i (omega (arith, i, left))) (and_from (is_u32 y.j) (are_values p y.values) (small y.j (omega (arith, j, right))) f.0), (f.1, tt))),
+      )
+
+  fine_operation : (x : OperationPart) → Among x c.operations → IsOperationPart true b.facets p (classes_of c) x → Each (IsFine p) (operation_lines x)
+  fine_operation x m h =
+      let live : Among (block_of x) (blocks p (ranks_of c)) = subst (λ (bs : List Block). Among (block_of x) bs) tables.operations (among_map block_of x (block_of x) c.operations m refl) in
+      let at = low_block p (ranks_of c) (block_of x) live in
+      let k = low_number p x.from x (of-blocks p (ranks_of c) (block_of x) live).defined in
+      let top = few.degrees in
+      let R : Cochain → Column → Type 0 = IsOperationColumn true b.facets p (classes_of c) (block_of x) in
+      let e = length_alike R (cochains_in (classes_of c) x.from) x.columns h in
+      let f = length-map (classes_in (classes_of c) x.from) cochain_of in
+      let r = few_classes x.from in
+      let from = at.0 in
+      let to = at.1 in (
+        and_from (is_u32 x.number) (is_u32 x.from && is_u32 x.to) (small x.number (omega (arith, k, from, top)))
+            (and_from (is_u32 x.from) (is_u32 x.to) (small x.from (omega (arith, from, top))) (small x.to (omega (arith, to, top)))),
+        fine_columns p 1 x.columns (omega (arith, e, f, r))
+            (each_second R (IsFineColumn p) (λ z y q. fine_column b.facets low x.to p (cochains_in (classes_of c) x.to) q.result y q.is_column) (cochains_in (classes_of c) x.from) x.columns h),
+      )
+
+  fine_cartan : (x : CartanPart) → Among x c.cartans → IsCartanPart true b.facets p (classes_of c) x → Each (IsFine p) (cartan_lines x)
+  fine_cartan x m h =
+      let at = low_line p (ranks_of c) (line_of x) (subst (λ (ls : List CartanLine). Among (line_of x) ls) tables.cartans (among_map line_of x (line_of x) c.cartans m refl)) in
+      let top = few.degrees in
+      let left = few.classes x.a in
+      let right = few.classes x.b in
+      let a = at.a in
+      let b = at.b in
+      let i = at.i in
+      let j = at.j in
+      let n = at.n in
+      fine_answer (small x.a (omega (arith, a, top))) (small x.i (omega (arith, i, left))) (small x.b (omega (arith, b, top))) (small x.j (omega (arith, j, right))) (small x.n (omega (arith, n, a, b, top))) x.answer h.is_answer
+    where
+      degree : ℕ
+      degree = line_degree p (line_of x)
+
+      fine_answer : is_u32 x.a ≡ true → is_u32 x.i ≡ true → is_u32 x.b ≡ true → is_u32 x.j ≡ true → is_u32 x.n ≡ true → (answer : CartanAnswer)
+          → IsAnswer true b.facets degree p (classes_in (classes_of c) degree) h.difference answer → Each (IsFine p) (answer_lines x.a x.i x.b x.j x.n answer)
+      fine_answer a i e j n (Yes primitive) k = (
+        and_from (is_u32 x.a) _ a (and_from (is_u32 x.i) _ i (and_from (is_u32 x.b) _ e (and_from (is_u32 x.j) (is_u32 x.n) j n))),
+        (fine_primitive b.facets low degree p h.difference primitive (k.1 refl), tt),
+      )
+      fine_answer a i e j n (No value cycle) k =
+          let least : 0 < value = k.first.nonzero in
+          let most : value < p = subst (λ (v : ℕ). v < p) k.first.here (each_get_or (λ v. v < p) k.values k.place 0 k.first.inside k.coordinates.small) in (
+            and_from (is_u32 x.a) _ a (and_from (is_u32 x.i) _ i (and_from (is_u32 x.b) _ e (and_from (is_u32 x.j) _ j (and_from (is_u32 x.n) (is_unit p value) n
+                (and_from (nat_lt 0 value) (nat_lt value p) (lt-ltb 0 value least) (lt-ltb value p most)))))),
+            (fine_chain b.facets low degree p cycle (k.cycle_of refl).cycle_at.terms_are, tt),
+          )
+
+  pub fine_complex : is_name b.name ≡ true → Each (IsFine p) (complex_lines c)
+  fine_complex named = (
+    ap is_name part.name ∙ named,
+    each_append (IsFine p) (map facet_line c.facets) (degrees_from 0 c.degrees ++ table_lines c) fine_facets
+        (each_append (IsFine p) (degrees_from 0 c.degrees) (table_lines c) (fine_degrees 0 c.degrees (at_index (λ n d. Each (IsFine p) (degree_lines n d)) no_degree c.degrees fine_degree))
+        (each_append (IsFine p) (flat_map product_lines c.products) _ (flat_parts p (IsProductPart true b.facets p (classes_of c)) product_lines c.products fine_product tables.product_parts)
+        (each_append (IsFine p) (flat_map operation_lines c.operations) _ (flat_parts p (IsOperationPart true b.facets p (classes_of c)) operation_lines c.operations fine_operation tables.operation_parts)
+        (each_append (IsFine p) (flat_map cartan_lines c.cartans) (end_line ∷ []) (flat_parts p (IsCartanPart true b.facets p (classes_of c)) cartan_lines c.cartans fine_cartan tables.cartan_parts) (refl, tt))))),
+  )
+
+-- ---- a job
+
+-- what is used of a complex of a job
+pub record IsSound (b : ComplexBlock) : Type 0 where
+  pub named : is_name b.name ≡ true
+  pub good : Each (λ f. is_facet f ≡ true) b.facets
+  pub low : AreLow b.facets
+  pub fit : FacetsFit b.facets
+  pub ascending : Each IsAscending b.facets
+
+facets_good : (fs : List (List ℕ)) → list_all is_facet fs ≡ true → Each (λ f. is_facet f ≡ true) fs
+facets_good [] h = tt
+facets_good (f ∷ fs) h = let parts = and_parts (is_facet f) (list_all is_facet fs) h in (parts.0, facets_good fs parts.1)
+
+sound : (b : ComplexBlock) → is_name b.name ≡ true → is_complex b.facets ≡ true → IsSound b
+sound b named h =
+    let parts = and_parts (list_all is_facet b.facets) (is_none (complex_fault b.facets)) h in
+    let good = facets_good b.facets parts.0 in
+    record {
+      named = named;
+      good = good;
+      low = each_map (λ f k. (and_parts (is_ascending f) (list_all is_vertex f) (and_parts (is_not_empty f) _ k).1).1) b.facets good;
+      fit = facets_fit b.facets (no-fault (complex_fault b.facets) parts.1);
+      ascending = complex-ascends b.facets h;
+    }
+
+all_sound : (bs : List ComplexBlock) → list_all is_name (map (λ b. b.name) bs) ≡ true → list_all (λ b. is_complex b.facets) bs ≡ true → Each IsSound bs
+all_sound [] h k = tt
+all_sound (b ∷ bs) h k =
+    let n = and_parts (is_name b.name) (list_all is_name (map (λ (b : ComplexBlock). b.name) bs)) h in
+    let c = and_parts (is_complex b.facets) (list_all (λ (b : ComplexBlock). is_complex b.facets) bs) k in
+    (sound b n.0 c.0, all_sound bs n.1 c.1)
+
+split_names : (ns ms : List (List ℕ)) → list_all is_name (ns ++ ms) ≡ true → (list_all is_name ns ≡ true) × (list_all is_name ms ≡ true)
+split_names [] ms h = (refl, h)
+split_names (n ∷ ns) ms h =
+    let parts = and_parts (is_name n) (list_all is_name (ns ++ ms)) h in
+    let rest = split_names ns ms parts.1 in
+    (and_from (is_name n) (list_all is_name ns) parts.0 rest.0, rest.1)
+
+-- what is used of a job
+pub record IsWritable (job : Spelled) : Type 0 where
+  pub prime : IsTrue (served job.prime)
+  pub complexes : Each IsSound job.complexes
+  pub names : list_all is_name (map (λ m. m.name) job.maps) ≡ true
+
+pub writable : (job : Spelled) → is_job job.prime job.complexes job.maps ≡ true → IsWritable job
+unfolding is_job
+writable job h =
+    let a = (and_parts (served job.prime) _ h).1 in
+    let c = and_parts (list_all is_name (block_names job.complexes job.maps) && are_distinct (block_names job.complexes job.maps)) _ (and_parts (nat_le (length job.complexes) 8 && nat_le (length job.maps) 8) _ a).1 in
+    let names = split_names (map (λ (c : ComplexBlock). c.name) job.complexes) (map (λ (m : MapBlock). m.name) job.maps) (and_parts (list_all is_name (block_names job.complexes job.maps)) _ c.0).0 in
+    record {
+      prime = (and_parts (served job.prime) _ h).0;
+      complexes = all_sound job.complexes names.0 (and_parts (list_all (λ (b : ComplexBlock). is_complex b.facets) job.complexes) (list_all (is_map job.complexes) job.maps) c.1).0;
+      names = names.1;
+    }
+
+-- ---- maps
+
+name_good : (bs : List ComplexBlock) (k : ℕ) → k < length bs → Each IsSound bs → is_name (name_at bs k) ≡ true
+name_good bs k l h = (each_get_or IsSound bs k _ l h).named
+
+low_from : (facets : List (List ℕ)) → AreLow facets → (v : ℕ) → is_vertex_of facets v ≡ true → is_vertex v ≡ true
+low_from facets low v h =
+    let on = vertex_in v facets h in
+    all-among is_vertex on.0 v (each_among (λ f. list_all is_vertex f ≡ true) on.0 facets low on.1) on.2
+
+low_facets : (bs : List ComplexBlock) (k : ℕ) → Each IsSound bs → AreLow (facets_at bs k)
+low_facets [] k h = tt
+low_facets (b ∷ bs) zero h = h.0.low
+low_facets (b ∷ bs) (suc k) h = low_facets bs k h.1
+
+pub few_degrees_at : (p : ℕ) (bs : List ComplexBlock) (cs : List ComplexPart) (k : ℕ) → Each IsSound bs → AllZip (IsComplexPart true true p) bs cs → AreFew (ranks (get_or (map classes_of cs) k []))
+few_degrees_at p [] [] k h z = record { degrees = omega arith; classes = λ n. omega arith }
+few_degrees_at p [] (c ∷ cs) k h z = absurd z
+few_degrees_at p (b ∷ bs) [] k h z = absurd z
+few_degrees_at p (b ∷ bs) (c ∷ cs) zero h z = few p b c h.0.good h.0.low h.0.fit h.0.ascending z.0
+few_degrees_at p (b ∷ bs) (c ∷ cs) (suc k) h z = few_degrees_at p bs cs k h.1 z.1
+
+module _ (job : Spelled) (kept : IsWritable job) (cs : List ComplexPart) (all : AllZip (IsComplexPart true true job.prime) job.complexes cs) (b : MapBlock) (m : MapPart) (named : is_name b.name ≡ true) (is : IsMapOf job.complexes b)
+    (part : IsMapPart true job (map classes_of cs) b m) where
+  abbrev from_classes : Classes
+  from_classes = get_or (map classes_of cs) b.from []
+
+  abbrev to_classes : Classes
+  to_classes = get_or (map classes_of cs) b.to []
+
+  pub fine_send : (s : Sent) → Among s m.sends → IsFine job.prime (send_of s)
+  fine_send s k =
+      let F = facets_at job.complexes b.from in
+      let G = facets_at job.complexes b.to in
+      let known = each_among (λ (s : Sent). (is_vertex_of F s.from ≡ true) × (is_vertex_of G s.to ≡ true)) s b.sends (known_vertices F G [] 0 b.sends is.free)
+      (each_among (λ (s : Sent). Among s b.sends) s m.sends (part.sends refl).each k) in
+      and_from (is_vertex s.from) (is_vertex s.to) (low_from F (low_facets job.complexes b.from kept.complexes) s.from known.0) (low_from G (low_facets job.complexes b.to kept.complexes) s.to known.1)
+
+  fine_induced : (x : InducedPart) → Among x m.induced → IsInducedPart true (image b.sends) (facets_at job.complexes b.from) job.prime from_classes to_classes x → Each (IsFine job.prime) (induced_lines x)
+  fine_induced x k h =
+      let p : ℕ = job.prime in
+      let live = of-filter (λ q. has_class (ranks from_classes) q && has_class (ranks to_classes) q) (degrees (ranks from_classes)) x.q
+      (subst (λ (qs : List ℕ). Among x.q qs) part.induced (among_map (λ (x : InducedPart). x.q) x x.q m.induced k refl)) in
+      let q = of-numbers x.q 0 (length (ranks from_classes)) live.0 in
+      let top = (few_degrees_at p job.complexes cs b.from kept.complexes all).degrees in
+      let rank = (few_degrees_at p job.complexes cs b.to kept.complexes all).classes x.q in
+      let r = rank-of to_classes x.q in
+      let f = facets_at job.complexes b.from in
+      let R : Cochain → Column → Type 0 = λ z y. IsColumn true f x.q p (cochains_in from_classes x.q) (pull_back (image b.sends) z) y.values y.primitive in
+      let e = length_alike R (cochains_in to_classes x.q) x.columns h in
+      let n = length-map (classes_in to_classes x.q) cochain_of in (
+        small x.q (omega (arith, q, top)),
+        fine_columns p 1 x.columns (omega (arith, e, n, r, rank))
+            (each_second R (IsFineColumn p) (λ z y q. fine_column f (low_facets job.complexes b.from kept.complexes) x.q p (cochains_in from_classes x.q) _ y q) (cochains_in to_classes x.q) x.columns h),
+      )
+
+  fine_map : Each (IsFine job.prime) (map_lines m)
+  fine_map = (
+    and_from (is_name m.name) (is_name m.from && is_name m.to) (ap is_name part.name ∙ named)
+        (and_from (is_name m.from) (is_name m.to) (ap is_name part.from_name ∙ name_good job.complexes b.from is.from kept.complexes) (ap is_name part.to_name ∙ name_good job.complexes b.to is.to kept.complexes)),
+    each_append (IsFine job.prime) (map send_of m.sends) (flat_map induced_lines m.induced ++ end_line ∷ []) (each_of_map (IsFine job.prime) send_of m.sends (each_of_index (λ (s : Sent). IsFine job.prime (send_of s)) m.sends fine_send))
+        (each_append (IsFine job.prime) (flat_map induced_lines m.induced) (end_line ∷ [])
+        (flat_parts job.prime (IsInducedPart true (image b.sends) (facets_at job.complexes b.from) job.prime from_classes to_classes) induced_lines m.induced fine_induced part.induced_parts) (refl, tt)),
+  )
+
+-- ---- the report
+
+module _ (job : Spelled) (kept : IsWritable job) (cs : List ComplexPart) (all : AllZip (IsComplexPart true true job.prime) job.complexes cs) where
+  fine_complexes : (bs : List ComplexBlock) (ds : List ComplexPart) → Each IsSound bs → AllZip (IsComplexPart true true job.prime) bs ds → Each (IsFine job.prime) (flat_map complex_lines ds)
+  fine_complexes [] [] s h = tt
+  fine_complexes [] (d ∷ ds) s h = absurd h
+  fine_complexes (b ∷ bs) [] s h = absurd h
+  fine_complexes (b ∷ bs) (d ∷ ds) s h =
+      each_append (IsFine job.prime) (complex_lines d) (flat_map complex_lines ds) (fine_complex job.prime b d s.0.good s.0.low s.0.fit s.0.ascending h.0 s.0.named) (fine_complexes bs ds s.1 h.1)
+
+  fine_maps : (bs : List MapBlock) (ms : List MapPart) → list_all is_name (map (λ m. m.name) bs) ≡ true → Each (IsMapOf job.complexes) bs → AllZip (IsMapPart true job (map classes_of cs)) bs ms
+      → Each (IsFine job.prime) (flat_map map_lines ms)
+  fine_maps [] [] n s h = tt
+  fine_maps [] (m ∷ ms) n s h = absurd h
+  fine_maps (b ∷ bs) [] n s h = absurd h
+  fine_maps (b ∷ bs) (m ∷ ms) n s h =
+      let names = and_parts (is_name b.name) (list_all is_name (map (λ (m : MapBlock). m.name) bs)) n in
+      each_append (IsFine job.prime) (map_lines m) (flat_map map_lines ms) (fine_map job kept cs all b m names.0 s.0 h.0) (fine_maps bs ms names.1 s.1 h.1)
+
+pub well_formed_law : WellFormedLaw
+unfolding is_well_formed
+well_formed_law job r is h =
+    let p : ℕ = job.prime in
+    let kept = writable job is in
+    let complexes = fine_complexes job kept r.complexes h.complexes job.complexes r.complexes kept.complexes h.complexes in
+    let maps = fine_maps job kept r.complexes h.complexes job.maps r.maps kept.names (job-maps p job.complexes job.maps is) (h.maps refl) in
+    let lines : Each (IsFine p) (certificate_lines p r.complexes r.maps) = (
+      refl,
+      (
+        kept.prime,
+        each_append (IsFine p) (flat_map complex_lines r.complexes) (flat_map map_lines r.maps ++ done_line ∷ []) complexes (each_append (IsFine p) (flat_map map_lines r.maps) (done_line ∷ []) maps (refl, tt)),
+      ),
+    ) in
+    subst (λ (q : ℕ). list_all (is_line q) (certificate_lines q r.complexes r.maps) ≡ true) (sym h.prime) (all_fine p (certificate_lines p r.complexes r.maps) lines)

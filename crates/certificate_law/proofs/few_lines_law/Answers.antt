@@ -1,0 +1,5 @@
+use Rattle.certificate_law.proofs.FewLines.{few_lines_law}
+use Rattle.certificate_law.proofs.few_lines_law.Goals as goal
+
+pub returns : goal.returns
+returns c = few_lines_law
