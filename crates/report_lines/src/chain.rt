@@ -1,0 +1,45 @@
+ghost use Rattle.std.specs.Prelude.{◌≡◌, ◌++◌, IfOk, OnOk};
+ghost use Rattle.complex_file.specs.Views.{texts};
+ghost use Rattle.report_text_law.specs.Bytes.{chain_of, numbers, simplex_of, term_of};
+
+use crate::word::{number, numbers, pieces};
+use comch_io::Listed;
+use report::{Chain, Term};
+use simplex_set::Simplex;
+use std::alloc::{AllocError, Global};
+
+/// The simplex with the vertices that words spell. It fails for want of memory alone.
+pub fn simplex(alloc: Global, words: &[&[u8]]) -> Result<Simplex, AllocError>
+    ensures { IfOk result (λ s. s ≡ numbers (texts words.now)) }
+{
+    Simplex::new(alloc, &numbers(alloc, words)?)
+}
+
+// The simplex whose vertices stand between full stops.
+fn simplex_of(alloc: Global, word: &[u8]) -> Result<Simplex, AllocError>
+    ensures { IfOk result (λ s. s ≡ simplex_of word.now) }
+{
+    simplex(alloc, &pieces(alloc, b'.', word)?)
+}
+
+// Adds the term that a word spells: a coefficient, a colon and a simplex. A word that is not two pieces adds none.
+fn add_term(alloc: Global, terms: &mut Vec<Term>, word: &[u8]) -> Result<(), AllocError>
+    ensures { OnOk result (terms.new.items ≡ terms.old.items ++ term_of word.now) }
+{
+    let pieces = pieces(alloc, b':', word)?;
+    if let [coefficient, vertices] = pieces.as_slice() {
+        terms.push(Term::new(number(coefficient), simplex_of(alloc, vertices)?))?;
+    }
+    Ok(())
+}
+
+/// The chain of the terms that words spell. It fails for want of memory alone.
+pub fn chain_of(alloc: Global, words: &[&[u8]]) -> Result<Chain, AllocError>
+    ensures { IfOk result (λ c. c ≡ chain_of (texts words.now)) }
+{
+    let mut terms = Vec::new(alloc);
+    for word in words {
+        add_term(alloc, &mut terms, word)?;
+    }
+    Ok(Listed::from(terms))
+}
