@@ -1,12 +1,10 @@
 -- Columns and cycles of a complex, from those of the pair with no subcomplex.
-use Rattle.std.proofs.Common.{◌≡◌, ℕ, ◌-◌, Bool, true, false, List, [], map, refl, sym, subst}
+use Rattle.std.proofs.Common.{◌≡◌, ℕ, true, false, List, [], refl, sym, subst}
 use Rattle.std.specs.Prelude.{None, Option, Some}
-use Rattle.linear_law.specs.Lists.{Each}
 use Rattle.linear_law.proofs.ListLemmas.{each_map}
 use Rattle.simplicial_law.specs.Cochains.{Cochain}
 use Rattle.simplicial_law.specs.Canonical.{IsCanonicalClass}
 use Rattle.complex_index.specs.declared.indexed.Cochain.{Cochain as PlacedCochain}
-use Rattle.complex_index.specs.Levels.{IsIndexOf, level}
 use Rattle.relative_law.proofs.AbsoluteLaws.{absolute_law}
 use Rattle.relative_law.specs.RelativeClasses.{IsCanonicalRelativeClass}
 use Rattle.cohomology.specs.declared.classes.DegreeClasses.{DegreeClasses}

@@ -1,5 +1,6 @@
 -- One degree: the columns of the table of cycles are dual to the canonical relative classes.
-use Rattle.std.proofs.Common.{◌≡◌, ℕ, zero, suc, ◌+◌, ◌*◌, ◌-◌, ◌%◌, ◌<◌, ◌≤◌, ◌^◌, ◌≢◌, List, [], ◌∷◌, ◌++◌, take, map, length, get_or, arith, refl, sym, ap, ap₂, subst, ◌∙◌, inl, inr, ◌⊎◌}
+use Rattle.std.specs.Prelude.{Option, None, Some}
+use Rattle.std.proofs.Common.{◌≡◌, ℕ, zero, suc, ◌+◌, ◌*◌, ◌<◌, ◌^◌, List, [], ◌∷◌, ◌++◌, take, map, length, get_or, arith, sym, ap, ap₂, subst, ◌∙◌, inl, inr, ◌⊎◌}
 use Rattle.std.specs.Prelude.{Some, slice_get}
 use Rattle.std.specs.List.{AllZip}
 use Rattle.std.proofs.lemmas.Bool.{cases_eq}
@@ -20,24 +21,23 @@ use Rattle.linear_law.proofs.PivotLemmas.{one-nonzero}
 use Rattle.linear_law.proofs.RowCombinations.{unit_one, unit_other}
 use Rattle.linear_law.proofs.TriangularBases.{found}
 use Rattle.simplicial_law.specs.Cochains.{Cochain, unit_cochain}
-use Rattle.simplicial_law.specs.CanonicalClasses.{cochain_of}
-use Rattle.simplicial_law.specs.Places.{cochain_at, terms_of}
-use Rattle.simplicial_law.proofs.SimplexPlaces.{agree_by_place, cochain_at-value, lead_up, simplex_at}
+use Rattle.simplicial_law.specs.Places.{cochain_at}
+use Rattle.simplicial_law.proofs.SimplexPlaces.{agree_by_place, cochain_at-value, lead_up}
 use Rattle.simplicial_law.proofs.UnitCochains.{unit_away, unit_here}
-use Rattle.sparse_rows.specs.Rows.{value_in}
 use Rattle.complex_index.specs.declared.indexed.Cochain.{Cochain as PlacedCochain}
 use Rattle.complex_index.specs.Levels.{level}
 use Rattle.row_reduce.specs.declared.Stored.{Stored}
 use Rattle.row_reduce.specs.Stored.{StoredFits, stored_place}
+use Rattle.row_reduce.proofs.SolvedLemmas.{some_or_none}
+use Rattle.row_reduce.proofs.StoredLemmas.{some_none}
 use Rattle.row_reduce.specs.Triangular.{AreTriangular, stored_row}
-use Rattle.row_reduce.specs.Walk.{owned_in}
 use Rattle.cycle_table.specs.Tables.{AreCycles, AreFree, column}
-use Rattle.cycle_table.proofs.TableLemmas.{number_among, zero_or_more}
+use Rattle.cycle_table.proofs.TableLemmas.{number_among}
 use Rattle.relative_law.proofs.Spaces.{relative_close, relative_coboundaries}
 use Rattle.relative_law.specs.Pairs.{IsRelativeCoboundary}
 use Rattle.relative_law.specs.RelativeClasses.{IsCanonicalRelativeClass, IsRelativeCoboundaryPivot, IsRelativeCocyclePivot}
 use Rattle.cohomology.specs.Pairs.{IsPairIndex, IsPairIndexOf}
-use Rattle.cohomology.specs.Classes.{AreRelativeIn, IsPlaced, IsReachedIn, chains_at, cochain_in}
+use Rattle.cohomology.specs.Classes.{AreRelativeIn, IsPlaced, IsReachedIn, cochain_in}
 use Rattle.cohomology.specs.Cycles.{AreDualClasses, IsDualTable, IsLeadOf, at_places}
 use Rattle.cohomology.proofs.RowLemmas.{canonical_at, differ, pivot_of_class, some_at}
 
@@ -92,7 +92,7 @@ module _ (facets parts : List (List ℕ)) (ls sls : List (List (List ℕ))) (is 
       go (d ∷ ds) (k ∷ ks) h zero b q = subst (λ (x : PlacedCochain p). IsLeadOf x.row k) q h.0
       go (d ∷ ds) (k ∷ ks) h (suc i) b q = go ds ks h.1 i (omega arith) q
 
-  module _ (classes : List (PlacedCochain p)) (relative : AreRelativeIn p ls sls n classes) (owner : List ℕ) (stored : List (Stored p)) (reached : IsReachedIn p ls sls n owner stored)
+  module _ (classes : List (PlacedCochain p)) (relative : AreRelativeIn p ls sls n classes) (owner : List (Option ℕ)) (stored : List (Stored p)) (reached : IsReachedIn p ls sls n owner stored)
       (places : List ℕ) (leads : AllZip (λ (c : PlacedCochain p) k. IsLeadOf c.row k) classes places) where
     count : length places ≡ length classes
     count = length_alike (λ (c : PlacedCochain p) k. IsLeadOf c.row k) classes places leads
@@ -114,24 +114,24 @@ module _ (facets parts : List (List ℕ)) (ls sls : List (List (List ℕ))) (is 
         pivot_of_class facets parts ls sls is p field n c.row (get_or places i 0) s placed.inside placed.row_is (lead_among classes places leads i c e) class
 
     -- which is no lead of coboundaries
-    not_owned : (i : ℕ) → i < length classes → (get_or places i 0 < length (level ls n)) × (get_or owner (get_or places i 0) 0 ≡ 0)
+    not_owned : (i : ℕ) → i < length classes → (get_or places i 0 < length (level ls n)) × (get_or owner (get_or places i 0) None ≡ None)
     not_owned i b =
         let c = some_at classes i b in
         let own = class_here i c.0 c.1 in
         let at = lead_at i c.0 (get_or (relative.basis facets parts is).canonical.pivots i []) c.1 own.1 in (
           at.0,
-          elim (zero_or_more (get_or owner (get_or places i 0) 0)) [
+          elim (some_or_none (get_or owner (get_or places i 0) None)) [
             | inl e ↦ e
             | inr some ↦
-                let pivot = (reached.table.places facets parts is).sound (get_or places i 0) (let q : owned_in owner (get_or places i 0) = omega (arith, some.1) in q) in
+                let pivot = (reached.table.places facets parts is).sound (get_or places i 0) (λ z. some_none some.0 (sym some.1 ∙ z)) in
                 absurd (own.1.no_bound (subst (IsRelativeCoboundaryPivot facets parts n p) at.1 pivot))
           ],
         )
 
     pub leads_free : AreFree (length (level ls n)) owner places
     leads_free =
-        each_from_index (λ s. (s < length (level ls n)) × (get_or owner s 0 ≡ 0)) places
-        (λ i d b. subst (λ s. (s < length (level ls n)) × (get_or owner s 0 ≡ 0)) (get_or_default places i 0 d b) (not_owned i (omega (arith, b, count))))
+        each_from_index (λ s. (s < length (level ls n)) × (get_or owner s None ≡ None)) places
+        (λ i d b. subst (λ s. (s < length (level ls n)) × (get_or owner s None ≡ None)) (get_or_default places i 0 d b) (not_owned i (omega (arith, b, count))))
 
     module _ (table : List (List (ℕ × ℕ))) (cycles : AreCycles p (length (level ls n)) stored places table) where
       members : Each (λ (s : Stored p). Bounds (stored_row s)) stored
@@ -146,16 +146,16 @@ module _ (facets parts : List (List ℕ)) (ls sls : List (List (List ℕ))) (is 
                 let none : Congruent p (stored_row s s.place) 0 = record { same = z ∙ sym (zero-mod p) } in
                 let one : Congruent p 0 1 = Congruent_from (Congruent_add (Congruent_sym h.factor) (Congruent_mul none (Congruent_refl s.factor))) (omega arith) in
                 one-nonzero p 0 field.large one (zero-mod p);
-            least = λ y on b. h.leads y b;
+            least = λ y on b. h.leads.before y b;
           })
           stored reached.bounds.triangular.fits
 
       -- the leads are the places of the pivots of the relative coboundaries
       whole : (t : ℕ) → IsPivot p (λ y. y < length (level ls n)) (λ a b. a < b) Bounds t → Among t (map stored_place stored)
-      whole t q =
-          let some = (reached.table.places facets parts is).whole t q.lead.on (bound_pivot q.vector q.member t q.lead) in
-          let o = reached.bounds.triangular.owns.some t (get_or owner t 0 - 1) (omega (arith, some)) in
-          named stored (get_or owner t 0 - 1) o.0 o.1
+      whole t q = elim (some_or_none (get_or owner t None)) [
+        | inl none ↦ absurd ((reached.table.places facets parts is).whole t q.lead.on (bound_pivot q.vector q.member t q.lead) none)
+        | inr some ↦ let o = reached.bounds.triangular.owns.some t some.0 some.1 in named stored some.0 o.0 o.1
+      ]
         where
           named : (ss : List (Stored p)) (k : ℕ) → k < length ss → ((d : Stored p) → (get_or ss k d).place ≡ t) → Among t (map stored_place ss)
           named [] k b e = absurd (omega arith)
@@ -225,7 +225,7 @@ module _ (facets parts : List (List ℕ)) (ls sls : List (List (List ℕ))) (is 
 
 -- ---- as the code uses it
 
-module _ (p : ℕ) (field : IsField p) (ls sls : List (List (List ℕ))) (pair : IsPairIndex ls sls) (n : ℕ) (owner : List ℕ) (stored : List (Stored p)) (reached : IsReachedIn p ls sls n owner stored)
+module _ (p : ℕ) (field : IsField p) (ls sls : List (List (List ℕ))) (pair : IsPairIndex ls sls) (n : ℕ) (owner : List (Option ℕ)) (stored : List (Stored p)) (reached : IsReachedIn p ls sls n owner stored)
     (classes : List (PlacedCochain p)) (are : AreRelativeIn p ls sls n classes) (places : List ℕ) (leads : AllZip (λ (c : PlacedCochain p) k. IsLeadOf c.row k) classes places) where
   pub places_free : AreFree (length owner) owner places
   places_free = subst (λ w. AreFree w owner places) (sym reached.table.whole) (leads_free pair.facets pair.parts ls sls pair.index p field n classes are owner stored reached places leads)

@@ -1,10 +1,11 @@
 -- The reduced echelon list of the coboundary rows is the canonical relative coboundaries one degree up, with their primitives.
-use Rattle.std.proofs.Common.{◌≡◌, ℕ, zero, suc, ◌+◌, ◌*◌, ◌-◌, ◌<◌, ◌≤◌, ◌^◌, List, [], ◌∷◌, ◌++◌, map, length, get_or, arith, lit<, refl, sym, ap, ap₂, subst, ◌∙◌, inl, inr}
+use Rattle.std.specs.Prelude.{Bool, Option}
+use Rattle.std.proofs.Common.{◌≡◌, ℕ, ◌+◌, ◌-◌, ◌<◌, ◌≤◌, ◌^◌, List, [], ◌∷◌, ◌++◌, map, length, get_or, arith, lit<, refl, sym, ap, ap₂, subst, ◌∙◌, inl, inr}
 use Rattle.std.specs.Prelude.{Vec}
 use Rattle.std.specs.declared.alloc.Global.{Global}
 use Rattle.std.specs.List.{AllZip}
 use Rattle.linear_law.specs.Congruence.{Congruent, IsField}
-use Rattle.linear_law.specs.Lists.{Among, Each, IsAscending}
+use Rattle.linear_law.specs.Lists.{Among, IsAscending}
 use Rattle.linear_law.specs.Elimination.{IsImage, IsLinear}
 use Rattle.linear_law.specs.Pivots.{IsCanonical, IsPivot}
 use Rattle.linear_law.specs.Triangular.{Walked}
@@ -19,17 +20,18 @@ use Rattle.simplicial_law.specs.Places.{cochain_at, terms_of}
 use Rattle.simplicial_law.proofs.Bases.{coboundary_same}
 use Rattle.simplicial_law.proofs.SimplexPlaces.{pivot_down}
 use Rattle.sparse_rows.specs.Rows.{IsBelow, IsRow, value_in}
-use Rattle.complex_index.specs.Levels.{IsIndexOf, level}
+use Rattle.complex_index.specs.Levels.{level}
 use Rattle.row_reduce.specs.declared.EchelonRow.{EchelonRow}
 use Rattle.row_reduce.specs.declared.Stored.{Stored}
-use Rattle.row_reduce.specs.Walk.{combined, owned_in}
+use Rattle.row_reduce.specs.Walk.{combined}
+use Rattle.row_reduce.specs.Pivots.{IsMarkedIn}
 use Rattle.row_reduce.specs.Triangular.{IsSolvedStored}
-use Rattle.row_reduce.specs.Echelon.{IsEchelonFrom, IsEchelonRow, IsSolvedWhole, pivot_of, row_of}
+use Rattle.row_reduce.specs.Echelon.{IsEchelonRow, IsSolvedWhole, pivot_of, row_of}
 use Rattle.relative_law.proofs.AbsoluteLaws.{absolute_law}
 use Rattle.relative_law.proofs.RelativeBases.{canonical_bound, canonical_primitive}
 use Rattle.relative_law.proofs.RelativeDegrees.{coboundary_down, coboundary_up, linear}
 use Rattle.relative_law.proofs.Spaces.{relative_coboundaries, restricted}
-use Rattle.relative_law.specs.Pairs.{IsRelativeCoboundary, IsSubcomplex}
+use Rattle.relative_law.specs.Pairs.{IsSubcomplex}
 use Rattle.relative_law.specs.RelativeClasses.{IsCanonicalRelativeCoboundary, IsCanonicalRelativePrimitive, IsRelativeCoboundaryPivot}
 use Rattle.cohomology.specs.declared.data.Coboundary.{Coboundary}
 use Rattle.cohomology.specs.Pairs.{IsPairIndex, IsPairIndexOf}
@@ -62,14 +64,14 @@ primitive_alike facets parts n p pair z w y x high low h = record {
 -- ---- one degree
 
 module _ (facets parts : List (List ℕ)) (ls sls : List (List (List ℕ))) (is : IsPairIndexOf facets parts ls sls) (p : ℕ) (field : IsField p)
-    (n : ℕ) (pivots : List ℕ) (table : IsPivotTable p ls sls n pivots) (rows : List (List (ℕ × ℕ))) (skip : List ℕ) (of : AreRowsOf p ls sls n pivots rows skip)
-    (solutions : List (List (ℕ × ℕ))) (owner : List ℕ) (echelon : List (EchelonRow p)) (whole : IsSolvedWhole p (length (level ls (n + 1))) rows skip solutions owner echelon) where
+    (n : ℕ) (pivots : List (Option ℕ)) (table : IsPivotTable p ls sls n pivots) (rows : List (List (ℕ × ℕ))) (skip : List Bool) (of : AreRowsOf p ls sls n pivots rows skip)
+    (solutions : List (List (ℕ × ℕ))) (owner : List (Option ℕ)) (echelon : List (EchelonRow p)) (whole : IsSolvedWhole p (length (level ls (n + 1))) rows skip solutions owner echelon) where
   linear_here : IsLinear p (length (level ls n)) (λ y. y < length (level ls (n + 1))) (combined rows)
   linear_here = linear facets parts n p is.inside (level ls n) (is.full_index.lists n) (level ls (n + 1)) (is.full_index.lists (n + 1)) (combined rows) (by_place facets parts ls sls is p field n pivots rows skip of)
 
-  walked_here : Walked p (length (level ls n)) (length (level ls (n + 1))) (combined rows) (owned_in skip) 0 whole.solved.kernel whole.solved.images
+  walked_here : Walked p (length (level ls n)) (length (level ls (n + 1))) (combined rows) (IsMarkedIn skip) 0 whole.solved.kernel whole.solved.images
   walked_here =
-      subst (λ m. Walked p m (length (level ls (n + 1))) (combined rows) (owned_in skip) 0 whole.solved.kernel whole.solved.images)
+      subst (λ m. Walked p m (length (level ls (n + 1))) (combined rows) (IsMarkedIn skip) 0 whole.solved.kernel whole.solved.images)
       (rows_count facets parts ls sls is p field n pivots rows skip of) whole.solved.walked
 
   abbrev Image : (ℕ → ℕ) → Type 0
@@ -77,7 +79,7 @@ module _ (facets parts : List (List ℕ)) (ls sls : List (List (List ℕ))) (is 
 
   image_among : (y : ℕ) → IsPivot p (λ y. y < length (level ls (n + 1))) (λ a b. a < b) Image y → Among y (map pivot_of echelon)
   image_among y q =
-      let a = image_pivot p (length (level ls n)) (length (level ls (n + 1))) field (combined rows) linear_here (owned_in skip) whole.solved.kernel whole.solved.images walked_here y q in
+      let a = image_pivot p (length (level ls n)) (length (level ls (n + 1))) field (combined rows) linear_here (IsMarkedIn skip) whole.solved.kernel whole.solved.images walked_here y q in
       whole.reduced.whole y (omega arith) q.lead.on ((whole.solved.owned y q.lead.on).1 a)
 
   canonical_row : (e : EchelonRow p) → Among e echelon → IsCanonical p (λ y. y < length (level ls (n + 1))) (λ a b. a < b) Image e.pivot (value_in e.row)
@@ -104,7 +106,7 @@ module _ (facets parts : List (List ℕ)) (ls sls : List (List (List ℕ))) (is 
       let lists = is.full_index.lists in
       let order = is.full_index.in_order in
       coboundary_alike facets parts (n + 1) p field.large is.inside (get_or above e.pivot []) (cochain_at above (value_in e.row)) (cochain_of (terms_of above e.row)) (row_agrees facets (n + 1) p above (lists (n + 1)) e.row)
-      (canonical_bound facets parts n p field is.inside here (lists n) (order n) above (lists (n + 1)) (order (n + 1)) (combined rows) (by_place facets parts ls sls is p field n pivots rows skip of) (owned_in skip)
+      (canonical_bound facets parts n p field is.inside here (lists n) (order n) above (lists (n + 1)) (order (n + 1)) (combined rows) (by_place facets parts ls sls is p field n pivots rows skip of) (IsMarkedIn skip)
       (skipped_places facets parts ls sls is p field n pivots rows skip of table.whole (table.places facets parts is)) whole.solved.kernel whole.solved.images walked_here e.pivot (value_in e.row) (canonical_row e mem))
 
   bound_primitive : (e : EchelonRow p) → Among e echelon → IsCanonicalRelativePrimitive facets parts n p (cochain_of (terms_of (level ls (n + 1)) e.row)) (cochain_of (terms_of (level ls n) e.combination))
@@ -116,7 +118,7 @@ module _ (facets parts : List (List ℕ)) (ls sls : List (List (List ℕ))) (is 
       let i = each_among (IsEchelonRow p (length above) rows skip whole.solved.kernel) e echelon whole.reduced.each mem in
       primitive_alike facets parts n p is.inside (cochain_at above (value_in e.row)) (cochain_of (terms_of above e.row)) (cochain_at here (value_in e.combination)) (cochain_of (terms_of here e.combination))
       (row_agrees facets (n + 1) p above (lists (n + 1)) e.row) (row_agrees facets n p here (lists n) e.combination)
-      (canonical_primitive facets parts n p field is.inside here (lists n) (order n) above (lists (n + 1)) (order (n + 1)) (combined rows) (by_place facets parts ls sls is p field n pivots rows skip of) (owned_in skip)
+      (canonical_primitive facets parts n p field is.inside here (lists n) (order n) above (lists (n + 1)) (order (n + 1)) (combined rows) (by_place facets parts ls sls is p field n pivots rows skip of) (IsMarkedIn skip)
       (skipped_places facets parts ls sls is p field n pivots rows skip of table.whole (table.places facets parts is)) whole.solved.kernel whole.solved.images walked_here
       (value_in e.row) (value_in e.combination) i.from i.apart i.skips)
 
@@ -144,8 +146,8 @@ pub coboundaries_more : {p : ℕ} (n : ℕ) (rows : List (EchelonRow p)) (made m
     → AllZip (IsCoboundaryFrom n) (rows ++ (e ∷ [])) more
 coboundaries_more {p} n rows made more e b q h k = subst (λ (bs : List (Coboundary p)). AllZip (IsCoboundaryFrom n) (rows ++ (e ∷ [])) bs) (sym q) (zip_push (IsCoboundaryFrom n) rows made e b h k)
 
-module _ (p : ℕ) (field : IsField p) (full sub : List (List (List ℕ))) (pair : IsPairIndex full sub) (n : ℕ) (pivots : List ℕ) (table : IsPivotTable p full sub n pivots)
-    (rows : List (List (ℕ × ℕ))) (skip : List ℕ) (of : AreRowsOf p full sub n pivots rows skip) (width : ℕ) (e : width ≡ length (level full (n + 1))) (solutions : List (List (ℕ × ℕ))) (owner : List ℕ)
+module _ (p : ℕ) (field : IsField p) (full sub : List (List (List ℕ))) (pair : IsPairIndex full sub) (n : ℕ) (pivots : List (Option ℕ)) (table : IsPivotTable p full sub n pivots)
+    (rows : List (List (ℕ × ℕ))) (skip : List Bool) (of : AreRowsOf p full sub n pivots rows skip) (width : ℕ) (e : width ≡ length (level full (n + 1))) (solutions : List (List (ℕ × ℕ))) (owner : List (Option ℕ))
     (stored : List (Stored p)) (given : IsSolvedStored p width rows skip solutions owner stored) where
   module _ (echelon : List (EchelonRow p)) (bounds : List (Coboundary p)) (whole : IsSolvedWhole p (length (level full (n + 1))) rows skip solutions owner echelon) (same : AllZip (IsCoboundaryFrom n) echelon bounds) where
     lower : n + 1 - 1 ≡ n

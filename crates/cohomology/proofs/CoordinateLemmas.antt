@@ -1,5 +1,5 @@
 -- What is left of a relative cocycle without the classes, and its canonical primitive.
-use Rattle.std.proofs.Common.{◌≡◌, ℕ, zero, suc, ◌+◌, ◌*◌, ◌-◌, ◌%◌, ◌<◌, ◌≤◌, ◌≢◌, List, [], ◌∷◌, take, map, length, get_or, arith, refl, sym, ap, ap₂, subst, ◌∙◌, mod-eq_of_lt, add_comm}
+use Rattle.std.proofs.Common.{◌≡◌, ℕ, zero, ◌+◌, ◌*◌, ◌-◌, ◌%◌, ◌<◌, ◌≤◌, ◌≢◌, List, [], ◌∷◌, take, map, length, get_or, arith, refl, sym, ap, ap₂, subst, ◌∙◌, mod-eq_of_lt, add_comm}
 use Rattle.std.specs.Prelude.{MatchOption, None, Option, ◌==◌, true}
 use Rattle.std.specs.List.{AllZip, list_all}
 use Rattle.std.proofs.Math.ListN.{length-map}
@@ -16,7 +16,7 @@ use Rattle.linear_law.proofs.ReducedLemmas.{expanded_in, sum_picks, sum_vanishes
 use Rattle.simplicial_law.specs.Simplices.{IsSimplex}
 use Rattle.simplicial_law.specs.Cochains.{AgreesOnSimplices, Cochain, HasCoordinates, IsCoboundary, IsCocycle, coboundary}
 use Rattle.simplicial_law.specs.CanonicalClasses.{cochain_of}
-use Rattle.simplicial_law.specs.Places.{cochain_at, terms_of}
+use Rattle.simplicial_law.specs.Places.{cochain_at}
 use Rattle.simplicial_law.proofs.Bases.{bounds_close, coboundary_plus, coboundary_same, coboundary_zero}
 use Rattle.simplicial_law.proofs.SimplexPlaces.{agree_by_place, cochain_at-value, lead_up, simplex_at}
 use Rattle.sparse_rows.specs.Rows.{IsBelow, IsFirst, IsRow, value_in}

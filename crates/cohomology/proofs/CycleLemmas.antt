@@ -1,8 +1,7 @@
 -- The row of a column of the table of cycles is the canonical cycle of its class.
-use Rattle.std.proofs.Common.{◌≡◌, ℕ, zero, suc, ◌+◌, ◌*◌, ◌-◌, ◌%◌, ◌<◌, ◌≤◌, ◌≢◌, List, [], ◌∷◌, ◌++◌, map, length, get_or, arith, refl, sym, ap, ap₂, subst, ◌∙◌, inl, inr, ◌⊎◌}
+use Rattle.std.proofs.Common.{◌≡◌, ℕ, zero, suc, ◌+◌, ◌*◌, ◌%◌, ◌<◌, ◌≢◌, List, [], ◌∷◌, ◌++◌, map, length, get_or, arith, refl, sym, ap, ap₂, subst, ◌∙◌, inl, inr, ◌⊎◌}
 use Rattle.std.specs.Prelude.{Some, slice_get}
 use Rattle.std.proofs.lemmas.Bool.{cases_lt}
-use Rattle.std.proofs.lemmas.Option.{slice_get_within}
 use Rattle.linear_law.specs.Congruence.{Congruent, IsField, negated, sum_over}
 use Rattle.linear_law.specs.Lists.{Among, Each}
 use Rattle.linear_law.specs.Listing.{unit_vector}
@@ -17,7 +16,7 @@ use Rattle.simplicial_law.specs.Canonical.{canonical_cycle}
 use Rattle.simplicial_law.specs.CanonicalClasses.{cochain_of}
 use Rattle.simplicial_law.specs.Places.{terms_of}
 use Rattle.simplicial_law.proofs.Order.{lists_strict}
-use Rattle.simplicial_law.proofs.SimplexPlaces.{agree_by_place, simplex_at}
+use Rattle.simplicial_law.proofs.SimplexPlaces.{agree_by_place}
 use Rattle.simplicial_law.proofs.UnitCochains.{unit_away, unit_here}
 use Rattle.sparse_rows.specs.Rows.{IsBelow, IsRow, value_in}
 use Rattle.sparse_rows.proofs.RowLemmas.{value_in-none}
@@ -28,8 +27,8 @@ use Rattle.relative_law.specs.Pairs.{IsRelativeCoboundary}
 use Rattle.relative_law.specs.RelativeClasses.{IsCanonicalRelativeClass, IsCanonicalRelativeCoboundary, IsRelativeCoboundaryPivot}
 use Rattle.cohomology.specs.declared.classes.DegreeClasses.{DegreeClasses}
 use Rattle.cohomology.specs.Pairs.{IsPairIndexOf}
-use Rattle.cohomology.specs.Classes.{IsPlaced, cochain_in}
-use Rattle.cohomology.specs.Cycles.{AreClassesOfPair, AreDualClasses, ArePivots, IsColumnRow, IsDualTable, IsRelativeCycle, at_places, classes_in, table_in}
+use Rattle.cohomology.specs.Classes.{cochain_in}
+use Rattle.cohomology.specs.Cycles.{AreClassesOfPair, ArePivots, IsColumnRow, IsDualTable, IsRelativeCycle, at_places, classes_in, table_in}
 use Rattle.cohomology.proofs.RowLemmas.{paired_row, row_by_place}
 
 paired_right : (p n : ℕ) (v f g : ℕ → ℕ) → ((x : ℕ) → x < n → Congruent p (f x) (g x)) → Congruent p (paired n v f) (paired n v g)

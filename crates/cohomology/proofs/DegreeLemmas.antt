@@ -1,4 +1,5 @@
 -- One degree: the blanked rows are those of relative cochains, and what may be skipped.
+use Rattle.std.specs.Prelude.{Bool, Option, None}
 use Rattle.std.proofs.Common.{◌≡◌, ℕ, zero, suc, ◌+◌, ◌<◌, ◌⊎◌, inl, inr, true, false, cond, List, [], ◌∷◌, map, length, get_or, arith, refl, sym, ap, subst, ◌∙◌}
 use Rattle.std.specs.List.{AllZip}
 use Rattle.std.proofs.Math.ListN.{length-map}
@@ -20,7 +21,8 @@ use Rattle.simplicial_law.specs.Simplices.{IsSimplex}
 use Rattle.simplicial_law.proofs.SimplexPlaces.{simplex_at}
 use Rattle.sparse_rows.specs.Rows.{IsBelow, IsRow, value_in}
 use Rattle.complex_index.specs.Levels.{level}
-use Rattle.row_reduce.specs.Walk.{IsSolved, SkipsFit, combined, owned_in}
+use Rattle.row_reduce.specs.Walk.{IsSolved, SkipsFit, combined}
+use Rattle.row_reduce.specs.Pivots.{IsLeadIn, IsMarkedIn}
 use Rattle.relative_law.proofs.Covered.{covered_simplex, simplex_covered}
 use Rattle.relative_law.proofs.RelativeBases.{bound_places, canonical_basis}
 use Rattle.relative_law.proofs.RelativeDegrees.{IsOuterByPlace, cocycle_down, rows_by_place}
@@ -30,19 +32,31 @@ use Rattle.relative_law.specs.RelativeClasses.{IsCanonicalRelativeBasis}
 use Rattle.relative_law.specs.RelativeElimination.{AreRelativeBoundPlaces, AreSkippedPlaces, IsRelativeCoboundaryRow}
 use Rattle.cohomology.specs.Pairs.{IsPairIndexOf}
 use Rattle.cohomology.specs.Walk.{AreRowsOf}
+use Rattle.std.specs.Prelude.{true, false, ◌≢◌}
+use Rattle.row_reduce.proofs.SolvedLemmas.{some_or_none}
+use Rattle.row_reduce.proofs.StepLemmas.{not_both}
+use Rattle.row_reduce.proofs.StoredLemmas.{some_none}
 use Rattle.cohomology.proofs.PairLemmas.{among_at}
 
-pub owned_inside : (xs : List ℕ) (x : ℕ) → owned_in xs x → x < length xs
-owned_inside [] x h = absurd (omega arith)
-owned_inside (y ∷ ys) zero h = omega arith
-owned_inside (y ∷ ys) (suc x) h = let b = owned_inside ys x h in omega arith
+-- a place where the list has another value than d is inside
+pub inside_of : {X : Type 0} (xs : List X) (d : X) (x : ℕ) → get_or xs x d ≢ d → x < length xs
+inside_of [] d zero h = absurd (h refl)
+inside_of [] d (suc x) h = absurd (h refl)
+inside_of (y ∷ ys) d zero h = omega arith
+inside_of (y ∷ ys) d (suc x) h = let b = inside_of ys d x h in omega arith
 
-pub owned_or_not : (xs : List ℕ) (x : ℕ) → owned_in xs x ⊎ (owned_in xs x → ⊥)
-owned_or_not xs x = go (get_or xs x 0)
+pub marked_inside : (marks : List Bool) (x : ℕ) → IsMarkedIn marks x → x < length marks
+marked_inside marks x h = inside_of marks false x (λ e. not_both (sym e ∙ h))
+
+pub marked_or_not : (marks : List Bool) (x : ℕ) → IsMarkedIn marks x ⊎ (IsMarkedIn marks x → ⊥)
+marked_or_not marks x = go (get_or marks x false)
   where
-    go : (n : ℕ) → (0 < n) ⊎ (0 < n → ⊥)
-    go zero = inr (λ h. absurd (omega arith))
-    go (suc n) = inl (omega arith)
+    go : (b : Bool) → (b ≡ true) ⊎ (b ≡ true → ⊥)
+    go true = inl refl
+    go false = inr not_both
+
+pub lead_or_not : (pivots : List (Option ℕ)) (x : ℕ) → IsLeadIn pivots x ⊎ (IsLeadIn pivots x → ⊥)
+lead_or_not pivots x = elim (some_or_none (get_or pivots x None)) [ inl e ↦ inr (λ h. h e) | inr k ↦ inl (λ e. some_none k.0 (sym k.1 ∙ e)) ]
 
 pub get_map : {X Y : Type 0} (f : X → Y) (xs : List X) (k : ℕ) (d : Y) (e : X) → k < length xs → get_or (map f xs) k d ≡ f (get_or xs k e)
 get_map f [] k d e b = absurd (omega arith)
@@ -56,7 +70,7 @@ zip_at R (x ∷ xs) (z ∷ zs) zero d e h b = h.0
 zip_at R (x ∷ xs) (z ∷ zs) (suc k) d e h b = zip_at R xs zs k d e h.1 (omega arith)
 
 module _ (facets parts : List (List ℕ)) (ls sls : List (List (List ℕ))) (is : IsPairIndexOf facets parts ls sls) (p : ℕ) (field : IsField p)
-    (n : ℕ) (pivots : List ℕ) (rows : List (List (ℕ × ℕ))) (skip : List ℕ) (of : AreRowsOf p ls sls n pivots rows skip) where
+    (n : ℕ) (pivots : List (Option ℕ)) (rows : List (List (ℕ × ℕ))) (skip : List Bool) (of : AreRowsOf p ls sls n pivots rows skip) where
   pub rows_count : length rows ≡ length (level ls n)
   rows_count = of.blank.whole ∙ sym (length-map of.given value_in) ∙ sym (length_alike (IsCoboundaryRow p (level ls (n + 1))) (map value_in of.given) (level ls n) of.are)
 
@@ -64,10 +78,10 @@ module _ (facets parts : List (List ℕ)) (ls sls : List (List (List ℕ))) (is 
   here_at = simplex_at facets n p (level ls n) (is.full_index.lists n)
 
   -- a place is marked where its simplex is one of the subcomplex
-  marked_simplex : (x : ℕ) → x < length (level ls n) → owned_in of.marks x → IsSimplex parts n (get_or (level ls n) x [])
+  marked_simplex : (x : ℕ) → x < length (level ls n) → IsMarkedIn of.marks x → IsSimplex parts n (get_or (level ls n) x [])
   marked_simplex x b o = each_among (IsSimplex parts n) (get_or (level ls n) x []) (level sls n) (is.sub_index.lists n).sound ((of.table.marked x b).0 o)
 
-  simplex_marked : (x : ℕ) → x < length (level ls n) → IsSimplex parts n (get_or (level ls n) x []) → owned_in of.marks x
+  simplex_marked : (x : ℕ) → x < length (level ls n) → IsSimplex parts n (get_or (level ls n) x []) → IsMarkedIn of.marks x
   simplex_marked x b on =
       let q = (is.sub_index.lists n).whole (get_or (level ls n) x []) on in
       (of.table.marked x b).1 (among_at (get_or (level ls n) x []) (level sls n) q.0 [] q.1 (q.2 []))
@@ -85,7 +99,7 @@ module _ (facets parts : List (List ℕ)) (ls sls : List (List (List ℕ))) (is 
           let same : get_or (level ls n) k e ≡ here = get_or_default (level ls n) k e [] inside in
           let row = get_map value_in rows k d [] b in
           let P : List ℕ → Type 0 = λ s. Congruent p (get_or (map value_in rows) k d j) (cond (is_covered parts s) 0 (coboundary p (unit_cochain s) (get_or (level ls (n + 1)) j []))) in
-          subst P (sym same) (elim (owned_or_not of.marks k) [
+          subst P (sym same) (elim (marked_or_not of.marks k) [
             | inl o ↦
                 let z : get_or (map value_in rows) k d j ≡ 0 = ap (λ (f : ℕ → ℕ). f j) (row ∙ ap value_in (of.blank.marked k b o)) in
                 let t : is_covered parts here ≡ true = simplex_covered parts n here (marked_simplex k inside o) in
@@ -104,16 +118,16 @@ module _ (facets parts : List (List ℕ)) (ls sls : List (List (List ℕ))) (is 
   pub by_place : IsOuterByPlace p parts (level ls n) (level ls (n + 1)) (combined rows)
   by_place = rows_by_place p parts (level ls (n + 1)) (level ls n) (map value_in rows) relative_rows
 
-  module _ (whole : length pivots ≡ length (level ls n)) (bounds : AreRelativeBoundPlaces facets parts n p (level ls n) (owned_in pivots)) where
-    pub skipped_places : AreSkippedPlaces facets parts n p (level ls n) (owned_in skip)
+  module _ (whole : length pivots ≡ length (level ls n)) (bounds : AreRelativeBoundPlaces facets parts n p (level ls n) (IsLeadIn pivots)) where
+    pub skipped_places : AreSkippedPlaces facets parts n p (level ls n) (IsMarkedIn skip)
     skipped_places = record {
-      inside = λ x h. (let b = owned_inside skip x h in let w = of.join.whole in omega arith);
+      inside = λ x h. (let b = marked_inside skip x h in let w = of.join.whole in omega arith);
       sound = λ x h.
-          let b : x < length pivots = (let b = owned_inside skip x h in let w = of.join.whole in omega arith) in
+          let b : x < length pivots = (let b = marked_inside skip x h in let w = of.join.whole in omega arith) in
           elim ((of.join.places x b).0 h) [ inl o ↦ inl (bounds.sound x o) | inr o ↦ inr (marked_simplex x (omega arith) o) ];
       whole = λ x b q. (of.join.places x (omega arith)).1 (inl (bounds.whole x b q));
       covers = λ x b on. (of.join.places x (omega arith)).1 (inr (simplex_marked x b on));
-      decide = owned_or_not skip;
+      decide = marked_or_not skip;
     }
 
     -- what is bound may be skipped, since a relative coboundary starts there, and so may be what is marked, since its row is 0
@@ -122,7 +136,7 @@ module _ (facets parts : List (List ℕ)) (ls sls : List (List (List ℕ))) (is 
       full = of.join.whole ∙ whole ∙ sym rows_count;
       each = λ x h.
           let here = level ls n in
-          let b : x < length pivots = (let b = owned_inside skip x h in let w = of.join.whole in omega arith) in
+          let b : x < length pivots = (let b = marked_inside skip x h in let w = of.join.whole in omega arith) in
           let c : x < length here = omega arith in
           elim ((of.join.places x b).0 h) [
             | inl o ↦
@@ -149,18 +163,18 @@ module _ (facets parts : List (List ℕ)) (ls sls : List (List (List ℕ))) (is 
           ];
     }
 
-    module _ (solutions : List (List (ℕ × ℕ))) (owner : List ℕ) (solved : IsSolved p (length (level ls (n + 1))) rows skip solutions owner) where
-      walked_here : Walked p (length (level ls n)) (length (level ls (n + 1))) (combined rows) (owned_in skip) 0 solved.kernel solved.images
-      walked_here = subst (λ m. Walked p m (length (level ls (n + 1))) (combined rows) (owned_in skip) 0 solved.kernel solved.images) rows_count solved.walked
+    module _ (solutions : List (List (ℕ × ℕ))) (owner : List (Option ℕ)) (solved : IsSolved p (length (level ls (n + 1))) rows skip solutions owner) where
+      walked_here : Walked p (length (level ls n)) (length (level ls (n + 1))) (combined rows) (IsMarkedIn skip) 0 solved.kernel solved.images
+      walked_here = subst (λ m. Walked p m (length (level ls (n + 1))) (combined rows) (IsMarkedIn skip) 0 solved.kernel solved.images) rows_count solved.walked
 
-      pub next_bounds : AreRelativeBoundPlaces facets parts (n + 1) p (level ls (n + 1)) (owned_in owner)
+      pub next_bounds : AreRelativeBoundPlaces facets parts (n + 1) p (level ls (n + 1)) (IsLeadIn owner)
       next_bounds =
-          let b = bound_places facets parts n p field is.inside (level ls n) (is.full_index.lists n) (level ls (n + 1)) (is.full_index.lists (n + 1)) (is.full_index.in_order (n + 1)) (combined rows) by_place (owned_in skip) solved.kernel solved.images walked_here in
+          let b = bound_places facets parts n p field is.inside (level ls n) (is.full_index.lists n) (level ls (n + 1)) (is.full_index.lists (n + 1)) (is.full_index.in_order (n + 1)) (combined rows) by_place (IsMarkedIn skip) solved.kernel solved.images walked_here in
           record {
-            inside = λ x h. let c = owned_inside owner x h in let e = solved.full in omega arith;
-            sound = λ x h. b.sound x ((solved.owned x (let c = owned_inside owner x h in let e = solved.full in omega arith)).0 h);
+            inside = λ x h. let c = inside_of owner None x h in let e = solved.full in omega arith;
+            sound = λ x h. b.sound x ((solved.owned x (let c = inside_of owner None x h in let e = solved.full in omega arith)).0 h);
             whole = λ x c h. (solved.owned x c).1 (b.whole x c h);
-            decide = owned_or_not owner;
+            decide = lead_or_not owner;
           }
 
       rows_of : (ks : List KernelVector) (vs : List (List (ℕ × ℕ))) → AllZip (λ (k : KernelVector) v. (x : ℕ) → Congruent p (value_in v x) (k.vector x)) ks vs
@@ -180,6 +194,6 @@ module _ (facets parts : List (List ℕ)) (ls sls : List (List (List ℕ))) (is 
 
       pub degree_basis : IsCanonicalRelativeBasis facets parts n p (map (terms_of (level ls n)) solutions)
       degree_basis =
-          canonical_basis facets parts n p field is.inside (level ls n) (is.full_index.lists n) (is.full_index.in_order n) (level ls (n + 1)) (is.full_index.lists (n + 1)) (combined rows) by_place (owned_in skip) skipped_places
+          canonical_basis facets parts n p field is.inside (level ls n) (is.full_index.lists n) (is.full_index.in_order n) (level ls (n + 1)) (is.full_index.lists (n + 1)) (combined rows) by_place (IsMarkedIn skip) skipped_places
           solved.kernel solved.images walked_here solutions
           (rows_of solved.kernel solutions solved.vectors solved.rows_are solved.inside)

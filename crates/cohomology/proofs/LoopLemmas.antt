@@ -10,9 +10,8 @@ use Rattle.complex_index.specs.declared.indexed.Cochain.{Cochain}
 use Rattle.complex_index.specs.Levels.{IsIndexOf, level}
 use Rattle.relative_law.proofs.AbsoluteLaws.{absolute_law, no_simplex_law}
 use Rattle.cohomology.specs.declared.classes.DegreeClasses.{DegreeClasses}
-use Rattle.cohomology.specs.Pairs.{IsPairIndexOf}
 use Rattle.cohomology.specs.Classes.{AreCanonicalIn, ArePlacedFrom, AreRelativeFrom, AreRelativeIn, EachFrom, chains_at, chains_from, chains_of, in_degree}
-use Rattle.cohomology.specs.Cycles.{AreClassesOf, AreClassesOfPair, AreDualClasses, AreFewClasses, IsDualTable, classes_in, table_in}
+use Rattle.cohomology.specs.Cycles.{AreClassesOf, AreClassesOfPair, AreDualClasses, AreFewClasses, classes_in}
 use Rattle.cohomology.proofs.WalkLemmas.{pair_with_nothing}
 
 -- ---- lists by degree

@@ -1,11 +1,14 @@
 -- Tables that grow by one place.
+use Rattle.std.specs.Prelude.{Bool, false, IsTrue}
 use Rattle.std.proofs.Common.{◌≡◌, ℕ, zero, suc, ◌+◌, ◌-◌, ◌<◌, inl, inr, List, [], ◌∷◌, ◌++◌, length, get_or, refl, sym, ◌∙◌, ap, arith, subst}
-use Rattle.std.specs.Prelude.{◌↔◌}
+use Rattle.std.specs.Prelude.{Option, None, Some, MatchOption, ◌↔◌}
 use Rattle.std.proofs.lemmas.Bool.{cases_lt}
 use Rattle.linear_law.proofs.ListLemmas.{get_before, get_last, length_push}
+use Rattle.std.specs.Option.{is_some}
+use Rattle.row_reduce.proofs.StepLemmas.{not_both}
 use Rattle.linear_law.specs.Lists.{Among}
 use Rattle.complex_index.specs.Levels.{level}
-use Rattle.row_reduce.specs.Walk.{owned_in}
+use Rattle.row_reduce.specs.Pivots.{IsMarkedIn}
 use Rattle.cohomology.specs.Pairs.{AreBlanked}
 
 pub among_at : {X : Type 0} (x : X) (xs : List X) (k : ℕ) (d : X) → k < length xs → get_or xs k d ≡ x → Among x xs
@@ -15,34 +18,30 @@ among_at x (y ∷ ys) (suc k) d b e = inr (among_at x ys k d (omega arith) e)
 
 -- ---- one mark
 
-pub mark_some : (sub : List (List (List ℕ))) (n k : ℕ) (s : List ℕ) → length s ≡ n + 1 → k < length (level sub (length s - 1)) → get_or (level sub (length s - 1)) k [] ≡ s →
-    0 < 1 ↔ Among s (level sub n)
-mark_some sub n k s l b e =
-    let m : length s - 1 ≡ n = omega arith in
-    ((λ h. subst (λ (i : ℕ). Among s (level sub i)) m (among_at s (level sub (length s - 1)) k [] b e)), (λ h. omega arith))
-
-pub mark_none : (sub : List (List (List ℕ))) (n : ℕ) (s : List ℕ) → ((m : ℕ) → Among s (level sub m) → ⊥) → 0 < 0 ↔ Among s (level sub n)
-mark_none sub n s none = ((λ h. absurd (omega arith)), (λ m. absurd (none n m)))
+pub has_simplex : (sub : List (List (List ℕ))) (n : ℕ) (s : List ℕ) (o : Option ℕ) → length s ≡ n + 1
+    → MatchOption o ((m : ℕ) → Among s (level sub m) → ⊥) (λ k. (k < length (level sub (length s - 1))) × (get_or (level sub (length s - 1)) k [] ≡ s)) → IsTrue (is_some o) ↔ Among s (level sub n)
+has_simplex sub n s None l h = ((λ e. absurd (not_both e)), (λ m. absurd (h n m)))
+has_simplex sub n s (Some k) l h = ((λ e. subst (λ (i : ℕ). Among s (level sub i)) (let q : length s - 1 ≡ n = omega arith in q) (among_at s (level sub (length s - 1)) k [] h.0 h.1)), (λ m. refl))
 
 -- ---- tables
 
--- the first k numbers are not 0 exactly where P holds
-pub record MarksTo (P : ℕ → Type 0) (k : ℕ) (xs : List ℕ) : Type 0 where
+-- the first k marks stand exactly where P holds
+pub record MarksTo (P : ℕ → Type 0) (k : ℕ) (xs : List Bool) : Type 0 where
   pub whole : length xs ≡ k
-  pub marked : (x : ℕ) → x < k → owned_in xs x ↔ P x
+  pub marked : (x : ℕ) → x < k → IsMarkedIn xs x ↔ P x
 
-pub marks_more : (P : ℕ → Type 0) (k v : ℕ) (xs ys : List ℕ) → ys ≡ xs ++ (v ∷ []) → MarksTo P k xs → 0 < v ↔ P k → MarksTo P (k + 1) ys
+pub marks_more : (P : ℕ → Type 0) (k : ℕ) (v : Bool) (xs ys : List Bool) → ys ≡ xs ++ (v ∷ []) → MarksTo P k xs → IsTrue v ↔ P k → MarksTo P (k + 1) ys
 marks_more P k v xs ys e h m = subst (MarksTo P (k + 1)) (sym e) (record {
   whole = length_push xs v ∙ ap (λ n. n + 1) h.whole;
   marked = λ x b. elim (cases_lt x k) [
     | inl c ↦
-        let q : get_or (xs ++ (v ∷ [])) x 0 ≡ get_or xs x 0 = get_before xs v x 0 (let w = h.whole in omega arith) in
+        let q : get_or (xs ++ (v ∷ [])) x false ≡ get_or xs x false = get_before xs v x false (let w = h.whole in omega arith) in
         let i = h.marked x c in
-        ((λ o. i.0 (subst (λ (n : ℕ). 0 < n) q o)), (λ o. subst (λ (n : ℕ). 0 < n) (sym q) (i.1 o)))
+        ((λ o. i.0 (sym q ∙ o)), (λ o. q ∙ i.1 o))
     | inr c ↦
         let f : k ≡ x = omega arith in
-        let g : get_or (xs ++ (v ∷ [])) x 0 ≡ v = ap (λ n. get_or (xs ++ (v ∷ [])) n 0) (sym (h.whole ∙ f)) ∙ get_last xs v 0 in
-        ((λ o. subst P f (m.0 (subst (λ (n : ℕ). 0 < n) g o))), (λ o. subst (λ (n : ℕ). 0 < n) (sym g) (m.1 (subst P (sym f) o))))
+        let g : get_or (xs ++ (v ∷ [])) x false ≡ v = ap (λ n. get_or (xs ++ (v ∷ [])) n false) (sym (h.whole ∙ f)) ∙ get_last xs v false in
+        ((λ o. subst P f (m.0 (sym g ∙ o))), (λ o. g ∙ m.1 (subst P (sym f) o)))
   ];
 })
 
@@ -51,24 +50,24 @@ marks_more P k v xs ys e h m = subst (MarksTo P (k + 1)) (sym e) (record {
 abbrev pub Row : Type 0
 Row = List (ℕ × ℕ)
 
-pub blanked_more : (marks : List ℕ) (rows kept more : List Row) (row next : Row) → more ≡ kept ++ (next ∷ []) → AreBlanked marks rows kept
-    → (owned_in marks (length kept) → next ≡ []) → ((owned_in marks (length kept) → ⊥) → next ≡ row) → AreBlanked marks (rows ++ (row ∷ [])) more
+pub blanked_more : (marks : List Bool) (rows kept more : List Row) (row next : Row) → more ≡ kept ++ (next ∷ []) → AreBlanked marks rows kept
+    → (IsMarkedIn marks (length kept) → next ≡ []) → ((IsMarkedIn marks (length kept) → ⊥) → next ≡ row) → AreBlanked marks (rows ++ (row ∷ [])) more
 blanked_more marks rows kept more row next e h blank same = subst (AreBlanked marks (rows ++ (row ∷ []))) (sym e) (record {
   whole = length_push kept next ∙ ap (λ n. n + 1) h.whole ∙ sym (length_push rows row);
   marked = λ x b o. elim (cases_lt x (length kept)) [
     | inl c ↦ get_before kept next x [] c ∙ h.marked x c o
     | inr c ↦
         let f : length kept ≡ x = (let l = length_push kept next in omega arith) in
-        ap (λ n. get_or (kept ++ (next ∷ [])) n []) (sym f) ∙ get_last kept next [] ∙ blank (subst (owned_in marks) (sym f) o)
+        ap (λ n. get_or (kept ++ (next ∷ [])) n []) (sym f) ∙ get_last kept next [] ∙ blank (subst (IsMarkedIn marks) (sym f) o)
   ];
   others = λ x b o. elim (cases_lt x (length kept)) [
     | inl c ↦ get_before kept next x [] c ∙ h.others x c o ∙ sym (get_before rows row x [] (let w = h.whole in omega arith))
     | inr c ↦
         let f : length kept ≡ x = (let l = length_push kept next in omega arith) in
-        ap (λ n. get_or (kept ++ (next ∷ [])) n []) (sym f) ∙ get_last kept next [] ∙ same (λ k. o (subst (owned_in marks) f k))
+        ap (λ n. get_or (kept ++ (next ∷ [])) n []) (sym f) ∙ get_last kept next [] ∙ same (λ k. o (subst (IsMarkedIn marks) f k))
         ∙ sym (ap (λ n. get_or (rows ++ (row ∷ [])) n []) (sym (sym h.whole ∙ f)) ∙ get_last rows row [])
   ];
 })
 
-pub blanked_start : (marks : List ℕ) (kept : List Row) → kept ≡ [] → AreBlanked marks [] kept
+pub blanked_start : (marks : List Bool) (kept : List Row) → kept ≡ [] → AreBlanked marks [] kept
 blanked_start marks kept e = subst (AreBlanked marks []) (sym e) (record { whole = refl; marked = λ x b o. refl; others = λ x b o. refl })

@@ -7,7 +7,6 @@ use Rattle.std.proofs.lemmas.List.{get_or_default}
 use Rattle.std.proofs.lemmas.Option.{get_or_from_slice_get, slice_get_read, slice_get_within}
 use native.Mathlib.Nat.{zero-mod}
 use Rattle.linear_law.specs.Congruence.{Congruent, IsField}
-use Rattle.linear_law.specs.Lists.{Each}
 use Rattle.linear_law.specs.Listing.{ListsAll, unit_vector}
 use Rattle.linear_law.specs.Pairing.{paired}
 use Rattle.linear_law.proofs.CongruenceLemmas.{Congruent_of, Congruent_sym, Congruent_trans}

@@ -1,5 +1,5 @@
 -- What a relative cocycle pairs to with the cycles is its coordinates.
-use Rattle.std.proofs.Common.{◌≡◌, ℕ, zero, suc, ◌+◌, ◌*◌, ◌-◌, ◌<◌, ◌≢◌, List, [], ◌∷◌, map, length, get_or, arith, refl, sym, ap, ap₂, subst, ◌∙◌, inl, inr, add_comm, mod-eq_of_lt}
+use Rattle.std.proofs.Common.{◌≡◌, ℕ, zero, suc, ◌+◌, ◌*◌, ◌-◌, ◌<◌, ◌≢◌, List, [], ◌∷◌, length, get_or, arith, refl, sym, ap, ap₂, subst, ◌∙◌, inl, inr, add_comm, mod-eq_of_lt}
 use Rattle.std.specs.Prelude.{Some, slice_get}
 use Rattle.std.proofs.Math.ListN.{length-map}
 use Rattle.std.proofs.lemmas.Option.{get_or_from_slice_get}
@@ -8,7 +8,7 @@ use Rattle.linear_law.specs.Lists.{Each}
 use Rattle.linear_law.specs.Listing.{unit_vector}
 use Rattle.linear_law.specs.Pairing.{paired}
 use Rattle.linear_law.specs.ReducedBases.{combination}
-use Rattle.linear_law.proofs.CongruenceLemmas.{Congruent_add, Congruent_from, Congruent_of, Congruent_refl, Congruent_scale, Congruent_sym, Congruent_trans, add-negated}
+use Rattle.linear_law.proofs.CongruenceLemmas.{Congruent_add, Congruent_from, Congruent_of, Congruent_scale, Congruent_sym, Congruent_trans, add-negated}
 use Rattle.linear_law.proofs.CycleLemmas.{paired_plus, paired_same}
 use Rattle.linear_law.proofs.ListLemmas.{each_from_index}
 use Rattle.linear_law.proofs.RowCombinations.{unit_one, unit_other}
@@ -25,9 +25,8 @@ use Rattle.complex_index.specs.Levels.{level}
 use Rattle.row_reduce.specs.Walk.{combined}
 use Rattle.cycle_table.specs.Tables.{column}
 use Rattle.cycle_table.proofs.CombinedLemmas.{combined_paired}
-use Rattle.relative_law.specs.Pairs.{HasRelativeCoordinates, IsRelativeCocycle}
+use Rattle.relative_law.specs.Pairs.{HasRelativeCoordinates}
 use Rattle.cohomology.specs.declared.classes.DegreeClasses.{DegreeClasses}
-use Rattle.cohomology.specs.Pairs.{IsPairIndexOf}
 use Rattle.cohomology.specs.Classes.{chains_at, cochain_in}
 use Rattle.cohomology.specs.Cycles.{AreClassesOfPair, IsSpread, at_places, classes_in, table_in}
 use Rattle.cohomology.specs.Values.{AreRelativeValues, cochains_at}
@@ -100,17 +99,17 @@ same_small p (c ∷ cs) [] e u v h = absurd (omega arith)
 same_small p (c ∷ cs) (d ∷ ds) e u v h =
     ap₂ (λ a bs. a ∷ bs) (sym (mod-eq_of_lt u.0) ∙ (h 0 (omega arith)).same ∙ mod-eq_of_lt v.0) (same_small p cs ds (omega arith) u.1 v.1 (λ i b. h (suc i) (omega arith)))
 
-pub spread_small : (p : ℕ) (row : List (ℕ × ℕ)) (count : ℕ) (values : List ℕ) → IsField p → IsSpread p row count values → Each (λ c. c < p) values
-spread_small p row count values field h =
+pub spread_small : (p : ℕ) (row : List (ℕ × ℕ)) (count : ℕ) (values : List ℕ) → IsField p → IsRow p row → IsSpread row count values → Each (λ c. c < p) values
+spread_small p row count values field is h =
     each_from_index (λ c. c < p) values
     (λ i d b.
     let e : get_or values i d ≡ value_in row i = get_or_default values i d 0 b ∙ h.each i (let w = h.whole in omega arith) in
-    subst (λ c. c < p) (sym e) (value_in-small p row i (let l = field.large in omega arith) h.row_is))
+    subst (λ c. c < p) (sym e) (value_in-small p row i (let l = field.large in omega arith) is))
 
 pub values_tell : (p : ℕ) → IsField p → (ds : List (DegreeClasses p)) (z : PlacedCochain p) (table : List (List (ℕ × ℕ))) (sum : List (ℕ × ℕ)) (values : List ℕ) → table ≡ table_in ds z.degree
-    → IsSpread p sum (length (classes_in ds z.degree)) values → ((y : ℕ) → Congruent p (value_in sum y) (combined table (value_in z.row) y))
+    → IsRow p sum → IsSpread sum (length (classes_in ds z.degree)) values → ((y : ℕ) → Congruent p (value_in sum y) (combined table (value_in z.row) y))
     → (full sub : List (List (List ℕ))) → AreClassesOfPair p full sub ds → AreRelativeValues p full sub (classes_in ds z.degree) z values
-values_tell p field ds z given sum values e spread given_made full sub whole = λ facets parts is closed.
+values_tell p field ds z given sum values e is_row spread given_made full sub whole = λ facets parts is closed.
     let n = z.degree in
     let here = level full n in
     let found = whole.each n in
@@ -129,7 +128,7 @@ values_tell p field ds z given sum values e spread given_made full sub whole = �
     get_map cochain_of (chains_at here classes) j no_cochain [] (let l = length-map classes (λ (c : PlacedCochain p). terms_of here c.row) in omega (arith, b, l))
     ∙ ap cochain_of (get_map (λ (d : PlacedCochain p). terms_of here d.row) classes j [] c b ∙ ap (λ (d : PlacedCochain p). terms_of here d.row) (get_or_from_slice_get classes j c c q)) in
     let same : cs ≡ values =
-    same_small p cs values (let h = has.count in let w = spread.whole in omega (arith, h, w, size)) has.small (spread_small p sum (length classes) values field spread)
+    same_small p cs values (let h = has.count in let w = spread.whole in omega (arith, h, w, size)) has.small (spread_small p sum (length classes) values field is_row spread)
     (λ i b.
     let c : i < length classes = let h = has.count in omega (arith, b, h, size) in
     let col = column table i in

@@ -1,6 +1,6 @@
 -- The walk of one degree of a pair: its canonical classes, and what it tells of the coboundaries one degree up.
+use Rattle.std.specs.Prelude.{Bool, Option, None}
 use Rattle.std.proofs.Common.{◌≡◌, ℕ, ◌+◌, ◌<◌, ◌≤◌, ◌^◌, List, [], ◌∷◌, ◌++◌, map, length, get_or, arith, refl, sym, ap, subst, ◌∙◌, inl, inr}
-use Rattle.std.specs.List.{AllZip}
 use Rattle.std.proofs.Math.ListN.{length-map}
 use Rattle.std.proofs.lemmas.List.{get_or_default, map-append}
 use Rattle.std.proofs.lemmas.Simd.{map-map}
@@ -15,16 +15,22 @@ use Rattle.sparse_rows.specs.Rows.{IsBelow, IsRow, value_in}
 use Rattle.complex_index.specs.declared.indexed.Cochain.{Cochain}
 use Rattle.complex_index.specs.Levels.{IsComplexIndex, IsIndexOf, level}
 use Rattle.row_reduce.specs.declared.Stored.{Stored}
-use Rattle.row_reduce.specs.Triangular.{AreTriangular, IsSolvedStored, stored_row}
-use Rattle.row_reduce.specs.Walk.{IsSolved, SkipsFit, combined, owned_in}
+use Rattle.row_reduce.proofs.TriangularLemmas.{members}
+use Rattle.row_reduce.specs.Triangular.{IsSolvedStored, stored_row}
+use Rattle.row_reduce.specs.Walk.{AreRows, SkipsFit, combined}
+use Rattle.row_reduce.specs.Pivots.{IsLeadIn}
 use Rattle.relative_law.proofs.RelativeDegrees.{coboundary_up}
 use Rattle.relative_law.proofs.Spaces.{forget_bound, no_bound_below}
-use Rattle.relative_law.specs.Pairs.{IsRelativeCoboundary, IsSubcomplex}
+use Rattle.relative_law.specs.Pairs.{IsRelativeCoboundary}
 use Rattle.relative_law.specs.RelativeClasses.{IsCanonicalRelativeBasis, IsRelativeCoboundaryPivot}
 use Rattle.cohomology.specs.Pairs.{AreBlanked, IsPairIndex, IsPairIndexOf}
-use Rattle.cohomology.specs.Classes.{AreRelativeIn, AreStoredBounds, IsPivotTable, IsPlaced, IsReachedIn}
+use Rattle.cohomology.specs.Classes.{AreRelativeIn, AreStoredBounds, IsPivotTable, IsReachedIn}
 use Rattle.cohomology.specs.Walk.{AreRowsOf}
-use Rattle.cohomology.proofs.DegreeLemmas.{by_place, degree_basis, next_bounds, owned_or_not, rows_count, skips_fit}
+use Rattle.linear_law.specs.Lists.{copies}
+use Rattle.linear_law.proofs.Matrices.{length-copies}
+use Rattle.row_reduce.proofs.StepLemmas.{nowhere}
+use Rattle.row_reduce.proofs.StoredLemmas.{some_none}
+use Rattle.cohomology.proofs.DegreeLemmas.{by_place, degree_basis, next_bounds, lead_or_not, marked_or_not, rows_count, skips_fit}
 
 -- one more cochain of the degree
 pub cochain_more : {p : ℕ} (n : ℕ) (xs ys : List (Cochain p)) (rows : List (List (ℕ × ℕ))) (c : Cochain p) → ys ≡ xs ++ (c ∷ []) → c.degree ≡ n
@@ -47,11 +53,11 @@ ascending_few {X} f count low (x ∷ xs) h a b =
     omega (arith, rest)
 
 -- blanked rows are within the same bound
-blanked_below : (bound : ℕ) (marks : List ℕ) (rows kept : List (List (ℕ × ℕ))) → AreBlanked marks rows kept → Each (IsBelow bound) rows → Each (IsBelow bound) kept
+blanked_below : (bound : ℕ) (marks : List Bool) (rows kept : List (List (ℕ × ℕ))) → AreBlanked marks rows kept → Each (IsBelow bound) rows → Each (IsBelow bound) kept
 blanked_below bound marks rows kept blank h =
     each_from_index (IsBelow bound) kept
     (λ k d b. subst (IsBelow bound) (get_or_default kept k [] d b)
-    (elim (owned_or_not marks k) [
+    (elim (marked_or_not marks k) [
       | inl o ↦ subst (IsBelow bound) (sym (blank.marked k b o)) tt
       | inr o ↦ subst (IsBelow bound) (sym (blank.others k b o)) (each_get_or (IsBelow bound) rows k [] (let w = blank.whole in omega arith) h)
     ]))
@@ -62,29 +68,32 @@ blanked_below bound marks rows kept blank h =
 pub no_bounds : (facets parts : List (List ℕ)) (p : ℕ) (s : List ℕ) → IsRelativeCoboundaryPivot facets parts 0 p s → ⊥
 no_bounds facets parts p s h = not_zero p (h.vector s) h.lead.nonzero ((no_bound_below facets p h.vector (forget_bound facets parts 0 p h.vector h.member)).at s h.lead.on)
 
-pub nothing_reached : (p : ℕ) (full sub : List (List (List ℕ))) (pivots : List ℕ) (stored : List (Stored p)) → length (level full 0) < 2 ^ 32 → length pivots ≡ length (level full 0) → ((x : ℕ) → owned_in pivots x → ⊥) → stored ≡ []
+pub nothing_reached : (p : ℕ) (full sub : List (List (List ℕ))) (pivots : List (Option ℕ)) (stored : List (Stored p)) → length (level full 0) < 2 ^ 32 → pivots ≡ copies (length (level full 0)) None → stored ≡ []
     → IsReachedIn p full sub 0 pivots stored
-nothing_reached p full sub pivots stored few whole none e = record {
-  table = record {
-    few = few;
-    whole = whole;
-    places = λ facets parts is. record {
-      inside = λ x h. absurd (none x h);
-      sound = λ x h. absurd (none x h);
-      whole = λ x b h. absurd (no_bounds facets parts p (get_or (level full 0) x []) h);
-      decide = owned_or_not pivots;
-    };
-  };
-  bounds = subst (λ (ss : List (Stored p)). AreStoredBounds p full sub 0 ss pivots) (sym e) (record {
-    triangular = record {
-      fits = tt;
-      owns = record { full = whole; some = λ y k q. absurd (none y (omega (arith, q))); none = λ y b q m. m };
-      apart = tt;
-      older = record { each = λ k s b. absurd (omega arith) };
-    };
-    members = λ facets parts is. tt;
-  });
-}
+nothing_reached p full sub pivots stored few is_none e =
+    let whole : length pivots ≡ length (level full 0) = ap length is_none ∙ length-copies (length (level full 0)) None in
+    let none : (x : ℕ) → IsLeadIn pivots x → ⊥ = λ x h. h (ap (λ (ps : List (Option ℕ)). get_or ps x None) is_none ∙ nowhere (length (level full 0)) x) in
+    record {
+      table = record {
+        few = few;
+        whole = whole;
+        places = λ facets parts is. record {
+          inside = λ x h. absurd (none x h);
+          sound = λ x h. absurd (none x h);
+          whole = λ x b h. absurd (no_bounds facets parts p (get_or (level full 0) x []) h);
+          decide = lead_or_not pivots;
+        };
+      };
+      bounds = subst (λ (ss : List (Stored p)). AreStoredBounds p full sub 0 ss pivots) (sym e) (record {
+        triangular = record {
+          fits = tt;
+          owns = record { full = whole; some = λ y k q. absurd (none y (λ z. some_none k (sym q ∙ z))); none = λ y b q m. m };
+          apart = tt;
+          older = record { each = λ k s b. absurd (omega arith) };
+        };
+        members = λ facets parts is. tt;
+      });
+    }
 
 -- the index of no simplices
 pub no_levels : (ls : List (List (List ℕ))) → IsIndexOf [] ls → ls ≡ []
@@ -112,22 +121,26 @@ complex_of full sub h = record { facets = h.facets; index = h.index.full_index }
 
 -- ---- one degree
 
-module _ (p : ℕ) (field : IsField p) (full sub : List (List (List ℕ))) (pair : IsPairIndex full sub) (n : ℕ) (pivots : List ℕ) (bounds : IsPivotTable p full sub n pivots)
-    (rows : List (List (ℕ × ℕ))) (skip : List ℕ) (of : AreRowsOf p full sub n pivots rows skip) where
+module _ (p : ℕ) (field : IsField p) (full sub : List (List (List ℕ))) (pair : IsPairIndex full sub) (n : ℕ) (pivots : List (Option ℕ)) (bounds : IsPivotTable p full sub n pivots)
+    (rows : List (List (ℕ × ℕ))) (skip : List Bool) (of : AreRowsOf p full sub n pivots rows skip) where
   count_rows : length rows ≡ length (level full n)
   count_rows = rows_count pair.facets pair.parts full sub pair.index p field n pivots rows skip of
 
-  pub few_rows : length rows < 2 ^ 32
+  few_rows : length rows < 2 ^ 32
   few_rows = let e = count_rows in let b = bounds.few in omega arith
 
-  pub rows_within : (width : ℕ) → width ≡ length (level full (n + 1)) → Each (IsBelow width) rows
-  rows_within width e = subst (λ w. Each (IsBelow w) rows) (sym e) (blanked_below (length (level full (n + 1))) of.marks of.given rows of.blank of.inside)
+  -- the rows may be walked
+  pub walked_rows : (width : ℕ) → width ≡ length (level full (n + 1)) → width < 2 ^ 32 → AreRows width rows × SkipsFit p width rows skip
+  walked_rows width e small = (
+    record {
+      few = few_rows;
+      narrow = omega (arith, small);
+      within = subst (λ w. Each (IsBelow w) rows) (sym e) (blanked_below (length (level full (n + 1))) of.marks of.given rows of.blank of.inside);
+    },
+    subst (λ w. SkipsFit p w rows skip) (sym e) (skips_fit pair.facets pair.parts full sub pair.index p field n pivots rows skip of bounds.whole (bounds.places pair.facets pair.parts pair.index)),
+  )
 
-  pub skips : (width : ℕ) → width ≡ length (level full (n + 1)) → SkipsFit p width rows skip
-  skips width e = subst (λ w. SkipsFit p w rows skip) (sym e)
-      (skips_fit pair.facets pair.parts full sub pair.index p field n pivots rows skip of bounds.whole (bounds.places pair.facets pair.parts pair.index))
-
-  module _ (width : ℕ) (e : width ≡ length (level full (n + 1))) (solutions : List (List (ℕ × ℕ))) (owner : List ℕ) (stored : List (Stored p)) (given : IsSolvedStored p width rows skip solutions owner stored) where
+  module _ (width : ℕ) (e : width ≡ length (level full (n + 1))) (solutions : List (List (ℕ × ℕ))) (owner : List (Option ℕ)) (stored : List (Stored p)) (given : IsSolvedStored p width rows skip solutions owner stored) where
     pub solved_here : IsSolvedStored p (length (level full (n + 1))) rows skip solutions owner stored
     solved_here = subst (λ w. IsSolvedStored p w rows skip solutions owner stored) e given
 
@@ -166,6 +179,6 @@ module _ (p : ℕ) (field : IsField p) (full sub : List (List (List ℕ))) (pair
             {Q = λ (s : Stored p). IsRelativeCoboundary facets parts (n + 1) p (cochain_at (level full (n + 1)) (stored_row s))}
             (λ s h. coboundary_up facets parts n p is.inside (level full n) (is.full_index.lists n) (level full (n + 1)) (is.full_index.lists (n + 1)) (combined rows)
             (by_place facets parts full sub is p field n pivots rows skip of) (stored_row s) h)
-            stored solved_here.members;
+            stored (members p (length (level full (n + 1))) rows skip solutions owner stored solved_here);
       };
     }

@@ -1,5 +1,6 @@
 -- Cochains by degree, as rows by place, and the classes of a complex and of a pair.
-use Rattle.std.specs.Prelude.{◌≡◌, ℕ, ◌+◌, ◌^◌, ◌<◌, zero, suc, List, [], ◌∷◌, map, length, Vec}
+use Rattle.std.specs.Prelude.{Option}
+use Rattle.std.specs.Prelude.{◌≡◌, ℕ, ◌^◌, ◌<◌, zero, suc, List, [], ◌∷◌, map, length, Vec}
 use Rattle.std.specs.declared.alloc.Global.{Global}
 use Rattle.linear_law.specs.Lists.{Each}
 use Rattle.simplicial_law.specs.Cochains.{Chain, Cochain as SimplexCochain}
@@ -10,7 +11,7 @@ use Rattle.complex_index.specs.declared.indexed.Cochain.{Cochain}
 use Rattle.complex_index.specs.Levels.{IsIndexOf, level}
 use Rattle.row_reduce.specs.declared.Stored.{Stored}
 use Rattle.row_reduce.specs.Triangular.{AreTriangular, stored_row}
-use Rattle.row_reduce.specs.Walk.{owned_in}
+use Rattle.row_reduce.specs.Pivots.{IsLeadIn}
 use Rattle.relative_law.specs.Pairs.{IsRelativeCoboundary}
 use Rattle.relative_law.specs.RelativeClasses.{IsCanonicalRelativeBasis}
 use Rattle.relative_law.specs.RelativeElimination.{AreRelativeBoundPlaces}
@@ -73,17 +74,17 @@ in_degree f (d ∷ ds) (suc n) = in_degree f ds n
 -- ---- what a walk keeps
 
 -- The table has a number for each simplex of degree n, which is not 0 exactly at the pivots of the relative coboundaries.
-pub record IsPivotTable (p : ℕ) (full sub : List (List (List ℕ))) (n : ℕ) (pivots : List ℕ) : Type 0 where
+pub record IsPivotTable (p : ℕ) (full sub : List (List (List ℕ))) (n : ℕ) (pivots : List (Option ℕ)) : Type 0 where
   pub few : length (level full n) < 2 ^ 32
   pub whole : length pivots ≡ length (level full n)
-  pub places : (facets parts : List (List ℕ)) → IsPairIndexOf facets parts full sub → AreRelativeBoundPlaces facets parts n p (level full n) (owned_in pivots)
+  pub places : (facets parts : List (List ℕ)) → IsPairIndexOf facets parts full sub → AreRelativeBoundPlaces facets parts n p (level full n) (IsLeadIn pivots)
 
 -- triangular rows of relative coboundaries of degree n, one for each pivot, which the table names
-pub record AreStoredBounds (p : ℕ) (full sub : List (List (List ℕ))) (n : ℕ) (stored : List (Stored p)) (pivots : List ℕ) : Type 0 where
+pub record AreStoredBounds (p : ℕ) (full sub : List (List (List ℕ))) (n : ℕ) (stored : List (Stored p)) (pivots : List (Option ℕ)) : Type 0 where
   pub triangular : AreTriangular p (length (level full n)) stored pivots
   pub members : (facets parts : List (List ℕ)) → IsPairIndexOf facets parts full sub → Each (λ (s : Stored p). IsRelativeCoboundary facets parts n p (cochain_at (level full n) (stored_row s))) stored
 
 -- what the walks below degree n tell of its coboundaries
-pub record IsReachedIn (p : ℕ) (full sub : List (List (List ℕ))) (n : ℕ) (pivots : List ℕ) (stored : List (Stored p)) : Type 0 where
+pub record IsReachedIn (p : ℕ) (full sub : List (List (List ℕ))) (n : ℕ) (pivots : List (Option ℕ)) (stored : List (Stored p)) : Type 0 where
   pub table : IsPivotTable p full sub n pivots
   pub bounds : AreStoredBounds p full sub n stored pivots

@@ -1,5 +1,5 @@
 -- The coordinates of a cocycle, and canonical primitives.
-use Rattle.std.specs.Prelude.{◌≡◌, ◌≢◌, ℕ, ◌+◌, ◌*◌, ◌-◌, ◌<◌, List, [], map, length, get_or}
+use Rattle.std.specs.Prelude.{◌≡◌, ◌≢◌, ℕ, ◌+◌, ◌*◌, ◌-◌, ◌<◌, List, [], length, get_or}
 use Rattle.linear_law.specs.Congruence.{Congruent, negated, sum_over}
 use Rattle.linear_law.specs.ReducedBases.{combination}
 use Rattle.simplicial_law.specs.Cochains.{AgreesOnSimplices, Cochain as SimplexCochain, HasCoordinates, IsCoboundary, IsCocycle, coboundary}

@@ -10,14 +10,14 @@ use Rattle.simplicial_law.specs.Canonical.{IsCanonicalClass, IsCanonicalCobounda
 use Rattle.simplicial_law.specs.CanonicalClasses.{cochain_of}
 use Rattle.simplicial_law.specs.Places.{terms_of}
 use Rattle.cycle_table.specs.Tables.{column}
-use Rattle.sparse_rows.specs.Rows.{IsBelow, IsFirst, IsRow, value_in}
+use Rattle.sparse_rows.specs.Rows.{IsBelow, IsFirst, value_in}
 use Rattle.complex_index.specs.declared.indexed.Cochain.{Cochain}
 use Rattle.complex_index.specs.Levels.{IsIndexOf, level}
 use Rattle.relative_law.specs.Pairs.{IsRelativeCoboundary}
 use Rattle.relative_law.specs.RelativeClasses.{IsCanonicalRelativeClass, IsCanonicalRelativeCoboundary, IsRelativeCoboundaryPivot}
 use Rattle.cohomology.specs.declared.classes.DegreeClasses.{DegreeClasses}
 use Rattle.cohomology.specs.Pairs.{IsPairIndexOf}
-use Rattle.cohomology.specs.Classes.{AreCanonicalIn, AreRelativeIn, IsPlaced, chains_at, cochain_in, in_degree}
+use Rattle.cohomology.specs.Classes.{AreCanonicalIn, AreRelativeIn, IsPlaced, cochain_in, in_degree}
 
 -- These are the pivots of the relative coboundaries of degree n, each once.
 pub record ArePivots (facets parts : List (List ℕ)) (n p : ℕ) (pivots : List (List ℕ)) : Type 0 where
@@ -99,8 +99,7 @@ pub record AreFewClasses {p : ℕ} (degrees : List (DegreeClasses p)) : Type 0 w
   pub places : (n : ℕ) → length (table_in degrees n) < 2 ^ 32
 
 -- the values of the row at the first `count` positions
-pub record IsSpread (p : ℕ) (row : List (ℕ × ℕ)) (count : ℕ) (values : List ℕ) : Type 0 where
-  pub row_is : IsRow p row
+pub record IsSpread (row : List (ℕ × ℕ)) (count : ℕ) (values : List ℕ) : Type 0 where
   pub whole : length values ≡ count
   pub each : (i : ℕ) → i < count → (get_or values i 0 ≡ value_in row i)
 

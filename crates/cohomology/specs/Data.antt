@@ -10,7 +10,7 @@ use Rattle.cohomology.specs.declared.classes.DegreeClasses.{DegreeClasses}
 use Rattle.cohomology.specs.declared.data.Coboundary.{Coboundary}
 use Rattle.cohomology.specs.Pairs.{IsPairIndexOf}
 use Rattle.cohomology.specs.Classes.{IsPlaced, cochain_in, in_degree}
-use Rattle.cohomology.specs.Cycles.{AreClassesOf, AreClassesOfPair, classes_in}
+use Rattle.cohomology.specs.Cycles.{AreClassesOf, AreClassesOfPair}
 
 -- the simplex at which the coboundary has its pivot
 abbrev pub pivot_in : {p : ℕ} → List (List ℕ) → Coboundary p → List ℕ

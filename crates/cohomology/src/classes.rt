@@ -59,17 +59,17 @@ pub(crate) fn degree_at<const P: u32>(
     requires prime { IsTrue (served P) }
     requires pair { IsPairIndex full.now sub.now }
     requires inside { degree + 1 < 2 ^ 32 }
-    requires reached { IsReachedIn P full.now sub.now degree reached.now.pivots.items reached.now.stored.items }
+    requires reached { IsReachedIn P full.now sub.now degree reached.now.pivots reached.now.stored.items }
     ensures classes { IfOk result (λ s. AreDualClasses P full.now sub.now degree s.0.classes.items s.0.table.items) }
-    ensures next { IfOk result (λ s. IsReachedIn P full.now sub.now (degree + 1) s.1.pivots.items s.1.stored.items) }
-    ensures coboundaries { IfOk result (λ s. TellCoboundaries P full.now sub.now degree s.1.stored.items s.1.pivots.items) }
+    ensures next { IfOk result (λ s. IsReachedIn P full.now sub.now (degree + 1) s.1.pivots s.1.stored.items) }
+    ensures coboundaries { IfOk result (λ s. TellCoboundaries P full.now sub.now degree s.1.stored.items s.1.pivots) }
 {
     let (classes, next) = step_at(alloc, full, sub, degree, reached)?;
     let places = leads_of(alloc, classes.as_slice())?;
     let table = cycles(
         alloc,
         reached.stored.as_slice(),
-        reached.pivots.as_slice(),
+        &reached.pivots,
         places.as_slice(),
     )?;
     Ok((DegreeClasses { classes, table }, next))
@@ -98,13 +98,12 @@ impl<const P: u32> Model for Classes<P> {
 /// The values of a row at the first positions.
 fn spread<const P: u32>(alloc: Global, row: &Row<P>, count: u32) -> Result<Vec<Fp<P>>, AllocError>
     requires { IsTrue (served P) }
-    ensures { IfOk result (λ v. IsSpread P row.now count v.items) }
+    ensures { IfOk result (λ v. IsSpread row.now count v.items) }
 {
     let mut values = Vec::new(alloc);
     for i in 0..count {
         values.push(row.at(i))?;
     }
-    let _ = row.as_slice();
     Ok(values)
 }
 

@@ -64,10 +64,10 @@ fn coboundaries_above<const P: u32>(
 ) -> Result<Vec<Coboundary<P>>, AllocError>
     requires prime { IsTrue (served P) }
     requires inside { degree + 1 < 2 ^ 32 }
-    requires stored { AreTriangular P (length next.now.pivots.items) next.now.stored.items next.now.pivots.items }
-    ensures { IfOk result (λ v. (full sub : List (List (List ℕ))) → TellCoboundaries P full sub degree next.now.stored.items next.now.pivots.items → AreRelativeCoboundaries P full sub (degree + 1) v.items) }
+    requires stored { AreTriangular P (length next.now.pivots) next.now.stored.items next.now.pivots }
+    ensures { IfOk result (λ v. (full sub : List (List (List ℕ))) → TellCoboundaries P full sub degree next.now.stored.items next.now.pivots → AreRelativeCoboundaries P full sub (degree + 1) v.items) }
 {
-    let echelon = echelon_of(alloc, next.stored.as_slice(), next.pivots.as_slice())?;
+    let echelon = echelon_of(alloc, next.stored.as_slice(), &next.pivots)?;
     coboundaries_from(alloc, degree, echelon)
 }
 

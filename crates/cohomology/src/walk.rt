@@ -3,14 +3,13 @@ ghost use Rattle.linear_law.specs.Lists.{Each};
 ghost use Rattle.fp_field.specs.Served.{served};
 ghost use Rattle.simplicial_law.specs.CanonicalClasses.{AreCanonicalBases};
 ghost use Rattle.complex_index.specs.Levels.{IsIndexOf};
-ghost use Rattle.row_reduce.specs.Walk.{owned_in};
 ghost use Rattle.cohomology.specs.Pairs.{IsPairIndex, IsSubIndex};
 ghost use Rattle.cohomology.specs.Classes.{ArePlacedFrom, AreRelativeFrom, AreRelativeIn, IsPivotTable, IsReachedIn, chains_of};
 ghost use Rattle.cohomology.specs.Walk.{AreRowsOf, TellCoboundaries};
 
 use crate::pairs::{blanked, joined, marks};
 use complex_index::{Cochain, Indexed};
-use row_reduce::{Stored, kernel_and_stored};
+use row_reduce::{Pivots, Stored, kernel_and_stored};
 use simplex_set::Complex;
 use sparse_rows::Row;
 use std::alloc::{AllocError, Global};
@@ -18,8 +17,8 @@ use std::alloc::{AllocError, Global};
 /// What the walks below a degree tell of its coboundaries.
 #[derive(Drop)]
 pub(crate) struct Reached<const P: u32> {
-    /// A table of their pivots.
-    pub pivots: Vec<u32>,
+    /// Their pivots.
+    pub pivots: Pivots,
     /// Triangular rows of coboundaries, one for each pivot.
     pub stored: Vec<Stored<P>>,
 }
@@ -40,20 +39,12 @@ fn of_degree<const P: u32>(
     Ok(cochains)
 }
 
-/// A table of `count` places, none of which is a pivot.
-fn no_pivots(alloc: Global, count: usize) -> Result<Vec<u32>, AllocError>
-    ensures len { IfOk result (λ v. length v.items ≡ count) }
-    ensures clear { IfOk result (λ v. (x : ℕ) → owned_in v.items x → ⊥) }
-{
-    vec![in alloc; 0; count]
-}
-
 /// What is known below degree 0: no place is a pivot.
 pub(crate) fn start<const P: u32>(alloc: Global, full: &Indexed) -> Result<Reached<P>, AllocError>
-    ensures { IfOk result (λ r. (sub : List (List (List ℕ))) → IsReachedIn P full.now sub 0 r.pivots.items r.stored.items) }
+    ensures { IfOk result (λ r. (sub : List (List (List ℕ))) → IsReachedIn P full.now sub 0 r.pivots r.stored.items) }
 {
     Ok(Reached {
-        pivots: no_pivots(alloc, full.count(0) as usize)?,
+        pivots: Pivots::none(alloc, full.count(0) as usize)?,
         stored: Vec::new(alloc),
     })
 }
@@ -66,15 +57,15 @@ pub(crate) fn nothing(alloc: Global) -> Result<Indexed, AllocError>
     Indexed::of(alloc, &none)
 }
 
-/// The coboundary rows of a degree, empty at the simplices of the subcomplex, and a table of the places that
+/// The coboundary rows of a degree, empty at the simplices of the subcomplex, and whether a place
 /// may be skipped: those of the pivots of the coboundaries, and those of the subcomplex.
 fn rows_at<const P: u32>(
     alloc: Global,
     full: &Indexed,
     sub: &Indexed,
     degree: u32,
-    pivots: &[u32],
-) -> Result<(Vec<Row<P>>, Vec<u32>), AllocError>
+    pivots: &Pivots,
+) -> Result<(Vec<Row<P>>, Vec<bool>), AllocError>
     requires prime { IsTrue (served P) }
     requires pair { IsPairIndex full.now sub.now }
     requires inside { degree + 1 < 2 ^ 32 }
@@ -99,19 +90,14 @@ pub(crate) fn step_at<const P: u32>(
     requires prime { IsTrue (served P) }
     requires pair { IsPairIndex full.now sub.now }
     requires inside { degree + 1 < 2 ^ 32 }
-    requires reached { IsReachedIn P full.now sub.now degree reached.now.pivots.items reached.now.stored.items }
+    requires reached { IsReachedIn P full.now sub.now degree reached.now.pivots reached.now.stored.items }
     ensures classes { IfOk result (λ s. AreRelativeIn P full.now sub.now degree s.0.items) }
-    ensures next { IfOk result (λ s. IsReachedIn P full.now sub.now (degree + 1) s.1.pivots.items s.1.stored.items) }
-    ensures coboundaries { IfOk result (λ s. TellCoboundaries P full.now sub.now degree s.1.stored.items s.1.pivots.items) }
+    ensures next { IfOk result (λ s. IsReachedIn P full.now sub.now (degree + 1) s.1.pivots s.1.stored.items) }
+    ensures coboundaries { IfOk result (λ s. TellCoboundaries P full.now sub.now degree s.1.stored.items s.1.pivots) }
 {
-    let (rows, skip) = rows_at(alloc, full, sub, degree, reached.pivots.as_slice())?;
+    let (rows, skip) = rows_at(alloc, full, sub, degree, &reached.pivots)?;
     let width = full.count(degree + 1) as usize;
-    let (kernel, pivots, stored) = kernel_and_stored(
-        alloc,
-        rows.as_slice(),
-        width,
-        skip.as_slice(),
-    )?;
+    let (kernel, pivots, stored) = kernel_and_stored(alloc, rows.as_slice(), width, skip)?;
     let classes = of_degree(alloc, degree, kernel)?;
     Ok((classes, Reached { pivots, stored }))
 }

@@ -1,18 +1,19 @@
 -- Values at places, as lists of pairs.
-use Rattle.std.proofs.Common.{◌≡◌, ℕ, zero, suc, ◌+◌, ◌*◌, ◌-◌, ◌<◌, ◌≤◌, List, [], ◌∷◌, ◌++◌, take, drop, length, get_or, set, arith, refl, sym, ◌∙◌, ap, subst, inl, inr, get_or-set_other, get_or-set_same, length-drop}
+use Rattle.std.proofs.Common.{◌≡◌, ℕ, zero, suc, ◌+◌, ◌*◌, ◌-◌, ◌%◌, ◌<◌, ◌≤◌, List, [], ◌∷◌, ◌++◌, take, drop, length, get_or, set, arith, refl, sym, ◌∙◌, ap, subst, inl, inr, get_or-set_other, get_or-set_same, length-drop}
 use Rattle.std.proofs.Math.ListN.{drop_of_length-le}
 use Rattle.std.proofs.lemmas.Bool.{cases_eq, cases_lt}
 use Rattle.std.proofs.lemmas.List.{append-nil, get_or-drop, take_all, take_more}
 use Rattle.linear_law.specs.Congruence.{Congruent}
 use Rattle.linear_law.specs.Lists.{Each}
 use Rattle.linear_law.specs.Listing.{unit_vector}
-use Rattle.linear_law.proofs.CongruenceLemmas.{Congruent_add, Congruent_from, Congruent_of}
+use Rattle.linear_law.proofs.CongruenceLemmas.{Congruent_add, Congruent_from, Congruent_mod, Congruent_of, Congruent_sym, Congruent_trans}
 use Rattle.linear_law.proofs.ListLemmas.{each_get_or}
 use Rattle.linear_law.proofs.RowCombinations.{unit_one, unit_other}
 use Rattle.linear_law.proofs.SumLemmas.{sum_append}
-use Rattle.sparse_rows.specs.Rows.{value_in}
+use Rattle.sparse_rows.specs.Rows.{IsBelow, value_in}
 use Rattle.row_reduce.specs.Entries.{entries_of, run_from, zipped}
-use Rattle.row_reduce.specs.Stored.{EntryFits, IsClear, IsDense, IsRest}
+use Rattle.linear_law.specs.Triangular.{StartsAt}
+use Rattle.row_reduce.specs.Stored.{IsClear, IsRest}
 use Rattle.row_reduce.proofs.SumLemmas.{read_at}
 
 -- ---- values at places of their own
@@ -45,11 +46,9 @@ zipped_read xs vs i v v_is b c =
     let pv : v ≡ get_or vs i 0 = read_at vs i v v_is (omega arith) in
     ap (λ n. (get_or xs i 0, n)) pv ∙ sym (zipped_at xs vs i (get_or xs i 0, v) b c)
 
-pub zipped_fits : (p width : ℕ) (xs vs : List ℕ) (i : ℕ) → length xs ≤ length vs → i < length xs → Each (EntryFits p width) (zipped xs vs) → get_or xs i 0 < width
-zipped_fits p width xs vs i b c h =
-    let f : EntryFits p width (get_or (zipped xs vs) i (0, 0)) = each_get_or (EntryFits p width) (zipped xs vs) i (0, 0) (let e = zipped_length xs vs b in omega arith) h in
-    let g : EntryFits p width (get_or xs i 0, get_or vs i 0) = subst (EntryFits p width) (zipped_at xs vs i (0, 0) b c) f in
-    g.inside
+pub zipped_fits : (width : ℕ) (xs vs : List ℕ) (i : ℕ) → length xs ≤ length vs → i < length xs → IsBelow width (zipped xs vs) → get_or xs i 0 < width
+zipped_fits width xs vs i b c h =
+    subst (λ (e : ℕ × ℕ). e.0 < width) (zipped_at xs vs i (0, 0) b c) (each_get_or (λ (e : ℕ × ℕ). e.0 < width) (zipped xs vs) i (0, 0) (let e = zipped_length xs vs b in omega arith) h)
 
 pub pairs_more : (pairs : List (ℕ × ℕ)) (i : ℕ) (pair : ℕ × ℕ) (xs vs next_xs next_vs : List ℕ) → pair ≡ get_or pairs i pair → i < length pairs → length xs ≡ length vs → zipped xs vs ≡ take i pairs
     → next_xs ≡ xs ++ (pair.0 ∷ []) → next_vs ≡ vs ++ (pair.1 ∷ []) → zipped next_xs next_vs ≡ take (i + 1) pairs
@@ -90,14 +89,14 @@ run_value first (v ∷ vs) (suc i) =
     subst (λ y. v * unit_vector first y + value_in (run_from (suc first) vs) y ≡ get_or vs i 0) q
     (let u : unit_vector first (suc first + i) ≡ 0 = unit_other first (suc first + i) (λ e. absurd (omega arith)) in let rest = run_value (suc first) vs i in rw u (omega (arith, rest)))
 
-each_run : (p width first : ℕ) (vs : List ℕ) → first + length vs ≤ width → ((i : ℕ) → i < length vs → get_or vs i 0 < p) → Each (EntryFits p width) (run_from first vs)
-each_run p width first [] b h = tt
-each_run p width first (v ∷ vs) b h = (record { inside = omega arith; small = h 0 (omega arith) }, each_run p width (suc first) vs (omega arith) (λ i c. h (suc i) (omega arith)))
+each_run : (width first : ℕ) (vs : List ℕ) → first + length vs ≤ width → IsBelow width (run_from first vs)
+each_run width first [] b = tt
+each_run width first (v ∷ vs) b = (omega arith, each_run width (suc first) vs (omega arith))
 
-pub run_inside : (p width first : ℕ) (vs : List ℕ) → Each (EntryFits p width) (run_from first vs) → (i : ℕ) → i < length vs → first + i < width
-run_inside p width first [] h i b = absurd (omega arith)
-run_inside p width first (v ∷ vs) h zero b = let c = h.0.inside in omega arith
-run_inside p width first (v ∷ vs) h (suc i) b = let c = run_inside p width (suc first) vs h.1 i (omega arith) in omega arith
+pub run_inside : (width first : ℕ) (vs : List ℕ) → IsBelow width (run_from first vs) → (i : ℕ) → i < length vs → first + i < width
+run_inside width first [] h i b = absurd (omega arith)
+run_inside width first (v ∷ vs) h zero b = let c = h.0 in omega arith
+run_inside width first (v ∷ vs) h (suc i) b = let c = run_inside width (suc first) vs h.1 i (omega arith) in omega arith
 
 -- ---- both
 
@@ -176,24 +175,24 @@ rest_length (suc start) (x ∷ xs) b = let e = rest_length start xs (omega arith
 pub slice_end : (start : ℕ) (xs : List ℕ) → take (length xs - start) (drop start xs) ≡ drop start xs
 slice_end start xs = take_all (length xs - start) (drop start xs) (let e = length-drop start xs in omega (arith, e))
 
-pub run_rest : (p start : ℕ) (old new : List ℕ) → IsDense p old → IsClear new → start < length old → ((y : ℕ) → y < start → get_or old y 0 ≡ 0) → IsRest p old new (run_from start (drop start old))
-run_rest p start old new dense clear inside before = record {
+pub run_rest : (p start : ℕ) (old new : List ℕ) → IsClear p new → start < length old → StartsAt p start (λ y. get_or old y 0) → IsRest p old new (run_from start (drop start old))
+run_rest p start old new clear inside before = record {
   clear = clear;
-  fits = let e = rest_length start old (omega arith) in
-      each_run p (length old) start (drop start old) (omega arith)
-      (λ i b. subst (λ v. v < p) (sym (get_or-drop start old i 0)) (dense.small (start + i) (omega arith)));
-  row = λ y. Congruent_of (elim (cases_lt y start) [
-    | inl b ↦ run_before start (drop start old) y b ∙ sym (before y b)
+  fits = let e = rest_length start old (omega arith) in each_run (length old) start (drop start old) (omega arith);
+  row = λ y. elim (cases_lt y start) [
+    | inl b ↦ Congruent_trans (Congruent_of (run_before start (drop start old) y b)) (Congruent_sym (before.before y b))
     | inr b ↦
         let i = y - start in
         let q : start + i ≡ y = omega arith in
-        subst (λ z. value_in (run_from start (drop start old)) z ≡ get_or old z 0) q (run_value start (drop start old) i ∙ get_or-drop start old i 0)
-  ]);
+        Congruent_of (subst (λ z. value_in (run_from start (drop start old)) z ≡ get_or old z 0) q (run_value start (drop start old) i ∙ get_or-drop start old i 0))
+  ];
 }
 
 -- one more place is clear
-pub clear_more : (sum : List ℕ) (at v : ℕ) → v ≡ 0 → at < length sum → ((y : ℕ) → y < at → get_or sum y 0 ≡ 0) → (y : ℕ) → y < at + 1 → get_or (set sum at v) y 0 ≡ 0
-clear_more sum at v z inside h y b = elim (cases_eq y at) [
-  | inl e ↦ let P : ℕ → Type 0 = λ j. get_or (set sum at v) j 0 ≡ 0 in subst P (sym e) (rw get_or-set_same z)
-  | inr n ↦ rw get_or-set_other (h y (omega arith))
-]
+pub clear_more : (p : ℕ) (sum : List ℕ) (at v : ℕ) → v ≡ 0 % p → at < length sum → StartsAt p at (λ y. get_or sum y 0) → StartsAt p (at + 1) (λ y. get_or (set sum at v) y 0)
+clear_more p sum at v z inside h = record {
+  before = λ y b. elim (cases_eq y at) [
+    | inl e ↦ Congruent_trans (Congruent_of (ap (λ j. get_or (set sum at v) j 0) e ∙ get_or-set_same sum at v 0 inside ∙ z)) (Congruent_mod p 0)
+    | inr n ↦ rw get_or-set_other (h.before y (omega arith))
+  ];
+}

@@ -5,14 +5,13 @@ use Rattle.std.proofs.lemmas.Grind.{reverse_onto}
 use Rattle.std.proofs.lemmas.List.{append_assoc}
 use Rattle.std.specs.List.{AllZip}
 use Rattle.linear_law.specs.Congruence.{Congruent}
-use Rattle.linear_law.specs.Lists.{Each}
 use Rattle.linear_law.specs.Elimination.{KernelVector}
-use Rattle.sparse_rows.specs.Rows.{value_in}
+use Rattle.sparse_rows.specs.Rows.{IsBelow, value_in}
 use Rattle.linear_law.specs.Listing.{unit_vector}
 use Rattle.linear_law.proofs.SumLemmas.{sum_append}
 use Rattle.linear_law.proofs.CongruenceLemmas.{Congruent_refl, Congruent_of, Congruent_sym, Congruent_trans, Congruent_add, Congruent_mul, Congruent_scale, Congruent_from}
 use Rattle.row_reduce.specs.declared.Stored.{Stored}
-use Rattle.row_reduce.specs.Stored.{EntryFits, IsClear, IsDense}
+use Rattle.row_reduce.specs.Stored.{IsClear}
 use Rattle.row_reduce.specs.declared.Class.{Class}
 use Rattle.row_reduce.specs.Walk.{IsFrom, added_from, kernel_of}
 use Rattle.row_reduce.specs.Expansion.{Expanding, IsExpanded, weighted}
@@ -70,10 +69,10 @@ one_high (suc k) g f x b =
           rw e (omega (arith, i))
     ]
 
-pub spread_all : (p k : ℕ) (fs : List (ℕ → ℕ)) (d : ℕ → ℕ) (hs : List (ℕ × ℕ)) (x : ℕ) → Each (EntryFits p k) hs → spread_row k hs (λ j. get_or fs j d) x ≡ added_from fs d hs x
+pub spread_all : (p k : ℕ) (fs : List (ℕ → ℕ)) (d : ℕ → ℕ) (hs : List (ℕ × ℕ)) (x : ℕ) → IsBelow k hs → spread_row k hs (λ j. get_or fs j d) x ≡ added_from fs d hs x
 spread_all p k fs d [] x h = spread_nil k (λ j. get_or fs j d) x
 spread_all p k fs d (g ∷ hs) x h =
-    omega (arith, spread_cons k g hs (λ j. get_or fs j d) x, one_high k g (λ j. get_or fs j d) x h.0.inside, spread_all p k fs d hs x h.1)
+    omega (arith, spread_cons k g hs (λ j. get_or fs j d) x, one_high k g (λ j. get_or fs j d) x h.0, spread_all p k fs d hs x h.1)
 
 -- new weights, below k
 pub weighted_add : (p k by : ℕ) (old new : List ℕ) (fs : List (ℕ → ℕ)) (d : ℕ → ℕ) (hs : List (ℕ × ℕ)) (x : ℕ)
@@ -83,17 +82,16 @@ weighted_add p zero by old new fs d hs x h = Congruent_of (omega arith)
 weighted_add p (suc k) by old new fs d hs x h =
     Congruent_from (Congruent_add (weighted_add p k by old new fs d hs x h) (Congruent_mul (h k) (Congruent_refl (get_or fs k d x)))) (omega arith)
 
-pub weighted_clear : (k : ℕ) (ws : List ℕ) (fs : List (ℕ → ℕ)) (d : ℕ → ℕ) (x : ℕ) → IsClear ws → weighted k ws fs d x ≡ 0
-weighted_clear zero ws fs d x h = refl
-weighted_clear (suc k) ws fs d x h = let e = h.zero k in rw e (omega (arith, weighted_clear k ws fs d x h))
+pub weighted_clear : (p k : ℕ) (ws : List ℕ) (fs : List (ℕ → ℕ)) (d : ℕ → ℕ) (x : ℕ) → IsClear p ws → Congruent p (weighted k ws fs d x) 0
+weighted_clear p zero ws fs d x h = Congruent_refl 0
+weighted_clear p (suc k) ws fs d x h = Congruent_from (Congruent_add (weighted_clear p k ws fs d x h) (Congruent_mul (h.zero k) (Congruent_refl (get_or fs k d x)))) (omega arith)
 
 -- ---- the weight of the k-th row moves
 
 pub expand_step : (p : ℕ) (images : List (Stored p)) (place : ℕ) (history : List (ℕ × ℕ)) (old new : List ℕ) (out : List (ℕ × ℕ)) (k w : ℕ) (i : Stored p) → k < length images → w ≡ get_or old k 0
-    → ((s : Stored p) → i ≡ get_or images k s) → IsDense p new → ((j : ℕ) → Congruent p (get_or new j 0) (get_or old j 0 + w * value_in i.history j))
+    → ((s : Stored p) → i ≡ get_or images k s) → ((j : ℕ) → Congruent p (get_or new j 0) (get_or old j 0 + w * value_in i.history j))
     → Expanding p images place history old out (k + 1) → Expanding p images place history new (out ++ ((i.source, w) ∷ [])) k
-expand_step p images place history old new out k w i inside w_is is dense added h = record {
-  dense = dense;
+expand_step p images place history old new out k w i inside w_is is added h = record {
   sum = λ sources v d from mine x.
       let q : k + 1 ≡ suc k = omega arith in
       let before : Congruent p (v x) (value_in out x + (weighted k old sources d x + w * get_or sources k d x)) =
@@ -115,7 +113,6 @@ expand_step p images place history old new out k w i inside w_is is dense added 
 pub expand_past : (p : ℕ) (images : List (Stored p)) (place : ℕ) (history : List (ℕ × ℕ)) (weights : List ℕ) (out : List (ℕ × ℕ)) (k : ℕ) → get_or weights k 0 ≡ 0
     → Expanding p images place history weights out (k + 1) → Expanding p images place history weights out k
 expand_past p images place history weights out k none h = record {
-  dense = h.dense;
   sum = λ sources v d from mine x.
       let q : k + 1 ≡ suc k = omega arith in
       let before : Congruent p (v x) (value_in out x + weighted (suc k) weights sources d x) =
@@ -123,15 +120,14 @@ expand_past p images place history weights out k none h = record {
       Congruent_trans before (Congruent_of (rw none (omega arith)));
 }
 
-pub expand_start : (p : ℕ) (images : List (Stored p)) (place : ℕ) (history : List (ℕ × ℕ)) (old new : List ℕ) → IsClear old → IsDense p new → Each (EntryFits p (length images)) history
+pub expand_start : (p : ℕ) (images : List (Stored p)) (place : ℕ) (history : List (ℕ × ℕ)) (old new : List ℕ) → IsClear p old → IsBelow (length images) history
     → ((j : ℕ) → Congruent p (get_or new j 0) (get_or old j 0 + 1 * value_in history j)) → Expanding p images place history new ((place, 1) ∷ []) (length images)
-expand_start p images place history old new clear dense fits added = record {
-  dense = dense;
+expand_start p images place history old new clear fits added = record {
   sum = λ sources v d from mine x.
       let moved = weighted_add p (length images) 1 old new sources d history x added in
       let all = spread_all p (length images) sources d history x fits in
-      let none = weighted_clear (length images) old sources d x clear in
-      Congruent_from (Congruent_add (mine.sum d x) (Congruent_sym moved)) (omega (arith, all, none));
+      let none = weighted_clear p (length images) old sources d x clear in
+      Congruent_from (Congruent_add (mine.sum d x) (Congruent_add (Congruent_sym moved) (Congruent_sym none))) (omega (arith, all));
 }
 
 pub expand_end : (p : ℕ) (images : List (Stored p)) (place : ℕ) (history : List (ℕ × ℕ)) (weights : List ℕ) (out : List (ℕ × ℕ)) → Expanding p images place history weights out 0 → IsExpanded p images place history out

@@ -1,19 +1,17 @@
 -- Stored rows and classes with the vectors behind them.
 use Rattle.std.proofs.Common.{◌≡◌, ℕ, zero, suc, ◌+◌, ◌*◌, ◌<◌, ◌≤◌, ◌⊎◌, List, [], ◌∷◌, ◌++◌, map, length, get_or, arith, refl, sym, ap, ap₂, inl, inr}
 use Rattle.std.proofs.lemmas.List.{get_or_default}
-use Rattle.linear_law.specs.Congruence.{Congruent}
 use Rattle.linear_law.specs.Lists.{Each, Among}
-use Rattle.linear_law.specs.ReducedBases.{AgreesOn}
-use Rattle.linear_law.specs.Elimination.{IsLinear, KernelVector, ImageVector}
+use Rattle.linear_law.specs.Elimination.{KernelVector, ImageVector}
 use Rattle.linear_law.specs.Listing.{unit_vector}
 use Rattle.row_reduce.specs.declared.Stored.{Stored}
 use Rattle.row_reduce.specs.declared.Class.{Class}
 use Rattle.linear_law.specs.Triangular.{image_place}
-use Rattle.sparse_rows.specs.Rows.{value_in}
-use Rattle.row_reduce.specs.Stored.{EntryFits, added_row, stored_place}
+use Rattle.sparse_rows.specs.Rows.{IsBelow}
+use Rattle.row_reduce.specs.Stored.{stored_place}
 use Rattle.row_reduce.specs.Walk.{added_from, IsFrom, image_of, images_of, kernel_of}
-use Rattle.linear_law.proofs.CongruenceLemmas.{Congruent_refl, Congruent_of, Congruent_trans, Congruent_add, Congruent_scale, Congruent_from}
-use Rattle.linear_law.proofs.ListLemmas.{get_before}
+use Rattle.linear_law.proofs.CongruenceLemmas.{Congruent_of, Congruent_trans}
+use Rattle.linear_law.proofs.ListLemmas.{each_map, get_before}
 
 pub images_push : {p : ℕ} (ss : List (Stored p)) (fs : List (ℕ → ℕ)) (done : List (ImageVector ℕ)) (s : Stored p) (f : ℕ → ℕ) → length fs ≡ length ss
     → images_of (ss ++ (s ∷ [])) (fs ++ (f ∷ [])) done ≡ image_of s f ∷ images_of ss fs done
@@ -52,46 +50,22 @@ among_images (s ∷ ss) (f ∷ fs) done t m =
       | inr b ↦ elim b [ inl e ↦ inl (inl e) | inr c ↦ inr c ]
     ]
 
-pub added_default : (p k : ℕ) (fs : List (ℕ → ℕ)) (d e : ℕ → ℕ) (hs : List (ℕ × ℕ)) (x : ℕ) → k ≤ length fs → Each (EntryFits p k) hs → added_from fs d hs x ≡ added_from fs e hs x
+pub added_default : (p k : ℕ) (fs : List (ℕ → ℕ)) (d e : ℕ → ℕ) (hs : List (ℕ × ℕ)) (x : ℕ) → k ≤ length fs → IsBelow k hs → added_from fs d hs x ≡ added_from fs e hs x
 added_default p k fs d e [] x b h = refl
 added_default p k fs d e (g ∷ hs) x b h =
-    ap₂ (λ (f : ℕ → ℕ) n. g.1 * f x + n) (get_or_default fs g.0 d e (let q = h.0.inside in omega arith)) (added_default p k fs d e hs x b h.1)
+    ap₂ (λ (f : ℕ → ℕ) n. g.1 * f x + n) (get_or_default fs g.0 d e (let q = h.0 in omega arith)) (added_default p k fs d e hs x b h.1)
 
-pub added_more : (p k : ℕ) (fs : List (ℕ → ℕ)) (f d : ℕ → ℕ) (hs : List (ℕ × ℕ)) (x : ℕ) → k ≤ length fs → Each (EntryFits p k) hs → added_from (fs ++ (f ∷ [])) d hs x ≡ added_from fs d hs x
+pub added_more : (p k : ℕ) (fs : List (ℕ → ℕ)) (f d : ℕ → ℕ) (hs : List (ℕ × ℕ)) (x : ℕ) → k ≤ length fs → IsBelow k hs → added_from (fs ++ (f ∷ [])) d hs x ≡ added_from fs d hs x
 added_more p k fs f d [] x b h = refl
 added_more p k fs f d (g ∷ hs) x b h =
-    ap₂ (λ (f : ℕ → ℕ) n. g.1 * f x + n) (get_before fs f g.0 d (let q = h.0.inside in omega arith)) (added_more p k fs f d hs x b h.1)
-
-pub added_zero : (p k : ℕ) (fs : List (ℕ → ℕ)) (d : ℕ → ℕ) (hs : List (ℕ × ℕ)) (x : ℕ) → ((j : ℕ) → j < k → Congruent p (get_or fs j d x) 0) → Each (EntryFits p k) hs → Congruent p (added_from fs d hs x) 0
-added_zero p k fs d [] x z h = Congruent_refl 0
-added_zero p k fs d (g ∷ hs) x z h = Congruent_from (Congruent_add (Congruent_scale g.1 (z g.0 h.0.inside)) (added_zero p k fs d hs x z h.1)) (omega arith)
+    ap₂ (λ (f : ℕ → ℕ) n. g.1 * f x + n) (get_before fs f g.0 d (let q = h.0 in omega arith)) (added_more p k fs f d hs x b h.1)
 
 -- a combination does not change where more are listed
 pub from_more : (p k : ℕ) (fs : List (ℕ → ℕ)) (f : ℕ → ℕ) (source : ℕ) (hs : List (ℕ × ℕ)) (v : ℕ → ℕ) → k ≤ length fs → IsFrom p k fs source hs v → IsFrom p k (fs ++ (f ∷ [])) source hs v
 from_more p k fs f source hs v b h = record { fits = h.fits; sum = λ d x. Congruent_trans (h.sum d x) (Congruent_of (ap (λ n. unit_vector source x + n) (sym (added_more p k fs f d hs x b h.fits)))) }
 
-pub entry_wider : (p k n : ℕ) → k ≤ n → (hs : List (ℕ × ℕ)) → Each (EntryFits p k) hs → Each (EntryFits p n) hs
-entry_wider p k n b [] h = tt
-entry_wider p k n b (g ∷ hs) h = (record { inside = let q = h.0.inside in omega arith; small = h.0.small }, entry_wider p k n b hs h.1)
+pub below_wider : (k n : ℕ) → k ≤ n → (hs : List (ℕ × ℕ)) → IsBelow k hs → IsBelow n hs
+below_wider k n b hs h = each_map {Q = λ (e : ℕ × ℕ). e.0 < n} (λ e c. omega arith) hs h
 
 pub from_wider : (p k n : ℕ) (fs : List (ℕ → ℕ)) (source : ℕ) (hs : List (ℕ × ℕ)) (v : ℕ → ℕ) → k ≤ n → IsFrom p k fs source hs v → IsFrom p n fs source hs v
-from_wider p k n fs source hs v b h = record { fits = entry_wider p k n b hs h.fits; sum = h.sum }
-
--- what a history adds goes to what its rows add
-pub added_gives : (p count width : ℕ) (L : (ℕ → ℕ) → ℕ → ℕ) (linear : IsLinear p count (λ y. y < width) L) (images : List (Stored p)) (fs : List (ℕ → ℕ)) (s : Stored p) (d : ℕ → ℕ) (k : ℕ)
-    → ((j : ℕ) → j < k → AgreesOn p (λ y. y < width) (L (get_or fs j d)) (value_in (get_or images j s).row))
-    → (hs : List (ℕ × ℕ)) → Each (EntryFits p k) hs → (v w : ℕ → ℕ) → AgreesOn p (λ y. y < width) (L v) w
-    → AgreesOn p (λ y. y < width) (L (λ x. v x + added_from fs d hs x)) (λ y. w y + added_row images s hs y)
-added_gives p count width L linear images fs s d k g [] h v w e =
-    record { at = λ y on. Congruent_trans ((linear.alike (λ x. v x + 0) v (record { at = λ x _. Congruent_of (omega arith) })).at y on) (Congruent_from (e.at y on) (omega arith)) }
-added_gives p count width L linear images fs s d k g (j ∷ hs) h v w e =
-    let f = get_or fs j.0 d in
-    let r = value_in (get_or images j.0 s).row in
-    let first : AgreesOn p (λ y. y < width) (L (λ x. v x + j.1 * f x)) (λ y. w y + j.1 * r y) =
-    record { at = λ y on. Congruent_trans ((linear.plus j.1 v f).at y on) (Congruent_add (e.at y on) (Congruent_scale j.1 ((g j.0 h.0.inside).at y on))) } in
-    let next = added_gives p count width L linear images fs s d k g hs h.1 (λ x. v x + j.1 * f x) (λ y. w y + j.1 * r y) first in
-    record {
-      at = λ y on.
-          Congruent_trans ((linear.alike (λ x. v x + added_from fs d (j ∷ hs) x) (λ x. (v x + j.1 * f x) + added_from fs d hs x) (record { at = λ x _. Congruent_of (omega arith) })).at y on)
-          (Congruent_trans (next.at y on) (Congruent_of (omega arith)));
-    }
+from_wider p k n fs source hs v b h = record { fits = below_wider k n b hs h.fits; sum = h.sum }

@@ -1,6 +1,6 @@
 -- The kernel as a space: its vectors are its echelon rows.
-use Rattle.std.proofs.Common.{◌≡◌, ℕ, zero, suc, ◌+◌, ◌*◌, ◌%◌, ◌^◌, ◌<◌, ◌≤◌, List, [], ◌∷◌, map, length, get_or, arith, refl, sym, ◌∙◌, ap, subst, inl, inr, mod-eq_of_lt}
-use Rattle.std.proofs.lemmas.Bool.{cases_lt, cases_order}
+use Rattle.std.proofs.Common.{◌≡◌, ℕ, suc, ◌+◌, ◌*◌, ◌%◌, ◌^◌, ◌<◌, ◌≤◌, List, [], ◌∷◌, ◌++◌, map, reverse, length, get_or, arith, refl, sym, ◌∙◌, ap, subst, inl, inr, mod-eq_of_lt}
+use Rattle.std.proofs.lemmas.Bool.{cases_lt}
 use Rattle.std.specs.List.{AllZip}
 use native.Mathlib.Nat.{zero-mod}
 use Rattle.linear_law.specs.Congruence.{Congruent, IsField}
@@ -11,18 +11,20 @@ use Rattle.linear_law.specs.Elimination.{IsLinear, KernelVector}
 use Rattle.linear_law.specs.Pivots.{IsLead}
 use Rattle.linear_law.specs.Triangular.{StartsAt, kernel_place}
 use Rattle.linear_law.proofs.CongruenceLemmas.{Congruent_add, Congruent_from, Congruent_mul, Congruent_of, Congruent_refl, Congruent_scale, Congruent_sym, Congruent_trans}
-use Rattle.linear_law.proofs.ListLemmas.{each_get_or, each_map, each_unmap, each_zip, each_alike, each_from_index, length_alike, zip_from_index}
+use Rattle.linear_law.proofs.ListLemmas.{each_right, each_map, each_unmap, each_zip, each_alike, length_alike}
 use Rattle.linear_law.proofs.PivotLemmas.{one-nonzero}
 use Rattle.linear_law.proofs.RowCombinations.{unit_other}
 use Rattle.linear_law.proofs.WalkedSpaces.{classes_span}
-use Rattle.sparse_rows.specs.Rows.{IsBelow, IsFirst, IsRow, value_in}
+use Rattle.sparse_rows.specs.Rows.{IsBelow, IsRow, value_in}
 use Rattle.sparse_rows.proofs.RowLemmas.{value_in-small}
 use Rattle.row_reduce.specs.declared.EchelonRow.{EchelonRow}
-use Rattle.row_reduce.specs.Stored.{IsClear}
-use Rattle.row_reduce.specs.Walk.{IsSolved, combined, owned_in}
+use Rattle.row_reduce.specs.Walk.{combined}
 use Rattle.row_reduce.specs.Echelon.{combination_of, pivot_of, row_of}
-use Rattle.row_reduce.specs.Space.{AreOwnRows, Everywhere, IsKernelOf}
-use Rattle.row_reduce.proofs.StepLemmas.{combined_linear, combined_row}
+use Rattle.row_reduce.specs.Elimination.{Everywhere, IsEliminated, IsVectorRow, end_of}
+use Rattle.row_reduce.specs.Space.{AreOwnFrom, IsEchelonOf, IsKernelOf, IsOwnRow}
+use Rattle.row_reduce.proofs.EliminationLemmas.{below_end}
+use Rattle.std.proofs.lemmas.List.{reverse-reverse}
+use Rattle.row_reduce.proofs.GivesLemmas.{combined_linear, combined_row}
 use Rattle.row_reduce.proofs.SpaceLemmas.{below_of_zero, combined_beyond, lead_inside, make_echelon}
 
 -- a vector of the kernel and the echelon row that has it
@@ -51,19 +53,34 @@ places_across p [] (e ∷ es) z = elim z [ ]
 places_across p (k ∷ ks) [] z = elim z [ ]
 places_across p (k ∷ ks) (e ∷ es) z = λ i. sym z.0.place i ∷ places_across p ks es z.1 i
 
--- what starts at its place with 1 there has its first position there
-first_place : (p place lead : ℕ) (row : List (ℕ × ℕ)) (v : ℕ → ℕ) → 1 < p → IsRow p row → IsFirst row lead → ((x : ℕ) → Congruent p (value_in row x) (v x)) → StartsAt p place v → Congruent p (v place) 1 → lead ≡ place
-first_place p place lead row v large is first same starts one =
-    elim (cases_order lead place) [
-      | inl e ↦ e
-      | inr side ↦ elim side [
-        | inl b ↦
-            let small = value_in-small p row lead (omega arith) is in
-            let none : value_in row lead % p ≡ 0 = (Congruent_trans (same lead) (starts.before lead b)).same ∙ zero-mod p in
-            absurd (first.nonzero (sym (mod-eq_of_lt small) ∙ none))
-        | inr b ↦ absurd (one-nonzero p (value_in row place) large (Congruent_trans (same place) one) (ap (λ n. n % p) (first.least place b) ∙ zero-mod p))
-      ]
-    ]
+same_vectors : (p count n : ℕ) → 1 < p → (ks : List KernelVector) (rs : List (List (ℕ × ℕ))) (es : List (EchelonRow p)) → AllZip (IsVectorRow p count) ks rs → AreOwnFrom p n rs es
+    → Each (λ (k : KernelVector). StartsAt p k.place k.vector) ks → IsReduced p kernel_place (λ (k : KernelVector). k.vector) ks → AllZip (IsSameVector p) ks es
+same_vectors p count n large [] [] [] z own starts h = tt
+same_vectors p count n large [] [] (e ∷ es) z own starts h = elim own [ ]
+same_vectors p count n large [] (r ∷ rs) es z own starts h = elim z [ ]
+same_vectors p count n large (k ∷ ks) [] es z own starts h = elim z [ ]
+same_vectors p count n large (k ∷ ks) (r ∷ rs) [] z own starts h = elim own [ ]
+same_vectors p count n large (k ∷ ks) (r ∷ rs) (e ∷ es) z own starts h = (
+  record {
+    place = own.0.pivot k.place (record {
+      nonzero = λ q. one-nonzero p (value_in r k.place) large (Congruent_trans (z.0.same k.place) h.0) (ap (λ n. n % p) q ∙ zero-mod p);
+      least = λ y b. sym (mod-eq_of_lt (value_in-small p r y (omega arith) z.0.is_row)) ∙ (Congruent_trans (z.0.same y) (starts.0.before y b)).same ∙ zero-mod p;
+    });
+    vector = λ x. Congruent_trans (Congruent_of (ap (λ (r : List (ℕ × ℕ)). value_in r x) own.0.same)) (z.0.same x);
+  },
+  same_vectors p count (suc n) large ks rs es z.1 own.1 starts.1 h.2,
+)
+
+-- what holds of each echelon row that is the given row of its number
+each_own : (p n : ℕ) (all rs : List (List (ℕ × ℕ))) (es : List (EchelonRow p)) (Q : EchelonRow p → Type 0) → ((k : ℕ) (r : List (ℕ × ℕ)) (e : EchelonRow p) → k < length all → get_or all k [] ≡ r → IsOwnRow p k r e → Q e)
+    → n + length rs ≡ length all → ((i : ℕ) → get_or all (n + i) [] ≡ get_or rs i []) → AreOwnFrom p n rs es → Each Q es
+each_own p n all [] [] Q f full same own = tt
+each_own p n all [] (e ∷ es) Q f full same own = elim own [ ]
+each_own p n all (r ∷ rs) [] Q f full same own = elim own [ ]
+each_own p n all (r ∷ rs) (e ∷ es) Q f full same own = (
+  f n r e (omega arith) (ap (λ k. get_or all k []) (let q : n ≡ n + 0 = omega arith in q) ∙ same 0) own.0,
+  each_own p (suc n) all rs es Q f (omega arith) (λ i. ap (λ k. get_or all k []) (let q : suc n + i ≡ n + suc i = omega arith in q) ∙ same (suc i)) own.1,
+)
 
 -- combinations of relations are relations
 combined_relations : (p count width : ℕ) (L : (ℕ → ℕ) → ℕ → ℕ) (linear : IsLinear p count (λ y. y < width) L) (k : ℕ) (rs : List (List (ℕ × ℕ))) (v base : ℕ → ℕ) (y : ℕ) → y < width
@@ -76,119 +93,89 @@ combined_relations p count width L linear k (r ∷ rs) v base y on h =
     (Congruent_from (Congruent_add ((linear.plus (v k) base (value_in r)).at y on) (Congruent_scale (v k) h.0)) (omega arith)))
 
 -- the expansion by kernel vectors as a combination of the rows that have them
-expansion_is : (p : ℕ) (j : ℕ) (ks : List KernelVector) (rs : List (List (ℕ × ℕ))) (w c : ℕ → ℕ) (d : KernelVector) (x : ℕ) → AllZip (λ (k : KernelVector) (r : List (ℕ × ℕ)). (x : ℕ) → Congruent p (value_in r x) (k.vector x)) ks rs
+expansion_is : (p count j : ℕ) (ks : List KernelVector) (rs : List (List (ℕ × ℕ))) (w c : ℕ → ℕ) (d : KernelVector) (x : ℕ) → AllZip (IsVectorRow p count) ks rs
     → ((i : ℕ) → i < length ks → c (j + i) ≡ w ((get_or ks i d).place)) → Congruent p (expansion kernel_place (λ (k : KernelVector). k.vector) ks w x) (row_combination_from j (map value_in rs) c x)
-expansion_is p j [] [] w c d x z h = Congruent_refl 0
-expansion_is p j [] (r ∷ rs) w c d x z h = elim z [ ]
-expansion_is p j (k ∷ ks) [] w c d x z h = elim z [ ]
-expansion_is p j (k ∷ ks) (r ∷ rs) w c d x z h =
+expansion_is p count j [] [] w c d x z h = Congruent_refl 0
+expansion_is p count j [] (r ∷ rs) w c d x z h = elim z [ ]
+expansion_is p count j (k ∷ ks) [] w c d x z h = elim z [ ]
+expansion_is p count j (k ∷ ks) (r ∷ rs) w c d x z h =
     let q : j + 0 ≡ j = omega arith in
     let here : c j ≡ w k.place = ap c (sym q) ∙ h 0 (omega arith) in
-    Congruent_add (Congruent_mul (Congruent_of (sym here)) (Congruent_sym (z.0 x)))
-    (expansion_is p (suc j) ks rs w c d x z.1 (λ i b. ap c (let e : suc j + i ≡ j + suc i = omega arith in e) ∙ h (suc i) (omega arith)))
+    Congruent_add (Congruent_mul (Congruent_of (sym here)) (Congruent_sym (z.0.same x)))
+    (expansion_is p count (suc j) ks rs w c d x z.1 (λ i b. ap c (let e : suc j + i ≡ j + suc i = omega arith in e) ∙ h (suc i) (omega arith)))
 
-module _ (p width : ℕ) (field : IsField p) (rows : List (List (ℕ × ℕ))) (skip : List ℕ) (given : List (List (ℕ × ℕ))) (owner : List ℕ) (solved : IsSolved p width rows skip given owner)
-    (none : (x : ℕ) → owned_in skip x → ⊥) (below : Each (IsBelow width) rows) (echelon : List (EchelonRow p)) (own : AreOwnRows p given echelon) where
-  same_vectors : AllZip (IsSameVector p) solved.kernel echelon
-  same_vectors =
-      let ks = solved.kernel in
-      let count : length given ≡ length ks = length_alike (λ (k : KernelVector) (r : List (ℕ × ℕ)). (x : ℕ) → Congruent p (value_in r x) (k.vector x)) ks given solved.vectors in
-      zip_from_index (IsSameVector p) ks echelon (let e = own.all in omega arith)
-      (λ i d e b.
-      let inside : i < length given = omega arith in
-      let o = own.each i e inside in
-      let vector : (x : ℕ) → Congruent p (value_in (get_or given i []) x) ((get_or ks i d).vector x) =
-      zip_at ks given i d [] solved.vectors b in
-      let one : Congruent p ((get_or ks i d).vector ((get_or ks i d).place)) 1 = reduced_at ks i d solved.walked.kernel_reduced b in
-      let starts : StartsAt p ((get_or ks i d).place) ((get_or ks i d).vector) = each_get_or (λ (k : KernelVector). StartsAt p k.place k.vector) ks i d b solved.walked.kernel_starts in
-      let is = each_get_or (IsRow p) given i [] inside solved.rows_are in
-      record {
-        place = o.pivot ((get_or ks i d).place) (first_at (get_or given i []) ((get_or ks i d).place) ((get_or ks i d).vector) is vector starts one);
-        vector = λ x. Congruent_trans (Congruent_of (ap (λ (r : List (ℕ × ℕ)). value_in r x) o.same)) (vector x);
-      })
-    where
-      zip_at : (ks : List KernelVector) (rs : List (List (ℕ × ℕ))) (i : ℕ) (d : KernelVector) (e : List (ℕ × ℕ)) → AllZip (λ (k : KernelVector) (r : List (ℕ × ℕ)). (x : ℕ) → Congruent p (value_in r x) (k.vector x)) ks rs → i < length ks
-          → (x : ℕ) → Congruent p (value_in (get_or rs i e) x) ((get_or ks i d).vector x)
-      zip_at [] rs i d e z b = absurd (omega arith)
-      zip_at (k ∷ ks) [] i d e z b = elim z [ ]
-      zip_at (k ∷ ks) (r ∷ rs) zero d e z b = z.0
-      zip_at (k ∷ ks) (r ∷ rs) (suc i) d e z b = zip_at ks rs i d e z.1 (omega arith)
+module _ (p : ℕ) (field : IsField p) (rows : List (List (ℕ × ℕ))) (found : List (EchelonRow p)) (given : List (List (ℕ × ℕ))) (h : IsEliminated p rows 0 found (reverse given)) (echelon : List (EchelonRow p)) (own : AreOwnFrom p 0 given echelon) where
+  vectors : AllZip (IsVectorRow p (length rows)) h.kernel given
+  vectors = subst (AllZip (IsVectorRow p (length rows)) h.kernel) (reverse-reverse given) h.vectors
 
-      reduced_at : (ks : List KernelVector) (i : ℕ) (d : KernelVector) → IsReduced p kernel_place (λ (k : KernelVector). k.vector) ks → i < length ks → Congruent p ((get_or ks i d).vector ((get_or ks i d).place)) 1
-      reduced_at [] i d h b = absurd (omega arith)
-      reduced_at (k ∷ ks) zero d h b = h.0
-      reduced_at (k ∷ ks) (suc i) d h b = reduced_at ks i d h.2 (omega arith)
+  same : AllZip (IsSameVector p) h.kernel echelon
+  same = same_vectors p (length rows) 0 field.large h.kernel given echelon vectors own h.walked.kernel_starts h.walked.kernel_reduced
 
-      -- the row is first not zero at the place
-      first_at : (row : List (ℕ × ℕ)) (place : ℕ) (v : ℕ → ℕ) → IsRow p row → ((x : ℕ) → Congruent p (value_in row x) (v x)) → StartsAt p place v → Congruent p (v place) 1 → IsFirst row place
-      first_at row place v is same starts one = record {
-        nonzero = λ e. one-nonzero p (value_in row place) field.large (Congruent_trans (same place) one) (ap (λ n. n % p) e ∙ zero-mod p);
-        least = λ y b. sym (mod-eq_of_lt (value_in-small p row y (let q = field.large in omega arith) is)) ∙ (Congruent_trans (same y) (starts.before y b)).same ∙ zero-mod p;
-      }
+  inside : Each (IsBelow (length rows)) given
+  inside = each_right (IsVectorRow p (length rows)) (IsBelow (length rows)) (λ k r v. v.below) h.kernel given vectors
 
   relations : Each (λ r. (y : ℕ) → Congruent p (combined rows (value_in r) y) 0) given
   relations =
-      let linear = combined_linear p width rows in
-      each_alike (λ (k : KernelVector) (r : List (ℕ × ℕ)). (x : ℕ) → Congruent p (value_in r x) (k.vector x)) (λ (k : KernelVector). AgreesOn p (λ y. y < width) (combined rows k.vector) (λ y. 0))
+      let linear = combined_linear p (end_of rows) rows in
+      each_alike (IsVectorRow p (length rows)) (λ (k : KernelVector). AgreesOn p (λ y. y < end_of rows) (combined rows k.vector) (λ y. 0))
       (λ r. (y : ℕ) → Congruent p (combined rows (value_in r) y) 0)
-      (λ k r same z y. elim (cases_lt y width) [
-        | inl b ↦ Congruent_trans ((linear.alike (value_in r) k.vector (record { at = λ x _. same x })).at y b) (z.at y b)
-        | inr b ↦ Congruent_of (combined_beyond 0 width rows (value_in r) y below b)
+      (λ k r v z y. elim (cases_lt y (end_of rows)) [
+        | inl b ↦ Congruent_trans ((linear.alike (value_in r) k.vector (record { at = λ x _. v.same x })).at y b) (z.at y b)
+        | inr b ↦ Congruent_of (combined_beyond 0 (end_of rows) rows (value_in r) y (below_end rows) b)
       ])
-      solved.kernel given solved.vectors solved.walked.kernel_zero
+      h.kernel given vectors h.walked.kernel_zero
 
-  own_combination : (k : ℕ) (d : EchelonRow p) → k < length given → (y : ℕ) → Congruent p (combined given (combination_of (get_or echelon k d)) y) (row_of (get_or echelon k d) y)
-  own_combination k d b y =
-      let o = own.each k d b in
-      Congruent_trans (((combined_linear p (suc y) given).alike (combination_of (get_or echelon k d)) (unit_vector k) (record { at = λ x _. o.combination x })).at y (omega arith))
-      (Congruent_of (combined_row given k y b ∙ ap (λ (r : List (ℕ × ℕ)). value_in r y) (sym o.same)))
+  each : (Q : EchelonRow p → Type 0) → ((k : ℕ) (r : List (ℕ × ℕ)) (e : EchelonRow p) → k < length given → get_or given k [] ≡ r → IsOwnRow p k r e → Q e) → Each Q echelon
+  each Q f = each_own p 0 given given echelon Q f (omega arith) (λ i. ap (λ k. get_or given k []) (let q : 0 + i ≡ i = omega arith in q)) own
 
   listed : (v : ℕ → ℕ) (t : ℕ) → IsLead p Everywhere (λ a b. a < b) (combined given v) t → Among t (map pivot_of echelon)
   listed v t l =
       let w = combined given v in
-      let inside : t < length rows = lead_inside p (length rows) given v t solved.inside l.nonzero in
-      let zero_w : AgreesOn p (λ y. y < width) (combined rows w) (λ y. 0) = record {
-        at = λ y on.
-            let linear = combined_linear p width rows in
-            Congruent_trans ((linear.alike w (λ x. 0 + w x) (record { at = λ x _. Congruent_of (omega arith) })).at y on)
+      let on : t < length rows = lead_inside p (length rows) given v t inside l.nonzero in
+      let linear = combined_linear p (end_of rows) rows in
+      let zero_w : AgreesOn p (λ y. y < end_of rows) (combined rows w) (λ y. 0) = record {
+        at = λ y b.
+            Congruent_trans ((linear.alike w (λ x. 0 + w x) (record { at = λ x _. Congruent_of (omega arith) })).at y b)
             (Congruent_trans
-            (combined_relations p (length rows) width (combined rows) linear 0 given v (λ x. 0) y on (each_map {Q = λ r. Congruent p (combined rows (value_in r) y) 0} (λ r h. h y) given relations))
-            (linear.nothing.at y on));
+            (combined_relations p (length rows) (end_of rows) (combined rows) linear 0 given v (λ x. 0) y b (each_map {Q = λ r. Congruent p (combined rows (value_in r) y) 0} (λ r z. z y) given relations))
+            (linear.nothing.at y b));
       } in
-      elim (solved.walked.kernel_whole w zero_w t (omega arith) (record { on = inside; nonzero = l.nonzero; least = λ y _ b. l.least y tt b })) [
-        | inl a ↦ subst (Among t) (places_across p solved.kernel echelon same_vectors) a
-        | inr s ↦ absurd (none t s)
+      elim (h.walked.kernel_whole w zero_w t (omega arith) (record { on = on; nonzero = l.nonzero; least = λ y _ b. l.least y tt b })) [
+        | inl a ↦ subst (Among t) (places_across p h.kernel echelon same) a
+        | inr s ↦ elim s [ ]
       ]
+
+  pub kernel_echelon : IsEchelonOf p given echelon
+  kernel_echelon =
+      make_echelon p field given echelon
+      (each (λ (e : EchelonRow p). IsRow p e.row × IsRow p e.combination) (λ k r e b q o. o.rows_are))
+      (each (λ (e : EchelonRow p). IsBelow (length given) e.combination)
+      (λ k r e b q o. below_of_zero p (length given) e.combination o.rows_are.1 (λ x c. Congruent_trans (o.combination x) (Congruent_of (unit_other k x (λ e. absurd (omega arith)))))))
+      (subst IsAscending (places_across p h.kernel echelon same) h.walked.kernel_ascends)
+      (reduced_across p h.kernel echelon same h.walked.kernel_reduced)
+      (each_alike (IsSameVector p) (λ (k : KernelVector). StartsAt p k.place k.vector) (λ (e : EchelonRow p). StartsAt p e.pivot (row_of e))
+      (λ k e v s. record { before = λ x b. Congruent_trans (v.vector x) (s.before x (let q = v.place in omega arith)) }) h.kernel echelon same h.walked.kernel_starts)
+      (each (λ (e : EchelonRow p). (y : ℕ) → Congruent p (combined given (combination_of e) y) (row_of e y))
+      (λ k r e b q o y. Congruent_trans (((combined_linear p (suc y) given).alike (combination_of e) (unit_vector k) (record { at = λ x _. o.combination x })).at y (omega arith))
+      (Congruent_of (combined_row given k y b ∙ ap (λ (r : List (ℕ × ℕ)). value_in r y) (q ∙ sym o.same)))))
+      listed
 
   pub kernel_space : IsKernelOf p rows given echelon
   kernel_space = record {
-    is_echelon = make_echelon p field given echelon
-        (each_from_index (λ (e : EchelonRow p). IsRow p e.row × IsRow p e.combination) echelon (λ k d b. (own.each k d (let e = own.all in omega arith)).rows_are))
-        (each_from_index (λ (e : EchelonRow p). IsBelow (length given) e.combination) echelon
-        (λ k d b.
-        let inside : k < length given = let e = own.all in omega arith in
-        let o = own.each k d inside in
-        below_of_zero p (length given) (get_or echelon k d).combination o.rows_are.1
-        (λ x c. Congruent_trans (o.combination x) (Congruent_of (unit_other k x (λ e. absurd (omega arith)))))))
-        (subst IsAscending (places_across p solved.kernel echelon same_vectors) solved.walked.kernel_ascends)
-        (reduced_across p solved.kernel echelon same_vectors solved.walked.kernel_reduced)
-        (each_alike (IsSameVector p) (λ (k : KernelVector). StartsAt p k.place k.vector) (λ (e : EchelonRow p). StartsAt p e.pivot (row_of e))
-        (λ k e same s. record { before = λ x b. Congruent_trans (same.vector x) (s.before x (let q = same.place in omega arith)) }) solved.kernel echelon same_vectors solved.walked.kernel_starts)
-        (each_from_index (λ (e : EchelonRow p). (y : ℕ) → Congruent p (combined given (combination_of e) y) (row_of e y)) echelon (λ k d b. own_combination k d (let e = own.all in omega arith)))
-        listed;
+    is_echelon = kernel_echelon;
     own = own;
-    inside = solved.inside;
+    inside = inside;
     relations = relations;
     whole = λ v z.
-        let c : ℕ → ℕ = λ i. v ((get_or solved.kernel i (record { place = 0; vector = λ x. 0 })).place) in
+        let c : ℕ → ℕ = λ i. v ((get_or h.kernel i (record { place = 0; vector = λ x. 0 })).place) in
         record {
           source = c;
           same = record {
             at = λ x on.
                 Congruent_trans
-                ((classes_span p (length rows) width field (combined rows) (combined_linear p width rows) (owned_in skip) solved.kernel solved.images solved.walked v (record { at = λ y b. z y })
-                (record { at = λ x s. absurd (none x s) })).at x on)
-                (expansion_is p 0 solved.kernel given v c (record { place = 0; vector = λ x. 0 }) x solved.vectors (λ i b. ap c (let e : 0 + i ≡ i = omega arith in e)));
+                ((classes_span p (length rows) (end_of rows) field (combined rows) (combined_linear p (end_of rows) rows) (λ x. ⊥) h.kernel h.images h.walked v (record { at = λ y b. z y })
+                (record { at = λ x s. elim s [ ] })).at x on)
+                (expansion_is p (length rows) 0 h.kernel given v c (record { place = 0; vector = λ x. 0 }) x vectors (λ i b. ap c (let e : 0 + i ≡ i = omega arith in e)));
           };
         };
   }
@@ -205,13 +192,15 @@ few_up count low (k ∷ ks) h a b =
     let rest = few_up count (k.place + 1) ks later a.1 (omega arith) in
     omega (arith, rest)
 
-pub few_solutions : (p width : ℕ) (rows : List (List (ℕ × ℕ))) (skip : List ℕ) (given : List (List (ℕ × ℕ))) (owner : List ℕ) → IsSolved p width rows skip given owner → length rows < 2 ^ 32 → length given < 2 ^ 32
-few_solutions p width rows skip given owner solved few =
-    let count : length given ≡ length solved.kernel = length_alike (λ (k : KernelVector) (r : List (ℕ × ℕ)). (x : ℕ) → Congruent p (value_in r x) (k.vector x)) solved.kernel given solved.vectors in
-    let up = few_up (length rows) 0 solved.kernel solved.walked.kernel_places solved.walked.kernel_ascends (omega arith) in
+pub few_relations : (p : ℕ) (rows : List (List (ℕ × ℕ))) (found : List (EchelonRow p)) (relations : List (List (ℕ × ℕ))) → IsEliminated p rows 0 found relations → length rows < 2 ^ 32 → length (reverse relations) < 2 ^ 32
+few_relations p rows found relations h few =
+    let count = length_alike (IsVectorRow p (length rows)) h.kernel (reverse relations) h.vectors in
+    let up = few_up (length rows) 0 h.kernel h.walked.kernel_places h.walked.kernel_ascends (omega arith) in
     omega (arith, few, up, count)
 
-pub kernel_found : (p width : ℕ) (field : IsField p) (rows : List (List (ℕ × ℕ))) (skip : List ℕ) (given : List (List (ℕ × ℕ))) (owner : List ℕ) → IsSolved p width rows skip given owner → IsClear skip → Each (IsBelow width) rows
-    → (echelon : List (EchelonRow p)) → AreOwnRows p given echelon → IsKernelOf p rows given echelon
-kernel_found p width field rows skip given owner solved clear below echelon own =
-    kernel_space p width field rows skip given owner solved (λ x o. absurd (let z = clear.zero x in omega (arith, o, z))) below echelon own
+-- the given row of its number is the next echelon row
+pub own_more : (p k : ℕ) (rs : List (List (ℕ × ℕ))) (es : List (EchelonRow p)) (r : List (ℕ × ℕ)) (e : EchelonRow p) → AreOwnFrom p k rs es → IsOwnRow p (k + length es) r e → AreOwnFrom p k (rs ++ (r ∷ [])) (es ++ (e ∷ []))
+own_more p k [] [] r e own o = (subst (λ n. IsOwnRow p n r e) (let q : k + 0 ≡ k = omega arith in q) o, tt)
+own_more p k [] (d ∷ es) r e own o = elim own [ ]
+own_more p k (s ∷ rs) [] r e own o = elim own [ ]
+own_more p k (s ∷ rs) (d ∷ es) r e own o = (own.0, own_more p (suc k) rs es r e own.1 (subst (λ n. IsOwnRow p n r e) (let q : k + suc (length es) ≡ suc k + length es = omega arith in q) o))

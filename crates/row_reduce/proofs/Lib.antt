@@ -2,11 +2,12 @@ pub mod SumLemmas
 pub mod EntryLemmas
 pub mod HistoryLemmas
 pub mod StoredLemmas
+pub mod GivesLemmas
 pub mod StepLemmas
 pub mod ExpansionLemmas
 pub mod SolvedLemmas
 pub mod EchelonLemmas
-pub mod SpaceLemmas
-pub mod KernelLemmas
-pub mod RankingLemmas
 pub mod TriangularLemmas
+pub mod SpaceLemmas
+pub mod EliminationLemmas
+pub mod KernelLemmas

@@ -1,5 +1,5 @@
 -- What a walk of all rows has found: the kernel as rows, and the leads.
-use Rattle.std.proofs.Common.{◌≡◌, ℕ, zero, suc, ◌-◌, ◌<◌, ◌≤◌, ◌⊎◌, List, [], ◌∷◌, reverse, map, length, get_or, arith, refl, subst, inl, inr}
+use Rattle.std.proofs.Common.{◌≡◌, ℕ, zero, suc, ◌<◌, ◌≤◌, ◌⊎◌, List, [], ◌∷◌, reverse, map, length, get_or, arith, refl, subst, inl, inr}
 use Rattle.std.proofs.lemmas.List.{append-nil}
 use Rattle.std.specs.List.{AllZip}
 use Rattle.linear_law.specs.Congruence.{Congruent}
@@ -12,7 +12,9 @@ use Rattle.sparse_rows.specs.Rows.{IsBelow, IsRow, value_in}
 use Rattle.row_reduce.specs.declared.Class.{Class}
 use Rattle.row_reduce.specs.declared.Stored.{Stored}
 use Rattle.row_reduce.specs.Stored.{stored_place}
-use Rattle.row_reduce.specs.Walk.{IsFrom, IsSolved, Reached, image_of, images_of, kernel_of, owned_in}
+use Rattle.row_reduce.specs.Walk.{IsFrom, IsSolved, Reached, image_of, images_of, kernel_of}
+use Rattle.row_reduce.specs.Pivots.{IsMarkedIn}
+use Rattle.std.specs.Prelude.{Bool, Option, None, Some}
 use Rattle.row_reduce.specs.Expansion.{AreOlder, HistoryFits, IsVectorOfClass}
 use Rattle.row_reduce.proofs.ExpansionLemmas.{zip_reversed}
 use Rattle.row_reduce.proofs.HistoryLemmas.{among_images}
@@ -35,8 +37,12 @@ zip_left_each R Q f [] zs k = tt
 zip_left_each R Q f (x ∷ xs) [] k = elim k [ ]
 zip_left_each R Q f (x ∷ xs) (z ∷ zs) k = (f x z k.0, zip_left_each R Q f xs zs k.1)
 
-module _ (p width : ℕ) (rows : List (List (ℕ × ℕ))) (skip : List ℕ) (classes : List (Class p)) (stored : List (Stored p)) (owner : List ℕ)
-    (reached : Reached p width rows (owned_in skip) 0 classes stored owner) where
+pub some_or_none : (o : Option ℕ) → (o ≡ None) ⊎ ((k : ℕ) × (o ≡ Some k))
+some_or_none None = inl refl
+some_or_none (Some k) = inr (k, refl)
+
+module _ (p width : ℕ) (rows : List (List (ℕ × ℕ))) (skip : List Bool) (classes : List (Class p)) (stored : List (Stored p)) (pivots : List (Option ℕ))
+    (reached : Reached p width rows (IsMarkedIn skip) 0 classes stored pivots) where
   pub older : AreOlder p stored
   older = record { each = λ k s b. (reached.sources_are.from k s (λ x. 0) b).fits }
 
@@ -50,7 +56,7 @@ module _ (p width : ℕ) (rows : List (List (ℕ × ℕ))) (skip : List ℕ) (cl
     is_row : IsRow p r
     below : k.place < length rows → IsBelow (length rows) r
 
-  pub solved : (found : List (List (ℕ × ℕ))) → AllZip (IsVectorOfClass p stored) classes found → IsSolved p width rows skip (reverse found) owner
+  pub solved : (found : List (List (ℕ × ℕ))) → AllZip (IsVectorOfClass p stored) classes found → IsSolved p width rows skip (reverse found) pivots
   solved found h =
       let kernel = kernel_of classes reached.vectors [] in
       let all : AllZip IsSolution kernel (reverse found) =
@@ -73,28 +79,20 @@ module _ (p width : ℕ) (rows : List (List (ℕ × ℕ))) (skip : List ℕ) (cl
         vectors = zip_change IsSolution (λ (k : KernelVector) (r : List (ℕ × ℕ)). (x : ℕ) → Congruent p (value_in r x) (k.vector x)) (λ k r s. s.vector) kernel (reverse found) all;
         full = reached.owns.full;
         owned = λ y b. (
-          λ some.
-              let j = get_or owner y 0 - 1 in
-              let o = reached.owns.some y j (omega arith) in
-              images_among stored reached.sources [] y reached.sources_length (inl (among_there stored j y o.0 o.1)),
-          λ m. elim (among_images stored reached.sources [] y m) [
-            | inr none ↦ elim none [ ]
-            | inl a ↦ elim (zero_or_more (get_or owner y 0)) [
-              | inl e ↦ absurd (reached.owns.none y b e a)
-              | inr more ↦ more
-            ]
+          λ some. elim (some_or_none (get_or pivots y None)) [
+            | inl e ↦ absurd (some e)
+            | inr k ↦
+                let o = reached.owns.some y k.0 k.1 in
+                images_among stored reached.sources [] y reached.sources_length (inl (among_there stored k.0 y o.0 o.1))
           ],
+          λ m e. elim (among_images stored reached.sources [] y m) [ inr none ↦ elim none [ ] | inl a ↦ reached.owns.none y b e a ],
         );
       }
     where
-      zero_or_more : (n : ℕ) → (n ≡ 0) ⊎ (0 < n)
-      zero_or_more zero = inl (omega arith)
-      zero_or_more (suc j) = inr (omega arith)
-
       among_there : (ss : List (Stored p)) (k y : ℕ) → k < length ss → ((d : Stored p) → (get_or ss k d).place ≡ y) → Among y (map stored_place ss)
       among_there [] k y b e = absurd (omega arith)
       among_there (s ∷ ss) k y b e = among_at (s ∷ ss) k y s b (e s)
 
-  pub solved_kernel : (found : List (List (ℕ × ℕ))) (h : AllZip (IsVectorOfClass p stored) classes found) → (solved found h).kernel ≡ kernel_of classes reached.vectors []
+  pub solved_images : (found : List (List (ℕ × ℕ))) (h : AllZip (IsVectorOfClass p stored) classes found) → (solved found h).images ≡ images_of stored reached.sources []
   unfolding solved
-  solved_kernel found h = refl
+  solved_images found h = refl

@@ -5,23 +5,24 @@ use native.Mathlib.Nat.{zero-mod}
 use Rattle.linear_law.specs.Congruence.{Congruent, IsField, negated, sum_over}
 use Rattle.linear_law.specs.Lists.{Among, Each, IsAscending}
 use Rattle.linear_law.specs.Listing.{row_combination_from}
-use Rattle.linear_law.specs.ReducedBases.{AgreesOn, IsReduced}
+use Rattle.linear_law.specs.ReducedBases.{IsReduced}
 use Rattle.linear_law.specs.Pivots.{IsCanonical, IsLead, IsPivot}
 use Rattle.linear_law.specs.Triangular.{StartsAt}
 use Rattle.linear_law.proofs.CongruenceLemmas.{Congruent_add, Congruent_from, Congruent_of, Congruent_refl, Congruent_scale, Congruent_sym, Congruent_trans, add-negated}
 use Rattle.linear_law.proofs.ListLemmas.{each_among, each_from_index, each_get_or, each_map, each_unmap, each_zip}
 use Rattle.linear_law.proofs.LeadLemmas.{nonzero_alike}
 use Rattle.linear_law.proofs.PivotLemmas.{one-nonzero, reduced_apart, reduced_one}
-use Rattle.linear_law.proofs.ReducedLemmas.{sum_picks, sum_vanishes}
+use Rattle.linear_law.proofs.ReducedLemmas.{sum_vanishes}
 use Rattle.linear_law.proofs.TriangularBases.{each_of_index, found}
 use Rattle.sparse_rows.specs.Rows.{IsBelow, IsRow, value_in}
 use Rattle.sparse_rows.proofs.RowLemmas.{value_in-at, value_in-none}
 use Rattle.row_reduce.specs.declared.EchelonRow.{EchelonRow}
 use Rattle.row_reduce.specs.Walk.{combined}
 use Rattle.row_reduce.specs.Echelon.{cleared, combination_of, pivot_of, row_of}
-use Rattle.row_reduce.specs.Space.{Everywhere, IsEchelonOf, IsRemainder, IsSpannedBy}
-use Rattle.row_reduce.proofs.StepLemmas.{combined_linear}
-use Rattle.row_reduce.proofs.EchelonLemmas.{linear_sum}
+use Rattle.row_reduce.specs.Elimination.{Everywhere}
+use Rattle.row_reduce.specs.Space.{IsEchelonOf, IsRemainder, IsSpannedBy}
+use Rattle.row_reduce.specs.Elimination.{Gives}
+use Rattle.row_reduce.proofs.GivesLemmas.{cleared_at, combined_on, gives_scale, gives_sum}
 
 -- rows below width give nothing beyond it
 pub combined_beyond : (k width : ℕ) (rows : List (List (ℕ × ℕ))) (v : ℕ → ℕ) (y : ℕ) → Each (IsBelow width) rows → width ≤ y → row_combination_from k (map value_in rows) v y ≡ 0
@@ -126,27 +127,21 @@ module _ (p : ℕ) (field : IsField p) (given : List (List (ℕ × ℕ))) (echel
             let none = sum_vanishes p pivot_of combination_of k x echelon
             (each_map {Q = λ (e : EchelonRow p). Congruent p (combination_of e x) 0} (λ e g. zero_of_below p (length given) e.combination x g b) echelon h.inside) in
             Congruent_from (Congruent_add (combination_is x) (Congruent_scale by (Congruent_add (sum_is x) none))) (omega arith));
-        zero =
-            each_map {Q = λ (e : EchelonRow p). Congruent p (value_in rest e.pivot) 0}
-            (λ e picked. Congruent_from (Congruent_add (Congruent_trans (rest_is e.pivot) (Congruent_add (Congruent_refl (value_in row e.pivot)) picked)) (add-negated p (value_in row e.pivot) field.large)) (omega arith))
-            echelon (sum_picks p pivot_of row_of k echelon (reduced_of echelon h.ascends h.canonical));
+        zero = each_map {Q = λ (e : EchelonRow p). Congruent p (value_in rest e.pivot) 0} (λ e z. Congruent_trans (rest_is e.pivot) z) echelon (cleared_at p field.large echelon (value_in row) (reduced_of echelon h.ascends h.canonical));
         sum = λ y.
-            let L = combined given in
-            let linear = combined_linear p (suc y) given in
-            let here : y < suc y = omega arith in
-            let S = sum_over (λ (d : EchelonRow p). k d * row_of d y) echelon in
+            let G : (ℕ → ℕ) → (ℕ → ℕ) → Type 0 = Gives p given Everywhere 0 (λ x. ⊥) [] in
+            let gives : (v w : ℕ → ℕ) → ((y : ℕ) → Congruent p (combined given v y) (w y)) → G v w =
+            λ v w f. record { from = record { at = λ y on. f y }; starts = record { before = λ x b. absurd (omega arith) }; skips = record { at = λ x s. elim s [ ] }; apart = tt } in
+            let S : ℕ → ℕ = λ y. sum_over (λ (d : EchelonRow p). k d * row_of d y) echelon in
             let v : ℕ → ℕ = λ x. 0 + sum_over (λ (d : EchelonRow p). k d * combination_of d x) echelon in
-            let whole : Congruent p (L v y) (0 + S) =
-            (linear_sum p (length given) (suc y) L linear k combination_of row_of echelon
-            (each_map {Q = λ (d : EchelonRow p). AgreesOn p (λ z. z < suc y) (L (combination_of d)) (row_of d)} (λ d f. record { at = λ z _. f z }) echelon h.from)
-            (λ x. 0) (λ y. 0) linear.nothing).at y here in
-            let turned : Congruent p (L (value_in combination) y) (L (λ x. 0 + (p - 1) * v x) y) =
-            (linear.alike (value_in combination) (λ x. 0 + (p - 1) * v x) (record {
-              at = λ x _. Congruent_from (Congruent_add (combination_is x) (Congruent_add (Congruent_scale by (sum_is x)) (Congruent_scale (v x) by_is))) (omega arith);
-            })).at y here in
-            let all : Congruent p (L (value_in combination) y) (0 + (p - 1) * (0 + S)) =
-            Congruent_trans turned (Congruent_trans ((linear.plus (p - 1) (λ x. 0) v).at y here) (Congruent_add (linear.nothing.at y here) (Congruent_scale (p - 1) whole))) in
-            Congruent_from (Congruent_add (Congruent_sym (rest_is y)) (Congruent_add (Congruent_sym all) (Congruent_sym (add-negated p S field.large)))) (omega arith);
+            let whole : G v (λ y. 0 + S y) =
+            gives_sum p given Everywhere 0 (λ x. ⊥) [] k combination_of row_of echelon (λ x. 0) (λ y. 0)
+            (each_map {Q = λ (d : EchelonRow p). G (combination_of d) (row_of d)} (λ d f. gives (combination_of d) (row_of d) f) echelon h.from)
+            (gives (λ x. 0) (λ y. 0) (λ y. (combined_on p Everywhere given).nothing.at y tt)) in
+            let turned : G (value_in combination) (λ y. (p - 1) * (0 + S y)) =
+            gives_scale p given Everywhere 0 (λ x. ⊥) [] field.large (p - 1) v (λ y. 0 + S y) (value_in combination) (λ y. (p - 1) * (0 + S y))
+            (λ x. Congruent_from (Congruent_add (combination_is x) (Congruent_add (Congruent_scale by (sum_is x)) (Congruent_scale (v x) by_is))) (omega arith)) (λ y. Congruent_refl ((p - 1) * (0 + S y))) whole in
+            Congruent_from (Congruent_add (Congruent_sym (rest_is y)) (Congruent_add (Congruent_sym (turned.from.at y tt)) (Congruent_sym (add-negated p (S y) field.large)))) (omega arith);
       }
 
 -- no rows have no leads

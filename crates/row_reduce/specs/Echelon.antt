@@ -1,5 +1,5 @@
 -- The reduced echelon list of what given rows span, with a combination of given rows for each of its rows.
-use Rattle.std.specs.Prelude.{◌≡◌, ℕ, ◌+◌, ◌*◌, ◌<◌, ◌≤◌, List, map, length}
+use Rattle.std.specs.Prelude.{◌≡◌, ℕ, ◌+◌, ◌*◌, ◌<◌, ◌≤◌, Bool, List, Option, map, length}
 use Rattle.linear_law.specs.Congruence.{Congruent, negated, sum_over}
 use Rattle.linear_law.specs.Lists.{Among, Each, IsAscending}
 use Rattle.linear_law.specs.ReducedBases.{AgreesOn, IsReduced}
@@ -8,7 +8,8 @@ use Rattle.linear_law.specs.Triangular.{Skips, StartsAt}
 use Rattle.sparse_rows.specs.Rows.{IsRow, value_in}
 use Rattle.row_reduce.specs.declared.Stored.{Stored}
 use Rattle.row_reduce.specs.declared.EchelonRow.{EchelonRow}
-use Rattle.row_reduce.specs.Walk.{IsSolved, combined, owned_in}
+use Rattle.row_reduce.specs.Walk.{IsSolved, combined}
+use Rattle.row_reduce.specs.Pivots.{IsLeadIn, IsMarkedIn}
 use Rattle.row_reduce.specs.Expansion.{IsVectorOf}
 use Rattle.row_reduce.specs.Triangular.{IsSolvedStored}
 
@@ -38,30 +39,30 @@ pub record IsMadeFrom (p : ℕ) (images : List (Stored p)) (s : Stored p) (done 
 
 -- A row of the span that starts at its pivot, and a combination of the given rows that gives it. The
 -- combination is 0 at the places of the kernel and at the skipped ones.
-pub record IsEchelonRow (p width : ℕ) (rows : List (List (ℕ × ℕ))) (skip : List ℕ) (kernel : List KernelVector) (e : EchelonRow p) : Type 0 where
+pub record IsEchelonRow (p width : ℕ) (rows : List (List (ℕ × ℕ))) (skip : List Bool) (kernel : List KernelVector) (e : EchelonRow p) : Type 0 where
   pub inside : e.pivot < width
   pub rows_are : IsRow p e.row × IsRow p e.combination
   pub starts : StartsAt p e.pivot (value_in e.row)
   pub wide : (y : ℕ) → width ≤ y → Congruent p (value_in e.row y) 0
   pub from : AgreesOn p (λ y. y < width) (combined rows (value_in e.combination)) (value_in e.row)
   pub apart : Each (λ k. Congruent p (value_in e.combination k.place) 0) kernel
-  pub skips : Skips p (owned_in skip) (value_in e.combination)
+  pub skips : Skips p (IsMarkedIn skip) (value_in e.combination)
   pub short : (x : ℕ) → length rows ≤ x → Congruent p (value_in e.combination x) 0
 
 -- The echelon rows whose pivots are the leads from `low` on: each is 1 at its pivot and 0 at the pivots of the others.
-pub record AreEchelon (p width : ℕ) (rows : List (List (ℕ × ℕ))) (skip : List ℕ) (kernel : List KernelVector) (owner : List ℕ) (low : ℕ) (echelon : List (EchelonRow p)) : Type 0 where
+pub record AreEchelon (p width : ℕ) (rows : List (List (ℕ × ℕ))) (skip : List Bool) (kernel : List KernelVector) (pivots : List (Option ℕ)) (low : ℕ) (echelon : List (EchelonRow p)) : Type 0 where
   pub each : Each (IsEchelonRow p width rows skip kernel) echelon
   pub reduced : IsReduced p pivot_of row_of echelon
   pub ascends : IsAscending (map pivot_of echelon)
   pub above : Each (λ (e : EchelonRow p). low ≤ e.pivot) echelon
-  pub owned : Each (λ (e : EchelonRow p). owned_in owner e.pivot) echelon
-  pub whole : (y : ℕ) → low ≤ y → y < width → owned_in owner y → Among y (map pivot_of echelon)
+  pub owned : Each (λ (e : EchelonRow p). IsLeadIn pivots e.pivot) echelon
+  pub whole : (y : ℕ) → low ≤ y → y < width → IsLeadIn pivots y → Among y (map pivot_of echelon)
 
 -- the kernel, the leads and the echelon of the rows
-pub record IsSolvedWhole (p width : ℕ) (rows : List (List (ℕ × ℕ))) (skip : List ℕ) (solutions : List (List (ℕ × ℕ))) (owner : List ℕ) (echelon : List (EchelonRow p)) : Type 0 where
-  pub solved : IsSolved p width rows skip solutions owner
-  pub reduced : AreEchelon p width rows skip solved.kernel owner 0 echelon
+pub record IsSolvedWhole (p width : ℕ) (rows : List (List (ℕ × ℕ))) (skip : List Bool) (solutions : List (List (ℕ × ℕ))) (pivots : List (Option ℕ)) (echelon : List (EchelonRow p)) : Type 0 where
+  pub solved : IsSolved p width rows skip solutions pivots
+  pub reduced : AreEchelon p width rows skip solved.kernel pivots 0 echelon
 
 -- whatever rows were walked to store these, the list is the echelon of their span
-pub record IsEchelonFrom (p : ℕ) (stored : List (Stored p)) (owner : List ℕ) (echelon : List (EchelonRow p)) : Type 0 where
-  pub from : (width : ℕ) (rows : List (List (ℕ × ℕ))) (skip : List ℕ) (solutions : List (List (ℕ × ℕ))) → IsSolvedStored p width rows skip solutions owner stored → IsSolvedWhole p width rows skip solutions owner echelon
+pub record IsEchelonFrom (p : ℕ) (stored : List (Stored p)) (pivots : List (Option ℕ)) (echelon : List (EchelonRow p)) : Type 0 where
+  pub from : (width : ℕ) (rows : List (List (ℕ × ℕ))) (skip : List Bool) (solutions : List (List (ℕ × ℕ))) → IsSolvedStored p width rows skip solutions pivots stored → IsSolvedWhole p width rows skip solutions pivots echelon

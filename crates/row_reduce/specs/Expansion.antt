@@ -1,11 +1,9 @@
 -- The vector behind a class, from its history.
 use Rattle.std.specs.Prelude.{ℕ, ◌+◌, ◌*◌, ◌<◌, zero, suc, List, length, slice_index, slice_index_or}
 use Rattle.linear_law.specs.Congruence.{Congruent}
-use Rattle.linear_law.specs.Lists.{Each}
 use Rattle.sparse_rows.specs.Rows.{IsBelow, IsRow, value_in}
 use Rattle.row_reduce.specs.declared.Class.{Class}
 use Rattle.row_reduce.specs.declared.Stored.{Stored}
-use Rattle.row_reduce.specs.Stored.{EntryFits, IsDense}
 use Rattle.row_reduce.specs.Walk.{AreNumbered, AreSources, IsFrom}
 
 -- the first k vectors, each by its weight
@@ -15,7 +13,6 @@ weighted (suc k) ws fs d x = weighted k ws fs d x + slice_index ws k * slice_ind
 
 -- while weights move to older rows: out and the weights below k make up the vector
 pub record Expanding (p : ℕ) (images : List (Stored p)) (place : ℕ) (history : List (ℕ × ℕ)) (weights : List ℕ) (out : List (ℕ × ℕ)) (k : ℕ) : Type 0 where
-  pub dense : IsDense p weights
   pub sum : (sources : List (ℕ → ℕ)) (v d : ℕ → ℕ) → AreSources p images sources → IsFrom p (length images) sources place history v
       → (x : ℕ) → Congruent p (v x) (value_in out x + weighted k weights sources d x)
 
@@ -26,7 +23,7 @@ pub record IsExpanded (p : ℕ) (images : List (Stored p)) (place : ℕ) (histor
 
 -- the history names rows below k
 abbrev pub HistoryFits : (p k : ℕ) → Class p → Type 0
-HistoryFits p k class = Each (EntryFits p k) class.history
+HistoryFits p k class = IsBelow k class.history
 
 -- `row` is the vector behind what the given row at `place` and the history have become
 pub record IsVectorOf (p : ℕ) (images : List (Stored p)) (place : ℕ) (history : List (ℕ × ℕ)) (row : List (ℕ × ℕ)) : Type 0 where
@@ -39,4 +36,4 @@ IsVectorOfClass p images class row = IsVectorOf p images class.place class.histo
 
 -- each history names older rows
 pub record AreOlder (p : ℕ) (images : List (Stored p)) : Type 0 where
-  pub each : (k : ℕ) (s : Stored p) → k < length images → Each (EntryFits p k) (slice_index_or images k s).history
+  pub each : (k : ℕ) (s : Stored p) → k < length images → IsBelow k (slice_index_or images k s).history

@@ -1,8 +1,9 @@
 pub mod Entries
+pub mod Pivots
 pub mod Stored
 pub mod Walk
 pub mod Expansion
 pub mod Triangular
 pub mod Echelon
-pub mod Ranking
+pub mod Elimination
 pub mod Space

@@ -1,5 +1,5 @@
 -- Spaces: given rows and the reduced echelon list of their span.
-use Rattle.std.specs.Prelude.{◌≡◌, ℕ, ◌+◌, ◌<◌, ◌↔◌, List, [], map, length, slice_index_or}
+use Rattle.std.specs.Prelude.{◌≡◌, ℕ, ◌+◌, ◌<◌, ◌↔◌, suc, List, [], ◌∷◌, map, length}
 use Rattle.linear_law.specs.Congruence.{Congruent}
 use Rattle.linear_law.specs.Lists.{Among, Each, IsAscending}
 use Rattle.linear_law.specs.Listing.{unit_vector}
@@ -9,15 +9,12 @@ use Rattle.sparse_rows.specs.Rows.{IsBelow, IsFirst, IsRow, value_in}
 use Rattle.row_reduce.specs.declared.EchelonRow.{EchelonRow}
 use Rattle.row_reduce.specs.Walk.{combined}
 use Rattle.row_reduce.specs.Echelon.{combination_of, pivot_of, row_of}
+use Rattle.row_reduce.specs.Elimination.{Everywhere}
 
 -- what a space is seen as
 pub record Spanned (p : ℕ) : Type 0 where
   pub given : List (List (ℕ × ℕ))
   pub echelon : List (EchelonRow p)
-
--- all places count
-abbrev pub Everywhere : ℕ → Type 0
-Everywhere y = Unit {0}
 
 -- w is a combination of the rows
 abbrev pub IsSpannedBy : ℕ → List (List (ℕ × ℕ)) → (ℕ → ℕ) → Type 0
@@ -47,16 +44,18 @@ pub record IsOwnRow (p at : ℕ) (row : List (ℕ × ℕ)) (e : EchelonRow p) : 
   pub combination : (x : ℕ) → Congruent p (value_in e.combination x) (unit_vector at x)
   pub pivot : (k : ℕ) → IsFirst row k → e.pivot ≡ k
 
--- each echelon row is the given row of its number
-pub record AreOwnRows (p : ℕ) (given : List (List (ℕ × ℕ))) (echelon : List (EchelonRow p)) : Type 0 where
-  pub all : length echelon ≡ length given
-  pub each : (k : ℕ) (d : EchelonRow p) → k < length given → IsOwnRow p k (slice_index_or given k []) (slice_index_or echelon k d)
+-- each echelon row is the given row of its number, from the k-th on
+abbrev pub AreOwnFrom : (p k : ℕ) → List (List (ℕ × ℕ)) → List (EchelonRow p) → Type 0
+AreOwnFrom p k [] [] = Unit {0}
+AreOwnFrom p k [] (e ∷ es) = ⊥
+AreOwnFrom p k (r ∷ rs) [] = ⊥
+AreOwnFrom p k (r ∷ rs) (e ∷ es) = IsOwnRow p k r e × AreOwnFrom p (suc k) rs es
 
 -- The space of all combinations of the rows that are zero: its given rows, which name rows alone, are its
 -- echelon rows, in order.
 pub record IsKernelOf (p : ℕ) (rows given : List (List (ℕ × ℕ))) (echelon : List (EchelonRow p)) : Type 0 where
   pub is_echelon : IsEchelonOf p given echelon
-  pub own : AreOwnRows p given echelon
+  pub own : AreOwnFrom p 0 given echelon
   pub inside : Each (IsBelow (length rows)) given
   pub relations : Each (λ r. (y : ℕ) → Congruent p (combined rows (value_in r) y) 0) given
   pub whole : (v : ℕ → ℕ) → ((y : ℕ) → Congruent p (combined rows v y) 0) → IsImage p (λ x. x < length rows) (combined given) v

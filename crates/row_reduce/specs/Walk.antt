@@ -1,6 +1,6 @@
 -- A walk over given rows, from the last to the first, and the vectors behind what it found. A vector
 -- gives a coefficient to each given row.
-use Rattle.std.specs.Prelude.{◌≡◌, ℕ, ◌+◌, ◌*◌, ◌%◌, ◌<◌, ◌≤◌, ◌≢◌, ◌↔◌, List, [], ◌∷◌, map, length, slice_index, slice_index_or}
+use Rattle.std.specs.Prelude.{◌≡◌, ℕ, ◌+◌, ◌*◌, ◌%◌, ◌^◌, ◌<◌, ◌≤◌, ◌≢◌, ◌↔◌, List, [], ◌∷◌, Bool, Option, map, length, slice_index_or}
 use Rattle.std.specs.List.{AllZip}
 use Rattle.linear_law.specs.Congruence.{Congruent, sum_over}
 use Rattle.linear_law.specs.Lists.{Among, Each}
@@ -10,7 +10,9 @@ use Rattle.linear_law.specs.Triangular.{StartsAt, Walked, image_place}
 use Rattle.sparse_rows.specs.Rows.{IsBelow, IsRow, value_in}
 use Rattle.row_reduce.specs.declared.Class.{Class}
 use Rattle.row_reduce.specs.declared.Stored.{Stored}
-use Rattle.row_reduce.specs.Stored.{EntryFits, Owns, StoredFits}
+use Rattle.row_reduce.specs.declared.walking.Walk.{Walk}
+use Rattle.row_reduce.specs.Pivots.{IsLeadIn, IsMarkedIn}
+use Rattle.row_reduce.specs.Stored.{Owns, StoredFits}
 
 -- the sum of the rows, each times its coefficient in v
 abbrev pub combined : List (List (ℕ × ℕ)) → (ℕ → ℕ) → ℕ → ℕ
@@ -22,7 +24,7 @@ added_from sources d history x = sum_over (λ h. h.1 * slice_index_or sources h.
 
 -- how a vector arose: from the unit vector of one given row and the vectors that the history names, all below k
 pub record IsFrom (p k : ℕ) (sources : List (ℕ → ℕ)) (source : ℕ) (history : List (ℕ × ℕ)) (from : ℕ → ℕ) : Type 0 where
-  pub fits : Each (EntryFits p k) history
+  pub fits : IsBelow k history
   pub sum : (d : ℕ → ℕ) (x : ℕ) → Congruent p (from x) (unit_vector source x + added_from sources d history x)
 
 abbrev pub image_of : {p : ℕ} → Stored p → (ℕ → ℕ) → ImageVector ℕ
@@ -49,21 +51,17 @@ pub record AreSources (p : ℕ) (images : List (Stored p)) (sources : List (ℕ 
   pub from : (k : ℕ) (s : Stored p) (f : ℕ → ℕ) → k < length images → IsFrom p k sources (slice_index_or images k s).source (slice_index_or images k s).history (slice_index_or sources k f)
 
 -- The rows from `low` on are walked. `sources` are the vectors behind the stored rows, `vectors` those behind the classes.
-pub record Reached (p width : ℕ) (rows : List (List (ℕ × ℕ))) (skipped : ℕ → Type 0) (low : ℕ) (kernel : List (Class p)) (images : List (Stored p)) (owner : List ℕ) : Type 0 where
+pub record Reached (p width : ℕ) (rows : List (List (ℕ × ℕ))) (skipped : ℕ → Type 0) (low : ℕ) (kernel : List (Class p)) (images : List (Stored p)) (pivots : List (Option ℕ)) : Type 0 where
   pub few : low + length images ≤ length rows
   pub numbered : AreNumbered (length rows) images
   pub fits : Each (StoredFits p width) images
-  pub owns : Owns width images owner
+  pub owns : Owns width images pivots
   pub sources : List (ℕ → ℕ)
   pub sources_length : length sources ≡ length images
   pub sources_are : AreSources p images sources
   pub vectors : List (ℕ → ℕ)
   pub vectors_are : AllZip (λ (c : Class p) v. IsFrom p (length images) sources c.place c.history v) kernel vectors
   pub walked : Walked p (length rows) width (combined rows) skipped low (kernel_of kernel vectors []) (images_of images sources [])
-
--- the places with a number that is not 0
-abbrev pub owned_in : List ℕ → ℕ → Type 0
-owned_in owner x = 0 < slice_index owner x
 
 -- a vector that goes to zero and starts at x
 pub record IsSkippable (p width : ℕ) (rows : List (List (ℕ × ℕ))) (x : ℕ) : Type 0 where
@@ -73,18 +71,29 @@ pub record IsSkippable (p width : ℕ) (rows : List (List (ℕ × ℕ))) (x : �
   pub goes : IsInKernel p (λ y. y < width) (combined rows) vector
 
 -- Each row that is to be skipped is the first one of some combination that is zero.
-pub record SkipsFit (p width : ℕ) (rows : List (List (ℕ × ℕ))) (skip : List ℕ) : Type 0 where
+pub record SkipsFit (p width : ℕ) (rows : List (List (ℕ × ℕ))) (skip : List Bool) : Type 0 where
   pub full : length skip ≡ length rows
-  pub each : (x : ℕ) → owned_in skip x → IsSkippable p width rows x
+  pub each : (x : ℕ) → IsMarkedIn skip x → IsSkippable p width rows x
+
+-- rows of this width, all in 32 bits
+pub record AreRows (width : ℕ) (rows : List (List (ℕ × ℕ))) : Type 0 where
+  pub few : length rows < 2 ^ 32
+  pub narrow : width ≤ 2 ^ 32
+  pub within : Each (IsBelow width) rows
+
+-- what a walk knows when the rows from `low` on are walked
+pub record IsReached (p width : ℕ) (rows : List (List (ℕ × ℕ))) (low : ℕ) (w : Walk p) : Type 0 where
+  pub skips : SkipsFit p width rows w.skip.items
+  pub reached : Reached p width rows (IsMarkedIn w.skip.items) low w.classes.items w.stored.items w.pivots
 
 -- The combinations of the rows that are zero, as rows, and a table of the leads of what the rows span:
--- `owner` is not 0 exactly at the leads. The kernel leaves out the skipped places.
-pub record IsSolved (p width : ℕ) (rows : List (List (ℕ × ℕ))) (skip : List ℕ) (solutions : List (List (ℕ × ℕ))) (owner : List ℕ) : Type 0 where
+-- its pivots are the leads. The kernel leaves out the skipped places.
+pub record IsSolved (p width : ℕ) (rows : List (List (ℕ × ℕ))) (skip : List Bool) (solutions : List (List (ℕ × ℕ))) (pivots : List (Option ℕ)) : Type 0 where
   pub kernel : List KernelVector
   pub images : List (ImageVector ℕ)
-  pub walked : Walked p (length rows) width (combined rows) (owned_in skip) 0 kernel images
+  pub walked : Walked p (length rows) width (combined rows) (IsMarkedIn skip) 0 kernel images
   pub rows_are : Each (IsRow p) solutions
   pub inside : Each (IsBelow (length rows)) solutions
   pub vectors : AllZip (λ (k : KernelVector) (r : List (ℕ × ℕ)). (x : ℕ) → Congruent p (value_in r x) (k.vector x)) kernel solutions
-  pub full : length owner ≡ width
-  pub owned : (y : ℕ) → y < width → owned_in owner y ↔ Among y (map image_place images)
+  pub full : length pivots ≡ width
+  pub owned : (y : ℕ) → y < width → IsLeadIn pivots y ↔ Among y (map image_place images)

@@ -1,23 +1,22 @@
-ghost use Rattle.std.specs.Prelude.{◌≡◌, ℕ, ◌+◌, ◌*◌, ◌%◌, ◌^◌, ◌<◌, ◌≤◌, length, reverse, List, [], OnOk, IfOk, IsTrue};
+ghost use Rattle.std.specs.Prelude.{◌≡◌, ℕ, ◌+◌, ◌*◌, ◌%◌, ◌^◌, ◌<◌, ◌≤◌, length, reverse, List, Bool, [], OnOk, IfOk, IsTrue};
 ghost use Rattle.linear_law.specs.Congruence.{Congruent, negated};
 ghost use Rattle.linear_law.specs.Lists.{Each};
 ghost use Rattle.fp_field.specs.Served.{served};
 ghost use Rattle.sparse_rows.specs.Rows.{IsBelow, IsRow, value_in};
-ghost use Rattle.row_reduce.specs.declared.Class.{Class};
-ghost use Rattle.row_reduce.specs.Stored.{EntryFits, Owns};
-ghost use Rattle.row_reduce.specs.Walk.{Reached, SkipsFit, kernel_of, owned_in};
+ghost use Rattle.row_reduce.specs.Stored.{Owns};
 ghost use Rattle.row_reduce.specs.Expansion.{AreOlder};
-ghost use Rattle.row_reduce.specs.Triangular.{AreTriangular};
-ghost use Rattle.row_reduce.specs.Echelon.{AreEchelon, IsEchelonFrom, IsMadeFrom, IsSolvedWhole, cleared, combination_of, row_of};
+ghost use Rattle.row_reduce.specs.Triangular.{AreTriangular, IsSolvedStored};
+ghost use Rattle.row_reduce.specs.Echelon.{AreEchelon, IsEchelonFrom, IsMadeFrom, cleared, combination_of, row_of};
 
 use crate::expanding::expand;
-use crate::{EchelonRow, Stored};
+use crate::{EchelonRow, Pivots, Stored};
 use fp_field::Fp;
 use sparse_rows::Row;
 use std::alloc::{AllocError, Global};
 
 /// Clears a row at the pivot of a reduced row, and does the same with the combinations.
-fn clear_one<const P: u32>(
+#[tactic(auto, using(crate::proofs::EchelonLemmas::added_is))]
+pub(crate) fn clear_one<const P: u32>(
     given: &Row<P>,
     reduced: &EchelonRow<P>,
     row: &mut Row<P>,
@@ -75,7 +74,7 @@ fn canonical_row<const P: u32>(
 ) -> Result<EchelonRow<P>, AllocError>
     requires prime { IsTrue (served P) }
     requires older { AreOlder P images.now }
-    requires fits { Each (EntryFits P (length images.now)) stored.now.history }
+    requires fits { IsBelow (length images.now) stored.now.history }
     ensures { IfOk result (IsMadeFrom P images.now stored.now done.now) }
 {
     let given = stored.row.to_row(alloc)?;
@@ -96,21 +95,20 @@ fn canonical_row<const P: u32>(
 fn reduce_at<const P: u32>(
     alloc: Global,
     images: &[Stored<P>],
-    owner: &[u32],
+    pivots: &Pivots,
     at: usize,
     done: &mut Vec<EchelonRow<P>>,
 ) -> Result<(), AllocError>
     requires prime { IsTrue (served P) }
     requires older { AreOlder P images.now }
-    requires owns { Owns (length owner.now) images.now owner.now }
-    requires inside { at < length owner.now }
-    ensures { OnOk result ((width : ℕ) (rows : List (List (ℕ × ℕ))) (skip : List ℕ) (classes : List (Class P)) (reached : Reached P width rows (owned_in skip) 0 classes images.now owner.now) → AreEchelon P width rows skip (kernel_of classes reached.vectors []) owner.now (at + 1) (reverse done.old.items) → AreEchelon P width rows skip (kernel_of classes reached.vectors []) owner.now at (reverse done.new.items)) }
+    requires owns { Owns (length pivots.now) images.now pivots.now }
+    requires inside { at < length pivots.now }
+    ensures { OnOk result ((width : ℕ) (rows : List (List (ℕ × ℕ))) (skip : List Bool) (solutions : List (List (ℕ × ℕ))) (solved : IsSolvedStored P width rows skip solutions pivots.now images.now) → AreEchelon P width rows skip solved.solved.kernel pivots.now (at + 1) (reverse done.old.items) → AreEchelon P width rows skip solved.solved.kernel pivots.now at (reverse done.new.items)) }
 {
-    let owned = owner[at];
-    if owned != 0 {
-        let stored = &images[owned as usize - 1];
-        let row = canonical_row(alloc, images, stored, done.as_slice())?;
-        done.push(row)?;
+    if let Some(row) = pivots.row_of(at) {
+        let stored = &images[row as usize];
+        let canonical = canonical_row(alloc, images, stored, done.as_slice())?;
+        done.push(canonical)?;
     }
     Ok(())
 }
@@ -119,17 +117,17 @@ fn reduce_at<const P: u32>(
 fn reduce_down<const P: u32>(
     alloc: Global,
     images: &[Stored<P>],
-    owner: &[u32],
+    pivots: &Pivots,
     done: &mut Vec<EchelonRow<P>>,
 ) -> Result<(), AllocError>
     requires prime { IsTrue (served P) }
     requires older { AreOlder P images.now }
-    requires owns { Owns (length owner.now) images.now owner.now }
+    requires owns { Owns (length pivots.now) images.now pivots.now }
     requires empty { done.old.items ≡ [] }
-    ensures { OnOk result ((width : ℕ) (rows : List (List (ℕ × ℕ))) (skip : List ℕ) (classes : List (Class P)) (reached : Reached P width rows (owned_in skip) 0 classes images.now owner.now) → AreEchelon P width rows skip (kernel_of classes reached.vectors []) owner.now 0 (reverse done.new.items)) }
+    ensures { OnOk result ((width : ℕ) (rows : List (List (ℕ × ℕ))) (skip : List Bool) (solutions : List (List (ℕ × ℕ))) (solved : IsSolvedStored P width rows skip solutions pivots.now images.now) → AreEchelon P width rows skip solved.solved.kernel pivots.now 0 (reverse done.new.items)) }
 {
-    for count in 0..owner.len() {
-        reduce_at(alloc, images, owner, owner.len() - 1 - count, done)?;
+    for count in 0..pivots.width() {
+        reduce_at(alloc, images, pivots, pivots.width() - 1 - count, done)?;
     }
     Ok(())
 }
@@ -140,14 +138,14 @@ fn reduce_down<const P: u32>(
 pub fn echelon_of<const P: u32>(
     alloc: Global,
     stored: &[Stored<P>],
-    owner: &[u32],
+    pivots: &Pivots,
 ) -> Result<Vec<EchelonRow<P>>, AllocError>
     requires prime { IsTrue (served P) }
-    requires triangular { AreTriangular P (length owner.now) stored.now owner.now }
-    ensures { IfOk result (λ e. IsEchelonFrom P stored.now owner.now e.items) }
+    requires triangular { AreTriangular P (length pivots.now) stored.now pivots.now }
+    ensures { IfOk result (λ e. IsEchelonFrom P stored.now pivots.now e.items) }
 {
     let mut echelon = Vec::new(alloc);
-    reduce_down(alloc, stored, owner, &mut echelon)?;
+    reduce_down(alloc, stored, pivots, &mut echelon)?;
     echelon.reverse();
     Ok(echelon)
 }

@@ -1,11 +1,9 @@
 //! Rows in little memory.
 ghost use Rattle.std.specs.Prelude.{◌≡◌, ℕ, ◌+◌, ◌*◌, ◌-◌, ◌%◌, ◌^◌, ◌<◌, ◌≤◌, length, slice_index, IfOk, IsTrue};
 ghost use Rattle.linear_law.specs.Congruence.{Congruent};
-ghost use Rattle.linear_law.specs.Lists.{Each};
 ghost use Rattle.fp_field.specs.Served.{served};
-ghost use Rattle.sparse_rows.specs.Rows.{IsRow, value_in};
+ghost use Rattle.sparse_rows.specs.Rows.{IsBelow, IsRow, value_in};
 ghost use Rattle.row_reduce.specs.Entries.{run_from, zipped};
-ghost use Rattle.row_reduce.specs.Stored.{EntryFits, IsDense};
 
 use crate::reducing::plus_product;
 use fp_field::Fp;
@@ -66,10 +64,8 @@ impl<const P: u32> Entries<P> {
     /// Adds `by` times the values to the sum.
     pub(crate) fn add_to(&self, sum: &mut [Fp<P>], by: Fp<P>)
         requires prime { IsTrue (served P) }
-        requires dense { IsDense P sum.old }
-        requires fits { Each (EntryFits P (length sum.old)) self.now }
-        ensures dense { IsDense P sum.new }
-        ensures sum { (k : ℕ) → Congruent P (slice_index sum.new k) (slice_index sum.old k + by.entry * value_in self.now k) }
+        requires fits { IsBelow (length sum.old) self.now }
+        ensures { (k : ℕ) → Congruent P (slice_index sum.new k) (slice_index sum.old k + by.entry * value_in self.now k) }
     {
         let (alone, run) = self.values.as_slice().split_at(self.places.len());
         add_alone(sum, self.places.as_slice(), alone, by);
@@ -108,11 +104,9 @@ fn place_of(places: &[u32], first: u32, i: usize) -> u32
 /// Adds `by` times values at places of their own.
 fn add_alone<const P: u32>(sum: &mut [Fp<P>], places: &[u32], values: &[Fp<P>], by: Fp<P>)
     requires prime { IsTrue (served P) }
-    requires dense { IsDense P sum.old }
     requires same { length places.now ≡ length values.now }
-    requires fits { Each (EntryFits P (length sum.old)) (zipped places.now values.now) }
-    ensures dense { IsDense P sum.new }
-    ensures sum { (k : ℕ) → Congruent P (slice_index sum.new k) (slice_index sum.old k + by.entry * value_in (zipped places.now values.now) k) }
+    requires fits { IsBelow (length sum.old) (zipped places.now values.now) }
+    ensures { (k : ℕ) → Congruent P (slice_index sum.new k) (slice_index sum.old k + by.entry * value_in (zipped places.now values.now) k) }
 {
     for i in 0..places.len() {
         let at = places[i] as usize;
@@ -121,12 +115,11 @@ fn add_alone<const P: u32>(sum: &mut [Fp<P>], places: &[u32], values: &[Fp<P>], 
 }
 
 /// Adds `by` times the values at the places from `first` on.
+#[tactic(auto, using(crate::proofs::EntryLemmas::once_more))]
 fn add_run<const P: u32>(sum: &mut [Fp<P>], first: usize, run: &[Fp<P>], by: Fp<P>)
     requires prime { IsTrue (served P) }
-    requires dense { IsDense P sum.old }
     requires inside { (i : ℕ) → i < length run.now → first + i < length sum.old }
-    ensures dense { IsDense P sum.new }
-    ensures sum { (k : ℕ) → Congruent P (slice_index sum.new k) (slice_index sum.old k + by.entry * value_in (run_from first run.now) k) }
+    ensures { (k : ℕ) → Congruent P (slice_index sum.new k) (slice_index sum.old k + by.entry * value_in (run_from first run.now) k) }
 {
     for _ in 0..by.value() {
         add_once(sum, first, run);
@@ -136,10 +129,8 @@ fn add_run<const P: u32>(sum: &mut [Fp<P>], first: usize, run: &[Fp<P>], by: Fp<
 /// Adds the values at the places from `first` on.
 fn add_once<const P: u32>(sum: &mut [Fp<P>], first: usize, run: &[Fp<P>])
     requires prime { IsTrue (served P) }
-    requires dense { IsDense P sum.old }
     requires inside { (i : ℕ) → i < length run.now → first + i < length sum.old }
-    ensures dense { IsDense P sum.new }
-    ensures sum { (k : ℕ) → Congruent P (slice_index sum.new k) (slice_index sum.old k + value_in (run_from first run.now) k) }
+    ensures { (k : ℕ) → Congruent P (slice_index sum.new k) (slice_index sum.old k + value_in (run_from first run.now) k) }
 {
     for i in 0..run.len() {
         let at = first + i;

@@ -2,14 +2,14 @@ ghost use Rattle.std.specs.List.{AllZip};
 ghost use Rattle.std.specs.Prelude.{◌≡◌, ℕ, ◌+◌, ◌^◌, ◌<◌, ◌≤◌, length, List, [], ◌∷◌, OnOk, IfOk, IsTrue};
 ghost use Rattle.linear_law.specs.Lists.{Each};
 ghost use Rattle.fp_field.specs.Served.{served};
-ghost use Rattle.row_reduce.specs.Stored.{EntryFits, IsClear, IsDense};
+ghost use Rattle.row_reduce.specs.Stored.{IsClear};
 ghost use Rattle.sparse_rows.specs.Rows.{IsBelow};
-ghost use Rattle.row_reduce.specs.Walk.{AreNumbered, IsSolved, SkipsFit};
+ghost use Rattle.row_reduce.specs.Walk.{AreNumbered, AreRows, SkipsFit};
 ghost use Rattle.row_reduce.specs.Expansion.{AreOlder, Expanding, HistoryFits, IsExpanded, IsVectorOf, IsVectorOfClass};
 ghost use Rattle.row_reduce.specs.Triangular.{IsSolvedStored};
 
-use crate::walking::{walk_rows, zero_values};
-use crate::{Class, Entries, Stored, Walk};
+use crate::walking::{Walk, zero_values};
+use crate::{Class, Entries, Pivots, Stored};
 use fp_field::Fp;
 use sparse_rows::Row;
 use std::alloc::{AllocError, Global};
@@ -25,8 +25,6 @@ fn move_weight<const P: u32>(
     requires inside { k < length images.now }
     requires older { AreOlder P images.now }
     requires full { length weights.old ≡ length images.now }
-    requires dense { IsDense P weights.old }
-    ensures dense { OnOk result (IsDense P weights.new) }
     ensures below { OnOk result ((count : ℕ) → AreNumbered count images.now → IsBelow count out.old.items → IsBelow count out.new.items) }
     ensures moved { OnOk result ((place : ℕ) (history : List (ℕ × ℕ)) → Expanding P images.now place history weights.old out.old.items (k + 1) → Expanding P images.now place history weights.new out.new.items k) }
 {
@@ -47,7 +45,6 @@ fn move_all<const P: u32>(
     requires prime { IsTrue (served P) }
     requires older { AreOlder P images.now }
     requires full { length weights.old ≡ length images.now }
-    requires dense { IsDense P weights.old }
     ensures below { OnOk result ((count : ℕ) → AreNumbered count images.now → IsBelow count out.old.items → IsBelow count out.new.items) }
     ensures expanded { OnOk result ((place : ℕ) (history : List (ℕ × ℕ)) → Expanding P images.now place history weights.old out.old.items (length images.now) → IsExpanded P images.now place history out.new.items) }
 {
@@ -67,8 +64,8 @@ fn expand_into<const P: u32>(
     requires prime { IsTrue (served P) }
     requires older { AreOlder P images.now }
     requires full { length weights.old ≡ length images.now }
-    requires clear { IsClear weights.old }
-    requires fits { Each (EntryFits P (length images.now)) history.now }
+    requires clear { IsClear P weights.old }
+    requires fits { IsBelow (length images.now) history.now }
     ensures below { OnOk result ((count : ℕ) → AreNumbered count images.now → IsBelow count out.old.items → IsBelow count out.new.items) }
     ensures expanded { OnOk result ((place : ℕ) → out.old.items ≡ (place, 1) ∷ [] → IsExpanded P images.now place history.now out.new.items) }
 {
@@ -86,7 +83,7 @@ pub fn expand<const P: u32>(
 ) -> Result<Row<P>, AllocError>
     requires prime { IsTrue (served P) }
     requires older { AreOlder P images.now }
-    requires fits { Each (EntryFits P (length images.now)) history.now }
+    requires fits { IsBelow (length images.now) history.now }
     ensures { IfOk result (IsVectorOf P images.now place history.now) }
 {
     let mut weights = zero_values(alloc, images.len())?;
@@ -98,6 +95,7 @@ pub fn expand<const P: u32>(
 }
 
 /// The vectors behind the classes.
+#[tactic(auto, using(crate::proofs::SumLemmas::zip_more))]
 pub fn vectors<const P: u32>(
     alloc: Global,
     images: &[Stored<P>],
@@ -116,30 +114,29 @@ pub fn vectors<const P: u32>(
     Ok(rows)
 }
 
-/// The combinations of the rows that are zero, a table that is not 0 exactly at the leads of what the rows
-/// span, and triangular rows of the span, one for each lead. `width` bounds the places of the rows. A row
-/// where `skip` is not 0 is not walked: it has to be the first row of some combination that is zero. The
-/// combinations are those of the other rows that are the first of one: each is 1 at that row and 0 at all
-/// others of these, and the list ascends by that row. Time is for the walk of the rows.
+/// The combinations of the rows that are zero, the pivots of what the rows span, and triangular rows of
+/// the span, one for each pivot. `width` bounds the places of the rows. A row that `skip` marks is not
+/// walked: it has to be the first row of some combination that is zero. The combinations are those of the
+/// other rows that are the first of one: each is 1 at that row and 0 at all others of these, and the list
+/// ascends by that row. Time is for the walk of the rows.
 pub fn kernel_and_stored<const P: u32>(
     alloc: Global,
     rows: &[Row<P>],
     width: usize,
-    skip: &[u32],
-) -> Result<(Vec<Row<P>>, Vec<u32>, Vec<Stored<P>>), AllocError>
+    skip: Vec<bool>,
+) -> Result<(Vec<Row<P>>, Pivots, Vec<Stored<P>>), AllocError>
     requires prime { IsTrue (served P) }
-    requires few { length rows.now < 2 ^ 32 }
-    requires narrow { width ≤ 2 ^ 32 }
-    requires within { Each (IsBelow width) rows.now }
-    requires skips { SkipsFit P width rows.now skip.now }
-    ensures { IfOk result (λ r. IsSolvedStored P width rows.now skip.now r.0.items r.1.items r.2.items) }
+    requires rows { AreRows width rows.now }
+    requires skips { SkipsFit P width rows.now skip.items }
+    ensures { IfOk result (λ r. IsSolvedStored P width rows.now skip.items r.0.items r.1 r.2.items) }
 {
     let Walk {
+        skip: _,
         classes,
         stored,
-        owner,
-    } = walk_rows(alloc, rows, width, skip)?;
+        pivots,
+    } = Walk::over(alloc, rows, width, skip)?;
     let mut kernel = vectors(alloc, stored.as_slice(), classes.as_slice())?;
     kernel.reverse();
-    Ok((kernel, owner, stored))
+    Ok((kernel, pivots, stored))
 }

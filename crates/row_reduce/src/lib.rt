@@ -2,9 +2,10 @@
 #![tactic(auto)]
 
 mod echelon;
+mod eliminating;
 mod entries;
 mod expanding;
-mod ranking;
+mod pivots;
 mod reducing;
 mod space;
 mod walking;
@@ -13,6 +14,7 @@ pub use echelon::echelon_of;
 pub use entries::Entries;
 pub use expanding::kernel_and_stored;
 use fp_field::Fp;
+pub use pivots::Pivots;
 pub use space::{Space, kernel};
 use sparse_rows::Row;
 
@@ -38,17 +40,6 @@ pub struct Class<const P: u32> {
     pub place: u32,
     /// The stored rows that were added, by number, with their factors.
     pub history: Entries<P>,
-}
-
-/// What a walk found.
-#[derive(Drop)]
-pub struct Walk<const P: u32> {
-    /// The rows that went to zero, from the last to the first.
-    pub classes: Vec<Class<P>>,
-    /// What is left of the others, each with a lead of its own.
-    pub stored: Vec<Stored<P>>,
-    /// For each place the number of the stored row with this lead, plus 1; 0 where there is none.
-    pub owner: Vec<u32>,
 }
 
 /// A row of a reduced echelon list.

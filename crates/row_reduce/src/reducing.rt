@@ -1,11 +1,12 @@
 ghost use Rattle.std.specs.Prelude.{◌≡◌, ℕ, ◌+◌, ◌*◌, ◌%◌, ◌<◌, ◌≤◌, length, slice_index, IfOk, IsTrue};
 ghost use Rattle.linear_law.specs.Congruence.{Congruent};
 ghost use Rattle.linear_law.specs.Lists.{Each};
+ghost use Rattle.linear_law.specs.Triangular.{StartsAt};
 ghost use Rattle.fp_field.specs.Served.{served};
-ghost use Rattle.sparse_rows.specs.Rows.{value_in};
-ghost use Rattle.row_reduce.specs.Stored.{EntryFits, IsDense, IsReducedTo, Owns, StoredFits};
+ghost use Rattle.sparse_rows.specs.Rows.{IsBelow, value_in};
+ghost use Rattle.row_reduce.specs.Stored.{IsReducedTo, Owns, StoredFits};
 
-use crate::Stored;
+use crate::{Pivots, Stored};
 use fp_field::Fp;
 use std::alloc::{AllocError, Global};
 
@@ -20,10 +21,8 @@ pub(crate) fn plus_product<const P: u32>(sum: Fp<P>, by: Fp<P>, value: Fp<P>) ->
 /// Adds `by` times a row to the sum.
 pub fn add_row<const P: u32>(sum: &mut [Fp<P>], row: &[(u32, Fp<P>)], by: Fp<P>)
     requires prime { IsTrue (served P) }
-    requires dense { IsDense P sum.old }
-    requires fits { Each (EntryFits P (length sum.old)) row.now }
-    ensures dense { IsDense P sum.new }
-    ensures sum { (k : ℕ) → Congruent P (slice_index sum.new k) (slice_index sum.old k + by.entry * value_in row.now k) }
+    requires fits { IsBelow (length sum.old) row.now }
+    ensures { (k : ℕ) → Congruent P (slice_index sum.new k) (slice_index sum.old k + by.entry * value_in row.now k) }
 {
     for entry in row {
         let at = entry.0 as usize;
@@ -32,18 +31,15 @@ pub fn add_row<const P: u32>(sum: &mut [Fp<P>], row: &[(u32, Fp<P>)], by: Fp<P>)
 }
 
 /// Cancels the value at the lead of a row, and says by which factor.
-fn cancel<const P: u32>(sum: &mut [Fp<P>], image: &Stored<P>) -> Fp<P>
+fn cancel<const P: u32>(sum: &mut [Fp<P>], stored: &Stored<P>) -> Fp<P>
     requires prime { IsTrue (served P) }
-    requires dense { IsDense P sum.old }
-    requires fits { StoredFits P (length sum.old) image.now }
-    requires before { (y : ℕ) → y < image.now.place → slice_index sum.old y ≡ 0 }
-    ensures small { result < P }
-    ensures dense { IsDense P sum.new }
-    ensures before { (y : ℕ) → y < image.now.place + 1 → slice_index sum.new y ≡ 0 }
-    ensures sum { (y : ℕ) → Congruent P (slice_index sum.new y) (slice_index sum.old y + result * value_in image.now.row y) }
+    requires fits { StoredFits P (length sum.old) stored.now }
+    requires before { StartsAt P stored.now.place (slice_index sum.old) }
+    ensures before { StartsAt P (stored.now.place + 1) (slice_index sum.new) }
+    ensures sum { (y : ℕ) → Congruent P (slice_index sum.new y) (slice_index sum.old y + result * value_in stored.now.row y) }
 {
-    let by = sum[image.place as usize].mul(image.factor);
-    image.row.add_to(sum, by);
+    let by = sum[stored.place as usize].mul(stored.factor);
+    stored.row.add_to(sum, by);
     by
 }
 
@@ -53,27 +49,24 @@ pub fn reduce<const P: u32>(
     alloc: Global,
     sum: &mut [Fp<P>],
     start: usize,
-    images: &[Stored<P>],
-    owner: &[u32],
+    stored: &[Stored<P>],
+    pivots: &Pivots,
 ) -> Result<(usize, Vec<(u32, Fp<P>)>), AllocError>
     requires prime { IsTrue (served P) }
-    requires dense { IsDense P sum.old }
-    requires fits { Each (StoredFits P (length sum.old)) images.now }
-    requires owns { Owns (length sum.old) images.now owner.now }
+    requires fits { Each (StoredFits P (length sum.old)) stored.now }
+    requires owns { Owns (length sum.old) stored.now pivots.now }
     requires start { start ≤ length sum.old }
-    requires before { (y : ℕ) → y < start → slice_index sum.old y ≡ 0 }
-    ensures { IfOk result (λ r. IsReducedTo P (length sum.old) images.now owner.now sum.old sum.new r.0 r.1.items) }
+    requires before { StartsAt P start (slice_index sum.old) }
+    ensures { IfOk result (λ r. IsReducedTo P (length sum.old) stored.now pivots.now sum.old sum.new r.0 r.1.items) }
 {
     let mut history = Vec::new(alloc);
     for at in start..sum.len() {
-        let value = sum[at].value();
-        if value != 0 {
-            let owned = owner[at];
-            if owned == 0 {
+        if !sum[at].is_zero() {
+            let Some(row) = pivots.row_of(at) else {
                 return Ok((at, history));
-            }
-            let by = cancel(sum, &images[owned as usize - 1]);
-            history.push((owned - 1, by))?;
+            };
+            let by = cancel(sum, &stored[row as usize]);
+            history.push((row, by))?;
         }
     }
     Ok((sum.len(), history))

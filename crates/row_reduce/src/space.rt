@@ -2,11 +2,11 @@ ghost use Rattle.std.specs.Prelude.{◌≡◌, ℕ, ◌+◌, ◌^◌, ◌<◌, l
 ghost use Rattle.fp_field.specs.Served.{served};
 ghost use Rattle.sparse_rows.specs.Rows.{IsFirst};
 ghost use Rattle.row_reduce.specs.declared.EchelonRow as declared;
-ghost use Rattle.row_reduce.specs.Space.{AreOwnRows, IsEchelonOf, IsKernelOf, IsOwnRow, IsRemainder, Spanned};
+ghost use Rattle.row_reduce.specs.Space.{AreOwnFrom, IsEchelonOf, IsKernelOf, IsOwnRow, IsRemainder, Spanned};
 
 use crate::EchelonRow;
-use crate::echelon::{clear, echelon_of, multiple};
-use crate::ranking::{placed_rows, walk_ranked};
+use crate::echelon::{clear, multiple};
+use crate::eliminating::Eliminated;
 use fp_field::Fp;
 use sparse_rows::Row;
 use std::alloc::{AllocError, Global};
@@ -50,7 +50,7 @@ impl<const P: u32> Space<P> {
         let mut given = Vec::new(alloc);
         copy_onto(&mut given, self.given.as_slice())?;
         copy_onto(&mut given, rows)?;
-        let echelon = reduced(alloc, given.as_slice())?;
+        let echelon = Eliminated::of(alloc, given.as_slice())?.echelon;
         self.given = given;
         self.echelon = echelon;
         Ok(())
@@ -112,18 +112,6 @@ fn copy_onto<const P: u32>(list: &mut Vec<Row<P>>, rows: &[Row<P>]) -> Result<()
     Ok(())
 }
 
-/// The reduced echelon list of what the rows span.
-fn reduced<const P: u32>(alloc: Global, rows: &[Row<P>]) -> Result<Vec<EchelonRow<P>>, AllocError>
-    requires prime { IsTrue (served P) }
-    requires few { length rows.now < 2 ^ 32 }
-    ensures { IfOk result (λ v. IsEchelonOf P rows.now v.items) }
-{
-    let walked = walk_ranked(alloc, rows)?;
-    let echelon = echelon_of(alloc, walked.stored.as_slice(), walked.owner.as_slice())?;
-    let placed = placed_rows(alloc, walked.positions.as_slice(), echelon.as_slice())?;
-    Ok(placed)
-}
-
 /// The least position of a row; 0 where it is empty.
 fn lead_of<const P: u32>(row: &Row<P>) -> u32
     ensures { (k : ℕ) → IsFirst row.now k → result ≡ k }
@@ -152,7 +140,7 @@ fn own_row<const P: u32>(alloc: Global, row: &Row<P>, at: u32) -> Result<Echelon
 fn own_rows<const P: u32>(alloc: Global, given: &[Row<P>]) -> Result<Vec<EchelonRow<P>>, AllocError>
     requires prime { IsTrue (served P) }
     requires few { length given.now < 2 ^ 32 }
-    ensures { IfOk result (λ v. AreOwnRows P given.now v.items) }
+    ensures { IfOk result (λ v. AreOwnFrom P 0 given.now v.items) }
 {
     let mut echelon = Vec::new(alloc);
     for row in given {
@@ -169,12 +157,10 @@ pub fn kernel<const P: u32>(alloc: Global, rows: &[Row<P>]) -> Result<Space<P>, 
     requires few { length rows.now < 2 ^ 32 }
     ensures { IfOk result (λ s. IsKernelOf P rows.now s.given s.echelon) }
 {
-    let walked = walk_ranked(alloc, rows)?;
-    let echelon = own_rows(alloc, walked.kernel.as_slice())?;
-    Ok(Space {
-        given: walked.kernel,
-        echelon,
-    })
+    let mut given = Eliminated::of(alloc, rows)?.relations;
+    given.reverse();
+    let echelon = own_rows(alloc, given.as_slice())?;
+    Ok(Space { given, echelon })
 }
 
 #[cfg(test)]

@@ -1,16 +1,31 @@
-ghost use Rattle.std.specs.Prelude.{◌≡◌, ℕ, ◌+◌, ◌^◌, ◌<◌, ◌≤◌, length, slice_index, List, [], ◌∷◌, ◌++◌, OnOk, IfOk, IsTrue};
+ghost use Rattle.std.specs.Prelude.{◌≡◌, ℕ, ◌+◌, ◌^◌, ◌<◌, ◌≤◌, ◌≢◌, ◌%◌, length, slice_index, slice_index_or, List, [], ◌∷◌, ◌++◌, None, Some, OnOk, IfOk, IsTrue};
 ghost use Rattle.linear_law.specs.Congruence.{Congruent};
 ghost use Rattle.linear_law.specs.Lists.{Each};
+ghost use Rattle.linear_law.specs.Triangular.{StartsAt};
 ghost use Rattle.fp_field.specs.Served.{served};
 ghost use Rattle.sparse_rows.specs.Rows.{IsBelow, value_in};
-ghost use Rattle.row_reduce.specs.Stored.{EntryFits, IsClear, IsDense, IsLoaded, IsRest, IsStoredFrom, Owns};
-ghost use Rattle.row_reduce.specs.Walk.{Reached, SkipsFit, owned_in};
+ghost use Rattle.row_reduce.specs.Pivots.{IsMarkedIn};
+ghost use Rattle.row_reduce.specs.Stored.{IsClear, IsLoaded, IsRest, IsStoredFrom, Owns};
+ghost use Rattle.row_reduce.specs.Walk.{AreRows, IsReached, Reached, SkipsFit};
 
 use crate::reducing::{add_row, reduce};
-use crate::{Class, Entries, Stored, Walk};
+use crate::{Class, Entries, Pivots, Stored};
 use fp_field::Fp;
 use sparse_rows::Row;
 use std::alloc::{AllocError, Global};
+
+/// A walk over rows, from the last to the first.
+#[derive(Drop)]
+pub(crate) struct Walk<const P: u32> {
+    /// Which rows are left out.
+    pub(crate) skip: Vec<bool>,
+    /// The rows that went to zero, from the last to the first.
+    pub(crate) classes: Vec<Class<P>>,
+    /// What is left of the others, each with a lead of its own.
+    pub(crate) stored: Vec<Stored<P>>,
+    /// Which of these has its lead at a place.
+    pub(crate) pivots: Pivots,
+}
 
 /// A place before which the row has nothing.
 fn first_place<const P: u32>(row: &[(u32, Fp<P>)], width: usize) -> usize
@@ -29,8 +44,8 @@ fn first_place<const P: u32>(row: &[(u32, Fp<P>)], width: usize) -> usize
 /// Puts a row into an empty sum, and says where it starts.
 fn load<const P: u32>(sum: &mut [Fp<P>], row: &[(u32, Fp<P>)]) -> usize
     requires prime { IsTrue (served P) }
-    requires clear { IsClear sum.old }
-    requires fits { Each (EntryFits P (length sum.old)) row.now }
+    requires clear { IsClear P sum.old }
+    requires fits { IsBelow (length sum.old) row.now }
     ensures { IsLoaded P row.now sum.new result }
 {
     add_row(sum, row, Fp::new(1));
@@ -45,8 +60,7 @@ fn take_pairs<const P: u32>(
 ) -> Result<Vec<(u32, Fp<P>)>, AllocError>
     requires prime { IsTrue (served P) }
     requires narrow { length sum.old ≤ 2 ^ 32 }
-    requires dense { IsDense P sum.old }
-    requires before { (y : ℕ) → y < start → slice_index sum.old y ≡ 0 }
+    requires before { StartsAt P start (slice_index sum.old) }
     ensures { IfOk result (λ r. IsRest P sum.old sum.new r.items) }
 {
     let mut rest = Vec::new(alloc);
@@ -61,10 +75,11 @@ fn take_pairs<const P: u32>(
 }
 
 /// Clears the sum, which has nothing before `start`.
+#[tactic(auto, using(crate::proofs::StoredLemmas::all_clear, crate::proofs::EntryLemmas::clear_more))]
 fn clear_from<const P: u32>(sum: &mut [Fp<P>], start: usize)
     requires prime { IsTrue (served P) }
-    requires before { (y : ℕ) → y < start → slice_index sum.old y ≡ 0 }
-    ensures { IsClear sum.new }
+    requires before { StartsAt P start (slice_index sum.old) }
+    ensures { IsClear P sum.new }
 {
     for at in start..sum.len() {
         sum[at] = Fp::new(0);
@@ -79,9 +94,8 @@ fn take_run<const P: u32>(
 ) -> Result<Entries<P>, AllocError>
     requires prime { IsTrue (served P) }
     requires narrow { length sum.old ≤ 2 ^ 32 }
-    requires dense { IsDense P sum.old }
     requires inside { start < length sum.old }
-    requires before { (y : ℕ) → y < start → slice_index sum.old y ≡ 0 }
+    requires before { StartsAt P start (slice_index sum.old) }
     ensures { IfOk result (λ r. IsRest P sum.old sum.new r) }
 {
     let rest = Entries::of_run(alloc, start as u32, &sum[start..])?;
@@ -97,9 +111,8 @@ fn take_rest<const P: u32>(
 ) -> Result<Entries<P>, AllocError>
     requires prime { IsTrue (served P) }
     requires narrow { length sum.old ≤ 2 ^ 32 }
-    requires dense { IsDense P sum.old }
     requires inside { start < length sum.old }
-    requires before { (y : ℕ) → y < start → slice_index sum.old y ≡ 0 }
+    requires before { StartsAt P start (slice_index sum.old) }
     ensures { IfOk result (λ r. IsRest P sum.old sum.new r) }
 {
     let left = &sum[start..];
@@ -119,8 +132,7 @@ fn take_given<const P: u32>(
     row: &[(u32, Fp<P>)],
 ) -> Result<Entries<P>, AllocError>
     requires prime { IsTrue (served P) }
-    requires dense { IsDense P sum.old }
-    requires fits { Each (EntryFits P (length sum.old)) row.now }
+    requires fits { IsBelow (length sum.old) row.now }
     requires same { (y : ℕ) → Congruent P (slice_index sum.old y) (value_in row.now y) }
     ensures { IfOk result (λ r. IsRest P sum.old sum.new r) }
 {
@@ -139,10 +151,9 @@ fn take_left<const P: u32>(
 ) -> Result<Entries<P>, AllocError>
     requires prime { IsTrue (served P) }
     requires narrow { length sum.old ≤ 2 ^ 32 }
-    requires dense { IsDense P sum.old }
     requires inside { start < length sum.old }
-    requires before { (y : ℕ) → y < start → slice_index sum.old y ≡ 0 }
-    requires fits { Each (EntryFits P (length sum.old)) row.now }
+    requires before { StartsAt P start (slice_index sum.old) }
+    requires fits { IsBelow (length sum.old) row.now }
     requires same { history.now ≡ [] → (y : ℕ) → Congruent P (slice_index sum.old y) (value_in row.now y) }
     ensures { IfOk result (λ r. IsRest P sum.old sum.new r) }
 {
@@ -153,30 +164,29 @@ fn take_left<const P: u32>(
     }
 }
 
-/// Makes the row that is left in the sum, with its lead at t, one to store.
+/// Makes the row that is left in the sum one to store, where `left` is its lead and its history.
 fn store<const P: u32>(
     alloc: Global,
     sum: &mut [Fp<P>],
     given: &[(u32, Fp<P>)],
-    t: usize,
     source: u32,
-    history: Vec<(u32, Fp<P>)>,
+    left: (usize, Vec<(u32, Fp<P>)>),
 ) -> Result<Stored<P>, AllocError>
     requires prime { IsTrue (served P) }
     requires narrow { length sum.old ≤ 2 ^ 32 }
-    requires dense { IsDense P sum.old }
-    requires before { (y : ℕ) → y < t → slice_index sum.old y ≡ 0 }
-    requires inside { t < length sum.old }
-    requires nonzero { 0 < slice_index sum.old t }
-    requires fits { Each (EntryFits P (length sum.old)) given.now }
-    requires same { history.items ≡ [] → (y : ℕ) → Congruent P (slice_index sum.old y) (value_in given.now y) }
-    ensures { IfOk result (λ i. IsStoredFrom P sum.old sum.new t source history.entry.items i) }
+    requires before { StartsAt P left.0 (slice_index sum.old) }
+    requires inside { left.0 < length sum.old }
+    requires nonzero { slice_index sum.old left.0 % P ≢ 0 }
+    requires fits { IsBelow (length sum.old) given.now }
+    requires same { left.1.items ≡ [] → (y : ℕ) → Congruent P (slice_index sum.old y) (value_in given.now y) }
+    ensures { IfOk result (λ i. IsStoredFrom P sum.old sum.new left.entry.0 source left.entry.1.items i) }
 {
-    let factor = sum[t].inv().neg();
-    let row = take_left(alloc, sum, given, history.as_slice(), t)?;
+    let (lead, history) = left;
+    let factor = sum[lead].inv().neg();
+    let row = take_left(alloc, sum, given, history.as_slice(), lead)?;
     let history = Entries::of_pairs(alloc, history.as_slice())?;
     Ok(Stored {
-        place: t as u32,
+        place: lead as u32,
         factor,
         row,
         source,
@@ -196,135 +206,112 @@ fn class_of<const P: u32>(
     Ok(Class { place, history })
 }
 
-/// Appends a row, which then owns its lead.
-fn append<const P: u32>(
-    images: &mut Vec<Stored<P>>,
-    owner: &mut [u32],
-    image: Stored<P>,
-) -> Result<(), AllocError>
-    requires few { length images.old.items + 1 < 2 ^ 32 }
-    requires owns { Owns (length owner.old) images.old.items owner.old }
-    requires inside { image.place < length owner.old }
-    requires fresh { slice_index owner.old image.place ≡ 0 }
-    ensures owns { OnOk result (Owns (length owner.old) images.new.items owner.new) }
-    ensures items { OnOk result (images.new.items ≡ images.old.items ++ (image.entry ∷ [])) }
-{
-    owner[image.place as usize] = images.len() as u32 + 1;
-    images.push(image)?;
-    Ok(())
-}
-
-/// Takes one more row: it goes to zero and is a class, or what is left of it is stored.
-fn step<const P: u32>(
-    alloc: Global,
-    rows: &[Row<P>],
-    skip: &[u32],
-    low: usize,
-    sum: &mut [Fp<P>],
-    kernel: &mut Vec<Class<P>>,
-    images: &mut Vec<Stored<P>>,
-    owner: &mut [u32],
-) -> Result<(), AllocError>
-    requires prime { IsTrue (served P) }
-    requires few { length rows.now < 2 ^ 32 }
-    requires narrow { length sum.old ≤ 2 ^ 32 }
-    requires within { Each (IsBelow (length sum.old)) rows.now }
-    requires inside { low < length rows.now }
-    requires taken { slice_index skip.now low ≡ 0 }
-    requires clear { IsClear sum.old }
-    requires reached { Reached P (length sum.old) rows.now (owned_in skip.now) (low + 1) kernel.old.items images.old.items owner.old }
-    ensures clear { OnOk result (IsClear sum.new) }
-    ensures reached { OnOk result (Reached P (length sum.old) rows.now (owned_in skip.now) low kernel.new.items images.new.items owner.new) }
-{
-    let row = rows[low].as_slice();
-    let start = load(sum, row);
-    let (t, history) = reduce(alloc, sum, start, images.as_slice(), owner)?;
-    if t == sum.len() {
-        let class = class_of(alloc, low as u32, history)?;
-        kernel.push(class)?;
-    } else {
-        let stored = store(alloc, sum, row, t, low as u32, history)?;
-        append(images, owner, stored)?;
-    }
-    Ok(())
-}
-
-/// Walks the rows from the last to the first, but for the skipped ones.
-fn walk_down<const P: u32>(
-    alloc: Global,
-    rows: &[Row<P>],
-    skip: &[u32],
-    sum: &mut [Fp<P>],
-    kernel: &mut Vec<Class<P>>,
-    images: &mut Vec<Stored<P>>,
-    owner: &mut [u32],
-) -> Result<(), AllocError>
-    requires prime { IsTrue (served P) }
-    requires few { length rows.now < 2 ^ 32 }
-    requires narrow { length sum.old ≤ 2 ^ 32 }
-    requires within { Each (IsBelow (length sum.old)) rows.now }
-    requires skips { SkipsFit P (length sum.old) rows.now skip.now }
-    requires clear { IsClear sum.old }
-    requires reached { Reached P (length sum.old) rows.now (owned_in skip.now) (length rows.now) kernel.old.items images.old.items owner.old }
-    ensures { OnOk result (Reached P (length sum.old) rows.now (owned_in skip.now) 0 kernel.new.items images.new.items owner.new) }
-{
-    for done in 0..rows.len() {
-        let low = rows.len() - 1 - done;
-        if skip[low] == 0 {
-            step(alloc, rows, skip, low, sum, kernel, images, owner)?;
-        }
-    }
-    Ok(())
-}
-
 /// Values that are all zero.
 pub fn zero_values<const P: u32>(alloc: Global, count: usize) -> Result<Vec<Fp<P>>, AllocError>
     requires { IsTrue (served P) }
     ensures len { IfOk result (λ v. length v.items ≡ count) }
-    ensures clear { IfOk result (λ v. IsClear v.items) }
+    ensures clear { IfOk result (λ v. IsClear P v.items) }
 {
     vec![in alloc; Fp::new(0); count]
 }
 
-/// Numbers that are all zero.
-pub fn zeros(alloc: Global, count: usize) -> Result<Vec<u32>, AllocError>
-    ensures len { IfOk result (λ v. length v.items ≡ count) }
-    ensures clear { IfOk result (λ v. IsClear v.items) }
+/// Appends a row, which then has its lead alone.
+fn append<const P: u32>(
+    stored: &mut Vec<Stored<P>>,
+    pivots: &mut Pivots,
+    row: Stored<P>,
+) -> Result<(), AllocError>
+    requires few { length stored.old.items + 1 < 2 ^ 32 }
+    requires owns { Owns (length pivots.old) stored.old.items pivots.old }
+    requires inside { row.place < length pivots.old }
+    ensures owns { OnOk result (Owns (length pivots.old) stored.new.items pivots.new) }
+    ensures items { OnOk result (stored.new.items ≡ stored.old.items ++ (row.entry ∷ [])) }
 {
-    vec![in alloc; 0; count]
+    pivots.insert(row.place as usize, stored.len() as u32);
+    stored.push(row)?;
+    Ok(())
 }
 
-/// Walks rows of this width from the last to the first, but for those where `skip` is not 0. What is
-/// left of a row after older rows were added is stored with its lead, or it is zero, a class.
-pub fn walk_rows<const P: u32>(
-    alloc: Global,
-    rows: &[Row<P>],
-    width: usize,
-    skip: &[u32],
-) -> Result<Walk<P>, AllocError>
-    requires prime { IsTrue (served P) }
-    requires few { length rows.now < 2 ^ 32 }
-    requires narrow { width ≤ 2 ^ 32 }
-    requires within { Each (IsBelow width) rows.now }
-    requires skips { SkipsFit P width rows.now skip.now }
-    ensures { IfOk result (λ r. Reached P width rows.now (owned_in skip.now) 0 r.classes.items r.stored.items r.owner.items) }
-{
-    let mut sum = zero_values(alloc, width)?;
-    let mut owner = zeros(alloc, width)?;
-    let mut classes = Vec::new(alloc);
-    let mut stored = Vec::new(alloc);
-    walk_down(
-        alloc,
-        rows,
-        skip,
-        sum.as_mut_slice(),
-        &mut classes,
-        &mut stored,
-        owner.as_mut_slice(),
-    )?;
-    Ok(Walk {
-        classes,
-        stored,
-        owner,
-    })
+impl<const P: u32> Walk<P> {
+    /// A walk of rows of this width that has not begun.
+    fn start(alloc: Global, width: usize, skip: Vec<bool>) -> Result<Walk<P>, AllocError>
+        requires { IsTrue (served P) }
+        ensures skip { IfOk result (λ w. w.skip ≡ skip) }
+        ensures reached { IfOk result (λ w. (rows : List (List (ℕ × ℕ))) → SkipsFit P width rows skip.items → IsReached P width rows (length rows) w) }
+    {
+        Ok(Walk {
+            skip,
+            classes: Vec::new(alloc),
+            stored: Vec::new(alloc),
+            pivots: Pivots::none(alloc, width)?,
+        })
+    }
+
+    /// Takes one more row: it is left out, or it goes to zero and is a class, or what is left of it is stored.
+    fn step(
+        &mut self,
+        alloc: Global,
+        rows: &[Row<P>],
+        low: usize,
+        sum: &mut [Fp<P>],
+    ) -> Result<(), AllocError>
+        requires prime { IsTrue (served P) }
+        requires rows { AreRows (length sum.old) rows.now }
+        requires inside { low < length rows.now }
+        requires clear { IsClear P sum.old }
+        requires reached { IsReached P (length sum.old) rows.now (low + 1) self.old }
+        ensures clear { OnOk result (IsClear P sum.new) }
+        ensures skip { OnOk result (self.new.skip ≡ self.old.skip) }
+        ensures reached { OnOk result (IsReached P (length sum.old) rows.now low self.new) }
+    {
+        if self.skip[low] {
+            return Ok(());
+        }
+        let row = rows[low].as_slice();
+        let start = load(sum, row);
+        let left = reduce(alloc, sum, start, self.stored.as_slice(), &self.pivots)?;
+        if left.0 == sum.len() {
+            let class = class_of(alloc, low as u32, left.1)?;
+            self.classes.push(class)?;
+        } else {
+            let stored = store(alloc, sum, row, low as u32, left)?;
+            append(&mut self.stored, &mut self.pivots, stored)?;
+        }
+        Ok(())
+    }
+
+    /// Walks all rows, from the last to the first.
+    fn go(&mut self, alloc: Global, rows: &[Row<P>], sum: &mut [Fp<P>]) -> Result<(), AllocError>
+        requires prime { IsTrue (served P) }
+        requires rows { AreRows (length sum.old) rows.now }
+        requires clear { IsClear P sum.old }
+        requires reached { IsReached P (length sum.old) rows.now (length rows.now) self.old }
+        ensures skip { OnOk result (self.new.skip ≡ self.old.skip) }
+        ensures reached { OnOk result (IsReached P (length sum.old) rows.now 0 self.new) }
+    {
+        for done in 0..rows.len() {
+            self.step(alloc, rows, rows.len() - 1 - done, sum)?;
+        }
+        Ok(())
+    }
+
+    /// Walks rows of this width from the last to the first, but for those that are left out. What is left of
+    /// a row after older rows were added is stored with its lead, or it is zero, a class.
+    pub(crate) fn over(
+        alloc: Global,
+        rows: &[Row<P>],
+        width: usize,
+        skip: Vec<bool>,
+    ) -> Result<Walk<P>, AllocError>
+        requires prime { IsTrue (served P) }
+        requires rows { AreRows width rows.now }
+        requires skips { SkipsFit P width rows.now skip.items }
+        ensures skip { IfOk result (λ w. w.skip ≡ skip) }
+        ensures reached { IfOk result (λ w. IsReached P width rows.now 0 w) }
+    {
+        let mut sum = zero_values(alloc, width)?;
+        let mut walk = Walk::start(alloc, width, skip)?;
+        walk.go(alloc, rows, sum.as_mut_slice())?;
+        Ok(walk)
+    }
 }

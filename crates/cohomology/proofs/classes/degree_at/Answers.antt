@@ -1,4 +1,4 @@
-use Rattle.std.proofs.Common.{◌≡◌, ◌<◌, ◌^◌, List, ℕ, length, lit<, sym, subst}
+use Rattle.std.proofs.Common.{◌<◌, ◌^◌, List, ℕ, length, lit<, sym, subst}
 use Rattle.std.specs.List.{AllZip}
 use Rattle.fp_field.proofs.ServedLemmas.{served_field}
 use Rattle.complex_index.specs.declared.indexed.Cochain.{Cochain}
@@ -15,7 +15,7 @@ cycles-requires g c =
     let field = served_field p c.requires.prime in
     let full = c.args.full.now in
     let sub = c.args.sub.now in
-    let owner = c.args.reached.now.pivots.items in
+    let owner = c.args.reached.now.pivots in
     let stored = c.args.reached.now.stored.items in
     let classes = c.in_ok-classes.classes.items in
     let places = c.in_ok-places.places.items in
@@ -23,19 +23,17 @@ cycles-requires g c =
     let leads : AllZip (λ (d : Cochain p) s. IsLeadOf d.row s) classes places = subst (λ (cs : List (Cochain p)). AllZip (λ (d : Cochain p) s. IsLeadOf d.row s) cs places) c.as_slice.ensures.value c.in_ok-places.ensures in
     let free = places_free p field full sub c.requires.pair c.args.degree owner stored c.requires.reached classes are places leads in
     let few = few_leads p field full sub c.requires.pair c.args.degree owner stored c.requires.reached classes are places leads in
-    let triangular = triangular_here p field full sub c.requires.pair c.args.degree owner stored c.requires.reached classes are places leads in
-    let os = c.as_slice-3.result.now in
-    let e : os ≡ owner = c.as_slice-3.ensures.value in (
+    let triangular = triangular_here p field full sub c.requires.pair c.args.degree owner stored c.requires.reached classes are places leads in (
       lit< tt,
       (
         lit< tt,
         (
           c.requires.prime,
           (
-            subst (λ (ps : List ℕ). length ps < 2 ^ 32) (sym c.as_slice-4.ensures.value) few,
+            subst (λ (ps : List ℕ). length ps < 2 ^ 32) (sym c.as_slice-3.ensures.value) few,
             (
-              subst (λ (ss : List (Stored p)). AreTriangular p (length os) ss os) (sym c.as_slice-2.ensures.value) (subst (λ (qs : List ℕ). AreTriangular p (length qs) stored qs) (sym e) triangular),
-              subst (λ (ps : List ℕ). AreFree (length os) os ps) (sym c.as_slice-4.ensures.value) (subst (λ (qs : List ℕ). AreFree (length qs) qs places) (sym e) free),
+              subst (λ (ss : List (Stored p)). AreTriangular p (length owner) ss owner) (sym c.as_slice-2.ensures.value) triangular,
+              subst (λ (ps : List ℕ). AreFree (length owner) owner ps) (sym c.as_slice-3.ensures.value) free,
             ),
           ),
         ),
@@ -45,13 +43,12 @@ cycles-requires g c =
 pub returns-clause-classes : goal.returns-clause-classes
 returns-clause-classes g c =
     let p = g.row.P in
-    let owner = c.args.reached.now.pivots.items in
+    let owner = c.args.reached.now.pivots in
     let stored = c.args.reached.now.stored.items in
     let classes = c.in_ok-classes.classes.items in
     let places = c.in_ok-places.places.items in
     let table = c.in_ok-table.table.items in
     let leads : AllZip (λ (d : Cochain p) s. IsLeadOf d.row s) classes places = subst (λ (cs : List (Cochain p)). AllZip (λ (d : Cochain p) s. IsLeadOf d.row s) cs places) c.as_slice.ensures.value c.in_ok-places.ensures in
     duals_made p (served_field p c.requires.prime) c.args.full.now c.args.sub.now c.requires.pair c.args.degree owner stored c.requires.reached classes c.in_ok-classes.ensures.classes places leads table
-    (subst (λ (qs : List ℕ). AreCycles p (length qs) stored places table) c.as_slice-3.ensures.value
-    (subst (λ (ss : List (Stored p)). AreCycles p (length c.as_slice-3.result.now) ss places table) c.as_slice-2.ensures.value
-    (subst (λ (ps : List ℕ). AreCycles p (length c.as_slice-3.result.now) c.as_slice-2.result.now ps table) c.as_slice-4.ensures.value c.in_ok-table.ensures)))
+    (subst (λ (ss : List (Stored p)). AreCycles p (length owner) ss places table) c.as_slice-2.ensures.value
+    (subst (λ (ps : List ℕ). AreCycles p (length owner) c.as_slice-2.result.now ps table) c.as_slice-3.ensures.value c.in_ok-table.ensures))

@@ -1,5 +1,4 @@
-use Rattle.std.proofs.Common.{List, ℕ, ◌∙◌, length, lit<, sym, subst}
-use Rattle.std.specs.Result.{IfOk}
+use Rattle.std.proofs.Common.{List, ℕ, lit<, sym, subst}
 use Rattle.std.proofs.lemmas.Result.{IfOk-weaker}
 use Rattle.cohomology.specs.Pairs.{IsSubIndex}
 use Rattle.cohomology.proofs.LoopLemmas.{bases_all, placed_from}

@@ -1,4 +1,4 @@
-use Rattle.std.proofs.Common.{◌≡◌, ◌∙◌, ◌<◌, ◌≤◌, ◌^◌, List, ℕ, [], length, lit<, sym, subst}
+use Rattle.std.proofs.Common.{◌∙◌, ◌<◌, ◌≤◌, ◌^◌, List, ℕ, [], length, lit<, sym, subst}
 use Rattle.std.proofs.lemmas.Result.{IfOk-weaker}
 use Rattle.linear_law.specs.Lists.{Each, IsAscending}
 use Rattle.simplicial_law.specs.ListedSimplices.{simplices, with_facet}

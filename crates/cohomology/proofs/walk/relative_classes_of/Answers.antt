@@ -1,4 +1,4 @@
-use Rattle.std.proofs.Common.{arith, rules, ◌≡◌, ◌∙◌, length, lit<}
+use Rattle.std.proofs.Common.{rules, ◌≡◌, ◌∙◌, length, lit<}
 use Rattle.cohomology.proofs.LoopLemmas.{IsFoundAlone, made_more, made_start}
 use Rattle.cohomology.proofs.walk.relative_classes_of.Goals as goal
 

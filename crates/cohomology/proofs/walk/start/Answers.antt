@@ -1,6 +1,8 @@
-use Rattle.std.proofs.Common.{rules}
+use Rattle.std.proofs.Common.{rules, ap, ◌∙◌}
+use Rattle.std.specs.Prelude.{Option, None, ℕ}
+use Rattle.linear_law.specs.Lists.{copies}
 use Rattle.cohomology.proofs.WalkLemmas.{nothing_reached}
 use Rattle.cohomology.proofs.walk.start.Goals as goal
 
 pub returns : goal.returns
-returns g c = λ sub. nothing_reached g.row.P c.args.full.now sub _ _ (search rules) (search rules) c.in_ok-no_pivots.ensures.clear (search rules)
+returns g c = λ sub. nothing_reached g.row.P c.args.full.now sub _ _ (search rules) (c.in_ok-none.ensures ∙ ap (λ n. copies {X = Option ℕ} n None) c.count.ensures) (search rules)

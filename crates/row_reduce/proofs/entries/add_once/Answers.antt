@@ -1,9 +1,8 @@
-use Rattle.std.proofs.Common.{◌≡◌, ℕ, ◌+◌, ◌*◌, ◌%◌, ◌<◌, length, get_or, arith, mod-lt, subst, sym, ap, ◌∙◌}
+use Rattle.std.proofs.Common.{◌≡◌, ℕ, ◌+◌, ◌*◌, ◌%◌, ◌<◌, length, get_or, arith, ap, ◌∙◌}
 use Rattle.std.proofs.lemmas.List.{take_all}
 use Rattle.linear_law.proofs.CongruenceLemmas.{Congruent_from}
-use Rattle.fp_field.proofs.ServedLemmas.{served_large}
 use Rattle.row_reduce.specs.Entries.{run_from}
-use Rattle.row_reduce.proofs.SumLemmas.{add_entry, dense_set, read_at}
+use Rattle.row_reduce.proofs.SumLemmas.{add_entry, read_at}
 use Rattle.row_reduce.proofs.EntryLemmas.{run_length, run_read}
 use Rattle.row_reduce.proofs.entries.add_once.Goals as goal
 
@@ -19,15 +18,11 @@ loop-i-preserved g c =
     let inside : at < length c.loop-i.sum = let b = c.requires.inside i in_run in omega (arith, b, c.loop-i.auto.sum) in
     let v_is : c.add.result ≡ (get_or c.loop-i.sum at 0 + 1 * v) % p =
     c.add.ensures ∙ ap (λ n. n % p) (let r = read_at c.loop-i.sum at c.index-sum-at.result c.index-sum-at.is inside in let s : c.index-sum-at.result + v ≡ get_or c.loop-i.sum at 0 + 1 * v = omega (arith, r) in s) in
-    let small : (get_or c.loop-i.sum at 0 + 1 * v) % p < p = mod-lt (get_or c.loop-i.sum at 0 + 1 * v) (let q = served_large p c.requires.prime in omega arith) in
-    record {
-      dense = dense_set p c.loop-i.sum at c.add.result inside (subst (λ n. n < p) (sym v_is) small) c.loop-i.invariant.dense;
-      done = add_entry p 1 c.args.sum.now c.loop-i.sum (run_from c.args.first run) i c.add.result e
-          (run_read c.args.first run i v c.index-run-i.is in_run) (let l = run_length c.args.first run in omega arith) inside v_is c.loop-i.invariant.done;
-    }
+    add_entry p 1 c.args.sum.now c.loop-i.sum (run_from c.args.first run) i c.add.result e
+    (run_read c.args.first run i v c.index-run-i.is in_run) (let l = run_length c.args.first run in omega arith) inside v_is c.loop-i.invariant
 
-pub returns-clause-sum : goal.returns-clause-sum
-returns-clause-sum g c = λ k.
+pub returns : goal.returns
+returns g c = λ k.
     let l = run_length c.args.first c.args.run.now in
     let all = take_all c.loop-i.i (run_from c.args.first c.args.run.now) (omega (arith, l)) in
-    Congruent_from (c.loop-i.invariant.done k) (rw all (omega arith))
+    Congruent_from (c.loop-i.invariant k) (rw all (omega arith))

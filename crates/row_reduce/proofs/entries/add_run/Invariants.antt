@@ -2,11 +2,8 @@ use Rattle.std.proofs.Common.{ℕ, ◌+◌, ◌*◌, get_or}
 use Rattle.linear_law.specs.Congruence.{Congruent}
 use Rattle.sparse_rows.specs.Rows.{value_in}
 use Rattle.row_reduce.specs.Entries.{run_from}
-use Rattle.row_reduce.specs.Stored.{IsDense}
 use Rattle.row_reduce.proofs.entries.add_run.Given as goal
 
 abbrev pub invariant-loop : goal.invariant-loop
-invariant-loop g l = record {
-  dense : IsDense g.row.P l.sum;
-  done : (k : ℕ) → Congruent g.row.P (get_or l.sum k 0) (get_or l.initial.sum k 0 + l.counter * value_in (run_from l.first l.run) k);
-}
+invariant-loop g l =
+    (k : ℕ) → Congruent g.row.P (get_or l.sum k 0) (get_or l.initial.sum k 0 + l.counter * value_in (run_from l.first l.run) k)

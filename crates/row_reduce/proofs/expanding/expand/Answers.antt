@@ -2,7 +2,6 @@ use Rattle.std.proofs.Common.{◌≡◌, ◌%◌, ℕ, List, ◌∷◌, [], ◌+
 use Rattle.fp_field.proofs.ServedLemmas.{served_large}
 use Rattle.linear_law.proofs.CongruenceLemmas.{Congruent_mod, Congruent_of, Congruent_sym, Congruent_trans}
 use Rattle.sparse_rows.specs.Rows.{IsBelow, value_in}
-use Rattle.row_reduce.proofs.SumLemmas.{below_of_sum}
 use Rattle.row_reduce.proofs.expanding.expand.Goals as goal
 
 pub returns : goal.returns
@@ -22,6 +21,6 @@ returns g c =
       };
       is_row = c.in_ok-row.ensures.row;
       below = λ count numbered inside.
-          below_of_sum p count c.as_slice.result.now row c.in_ok-row.ensures.row c.in_ok-row.ensures.sum
+          c.in_ok-row.ensures.below count
           (subst (IsBelow count) (sym c.as_slice.ensures.value) (c.in_ok-expand_into.ensures.below count numbered (subst (IsBelow count) (sym start) (inside, tt))));
     }

@@ -13,5 +13,5 @@ returns-clause-expanded g c = λ place start.
     let one : Congruent p c.new.result 1 = Congruent_trans (Congruent_of c.new.ensures) (Congruent_mod p 1) in
     c.in_ok-move_all.ensures.expanded place history
     (subst (λ (o : List (ℕ × ℕ)). Expanding p c.args.images.now place history c.add_to.new.sum o (length c.args.images.now)) (sym start)
-    (expand_start p c.args.images.now place history c.args.weights.now c.add_to.new.sum c.requires.clear c.add_to.ensures.dense c.requires.fits
-    (λ j. Congruent_trans (c.add_to.ensures.sum j) (Congruent_add (Congruent_refl (get_or c.args.weights.now j 0)) (Congruent_mul one (Congruent_refl (value_in history j)))))))
+    (expand_start p c.args.images.now place history c.args.weights.now c.add_to.new.sum c.requires.clear c.requires.fits
+    (λ j. Congruent_trans (c.add_to.ensures j) (Congruent_add (Congruent_refl (get_or c.args.weights.now j 0)) (Congruent_mul one (Congruent_refl (value_in history j)))))))

@@ -8,7 +8,6 @@ loop-done-preserved g c =
     let n = length c.args.images.now in
     let d = c.loop-done.done in
     record {
-      dense = c.in_ok-move_weight.ensures.dense;
       below = λ count numbered h. c.in_ok-move_weight.ensures.below count numbered (c.loop-done.invariant.below count numbered h);
       expanding = λ place history h.
           let a : n - d ≡ n - 1 - d + 1 = omega arith in

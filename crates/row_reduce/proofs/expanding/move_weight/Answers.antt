@@ -28,8 +28,8 @@ returns-in_ok-push-clause-moved g c =
     let w_is : w ≡ get_or weights k 0 = read_at weights k w c.index-weights-k.is (subst (λ n. k < n) (sym c.requires.full) c.requires.inside) in
     let hist : (get_or images k c.index-images-k-then-value-ne0.result).history ≡ i.history = ap (λ (s : Stored p). s.history) (sym (is c.index-images-k-then-value-ne0.result)) in
     let added : (j : ℕ) → Congruent p (get_or c.add_to.new.sum j 0) (get_or weights j 0 + w * value_in i.history j) = λ j.
-    subst (λ (r : List (ℕ × ℕ)). Congruent p (get_or c.add_to.new.sum j 0) (get_or weights j 0 + w * value_in r j)) hist (c.add_to.ensures.sum j) in
-    let s = expand_step p images place history weights c.add_to.new.sum c.args.out.now.items k w i c.requires.inside w_is is c.add_to.ensures.dense added h in
+    subst (λ (r : List (ℕ × ℕ)). Congruent p (get_or c.add_to.new.sum j 0) (get_or weights j 0 + w * value_in r j)) hist (c.add_to.ensures j) in
+    let s = expand_step p images place history weights c.add_to.new.sum c.args.out.now.items k w i c.requires.inside w_is is added h in
     subst (λ (o : List (ℕ × ℕ)). Expanding p images place history c.add_to.new.sum o k) (sym c.in_ok-push.ensures.items) s
 
 pub returns-else-value-ne0-clause-moved : goal.returns-else-value-ne0-clause-moved

@@ -1,5 +1,6 @@
-use Rattle.std.proofs.Common.{◌≡◌, ℕ, ◌<◌, get_or}
+use Rattle.std.proofs.Common.{get_or}
+use Rattle.linear_law.specs.Triangular.{StartsAt}
 use Rattle.row_reduce.proofs.walking.clear_from.Given as goal
 
 abbrev pub invariant-loop-at : goal.invariant-loop-at
-invariant-loop-at g l = (y : ℕ) → y < l.at → get_or l.sum y 0 ≡ 0
+invariant-loop-at g l = StartsAt g.row.P l.at (λ y. get_or l.sum y 0)

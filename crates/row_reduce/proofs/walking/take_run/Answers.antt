@@ -9,4 +9,4 @@ returns g c =
     let old = c.args.sum.now in
     let start = c.args.start in
     subst (IsRest g.row.P old c.clear_from.new.sum) (sym (c.in_ok-rest.ensures ∙ ap (run_from start) (slice_end start old)))
-    (run_rest g.row.P start old c.clear_from.new.sum c.requires.dense c.clear_from.ensures c.requires.inside c.requires.before)
+    (run_rest g.row.P start old c.clear_from.new.sum c.clear_from.ensures c.requires.inside c.requires.before)

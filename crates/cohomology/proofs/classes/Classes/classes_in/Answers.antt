@@ -1,4 +1,4 @@
-use Rattle.std.proofs.Common.{List, ℕ, length, ◌<◌, ◌^◌, subst, sym, ◌∙◌}
+use Rattle.std.proofs.Common.{List, length, ◌<◌, ◌^◌, subst, sym, ◌∙◌}
 use Rattle.complex_index.specs.declared.indexed.Cochain.{Cochain}
 use Rattle.cohomology.specs.declared.classes.DegreeClasses.{DegreeClasses}
 use Rattle.cohomology.specs.Cycles.{classes_in}

@@ -1,4 +1,4 @@
-use Rattle.std.proofs.Common.{arith, rules, ◌≡◌, length, lit<}
+use Rattle.std.proofs.Common.{rules, ◌≡◌, length, lit<}
 use Rattle.cohomology.proofs.LoopLemmas.{IsFound, classes_all, classes_few, made_more, made_start}
 use Rattle.cohomology.proofs.classes.Classes.of_pair.Goals as goal
 

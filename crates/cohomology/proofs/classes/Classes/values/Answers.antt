@@ -14,6 +14,6 @@ returns g c =
     let table = c.table_in.result.now in
     let sum = c.in_ok-sum.sum in
     IfOk-weaker c.spread.result _ _
-    (λ v h. values_tell p (served_field p c.requires) c.args.self.now c.args.cochain.now table sum v.items c.table_in.ensures.value (subst (λ m. IsSpread p sum m v.items) c.rank.ensures h)
-    (subst (λ (row : List (ℕ × ℕ)). (y : ℕ) → Congruent p (value_in sum y) (combined table (value_in row) y)) c.as_slice.ensures.same c.in_ok-sum.ensures))
+    (λ v h. values_tell p (served_field p c.requires) c.args.self.now c.args.cochain.now table sum v.items c.table_in.ensures.value c.in_ok-sum.ensures.row (subst (λ m. IsSpread sum m v.items) c.rank.ensures h)
+    (subst (λ (row : List (ℕ × ℕ)). (y : ℕ) → Congruent p (value_in sum y) (combined table (value_in row) y)) c.as_slice.ensures.same c.in_ok-sum.ensures.sum))
     c.spread.ensures

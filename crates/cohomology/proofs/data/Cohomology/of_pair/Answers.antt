@@ -1,4 +1,4 @@
-use Rattle.std.proofs.Common.{arith, rules, ◌≡◌, ◌+◌, ◌≤◌, List, ℕ, length, lit<, sym, subst}
+use Rattle.std.proofs.Common.{arith, rules, ◌≡◌, ◌+◌, length, lit<, sym, subst}
 use Rattle.row_reduce.specs.Triangular.{AreTriangular}
 use Rattle.cohomology.proofs.CoboundaryLemmas.{AreBound, bounds_all, bounds_all_few, bounds_few, no_coboundaries}
 use Rattle.cohomology.proofs.LoopLemmas.{IsFound, classes_all, classes_few, made_more, made_start}
@@ -20,7 +20,7 @@ degree_at-requires g c = (lit< tt, (lit< tt, (c.requires.prime, (c.requires.pair
 pub coboundaries_above-requires : goal.coboundaries_above-requires
 coboundaries_above-requires g c =
     let next = c.in_ok-found.ensures.next in
-    (lit< tt, (lit< tt, (c.requires.prime, (search rules, subst (λ w. AreTriangular g.row.P w c.in_ok-found.next.stored.items c.in_ok-found.next.pivots.items) (sym next.table.whole) next.bounds.triangular))))
+    (lit< tt, (lit< tt, (c.requires.prime, (search rules, subst (λ w. AreTriangular g.row.P w c.in_ok-found.next.stored.items c.in_ok-found.next.pivots) (sym next.table.whole) next.bounds.triangular))))
 
 pub loop-degree-preserved : goal.loop-degree-preserved
 loop-degree-preserved g c =
