@@ -1,3 +1,4 @@
 pub mod CycleLemmas
 pub mod DifferenceLemmas
 pub mod VerdictLemmas
+mod ByMatrixLemmas

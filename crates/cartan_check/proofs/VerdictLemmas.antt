@@ -8,7 +8,7 @@ use Rattle.fp_field.specs.Served.{served}
 use Rattle.fp_field.proofs.ServedLemmas.{served_field}
 use Rattle.linear_law.specs.Congruence.{negated}
 use Rattle.linear_law.proofs.CongruenceLemmas.{Congruent_of}
-use Rattle.simplicial_law.specs.Cochains.{Chain, Cochain as SimplexCochain}
+use Rattle.simplicial_law.specs.Cochains.{Chain, Cochain as SimplexCochain, HasCoordinates}
 use Rattle.simplicial_law.specs.CanonicalClasses.{cochain_of}
 use Rattle.simplicial_law.specs.Places.{terms_of}
 use Rattle.complex_index.specs.declared.indexed.Cochain.{Cochain}
@@ -35,15 +35,24 @@ use Rattle.cartan_check.specs.Differences.{IsLess, IsVerdictFor}
 use Rattle.cartan_check.specs.Verdicts.{IsVerdictOf, listed_answer}
 use Rattle.cartan_check.proofs.CycleLemmas.{cycle-of}
 
+-- coordinates that are 0 for each class are 0
+pub all-zero : (p : ℕ) (levels : List (List (List ℕ))) (n : ℕ) (classes : List (Cochain p)) (facets : List (List ℕ)) (z : SimplexCochain) (values : List ℕ) → HasCoordinates facets n p (cochains_at {p = p} levels n classes) z values
+    → ((i : ℕ) → i < length classes → get_or values i 0 ≡ 0) → (i : ℕ) → get_or values i 0 ≡ 0
+all-zero p levels n classes facets z values has h i = elim (cases_lt i (length classes)) [
+  | inl l ↦ h i l
+  | inr g ↦
+      let a = has.count in
+      let b = length-map (chains_at {p = p} (level levels n) classes) cochain_of in
+      let c = length-map classes (λ (d : Cochain p). terms_of (level levels n) d.row) in
+      get_or-past values i 0 (omega (arith, a, b, c, g))
+]
+
 module _ (p : ℕ) (is_served : IsTrue (served p)) (keeps : Bool) (levels : List (List (List ℕ))) (n : ℕ) (classes : List (Cochain p)) (canonical : AreCanonicalIn p levels n classes) (c : Column p) where
   abbrev zs : List SimplexCochain
   zs = cochains_at {p = p} levels n classes
 
   abbrev values : List ℕ
   values = c.values.items
-
-  count : length zs ≡ length classes
-  count = length-map (chains_at {p = p} (level levels n) classes) cochain_of ∙ length-map classes (λ (d : Cochain p). terms_of (level levels n) d.row)
 
   -- o is there exactly where chains are kept, and has P
   abbrev pub KeepsOnly : Option (Cochain p) → (Cochain p → Type 0) → Type 0
@@ -63,10 +72,7 @@ module _ (p : ℕ) (is_served : IsTrue (served p)) (keeps : Bool) (levels : List
     yes : ((i : ℕ) → i < length classes → get_or values i 0 ≡ 0) → IsAnswer keeps facets n p (chains_at {p = p} (level levels n) classes) d (listed_answer {p = p} levels n (Yes c.primitive))
     yes h =
         let large = (served_field p is_served).large in
-        let all : (i : ℕ) → get_or values i 0 ≡ 0 = λ i. elim (cases_lt i (length classes)) [
-          | inl l ↦ h i l
-          | inr g ↦ get_or-past values i 0 (let a = here.coordinates.count in let b = count in omega (arith, a, b, g))
-        ] in (
+        let all = all-zero p levels n classes facets d values here.coordinates h in (
           bound-of-zeros facets n p large zs d values here.coordinates all,
           λ t. primitive-alike facets p n d (rest_of p zs d values) (primitive_terms {p = p} levels n c.primitive)
               (record { at = λ s on. Congruent_of (let e = no-combination facets n p large values zs s all in sym (ap (λ (k : ℕ). d s + negated p k) e ∙ omega arith)) }) (here.rest t),

@@ -1,2 +1,3 @@
 pub mod Verdicts
 pub mod Differences
+pub mod ByMatrices

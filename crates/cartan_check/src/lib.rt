@@ -1,14 +1,16 @@
 //! The verdicts on Cartan lines, over either depth of the cohomology of a complex.
 #![tactic(auto)]
 
-ghost use Rattle.std.specs.Prelude.{◌≡◌, ◌≤◌, ◌<◌, ◌+◌, ℕ, List, [], length, get_or, true, IfOk, IsTrue, MatchOption};
+mod by_matrices;
+
+ghost use Rattle.std.specs.Prelude.{◌≡◌, ◌≤◌, ◌<◌, ◌+◌, ℕ, List, length, get_or, true, IfOk, IsTrue, MatchOption};
 ghost use Rattle.fp_field.specs.Served.{served};
 ghost use Rattle.report_law.specs.Columns.{IsFirstValue};
 ghost use Rattle.report_law.specs.Live.{cartan_op as cartan_op_at, cartan_pairs as cartan_pairs_of, is_defined};
-ghost use Rattle.op_matrix.specs.Columns.{HasElement};
 ghost use Rattle.cartan_check.specs.Differences.{IsCocycleIn, IsLess, IsLinePair, IsPart, IsVerdictFor};
 ghost use Rattle.cartan_check.specs.Verdicts.{HasElements, IsVerdictOf};
 
+pub use by_matrices::cartan_by_matrices;
 use cohomology::{Basis, Column};
 use complex_index::{Cochain, Indexed};
 use fp_field::Fp;
@@ -31,27 +33,6 @@ pub enum Verdict<const P: u32> {
         value: Fp<P>,
         cycle: Option<Cochain<P>>,
     },
-}
-
-/// The operation of a line on the product of two cocycles.
-fn whole<const P: u32>(
-    alloc: Global,
-    table: &MayTable<P>,
-    index: &Indexed,
-    line: Line,
-    x: &Cochain<P>,
-    y: &Cochain<P>,
-) -> Result<Cochain<P>, AllocError>
-    requires prime { IsTrue (served P) }
-    requires low { line.a + line.b ≤ 15 }
-    requires defined { is_defined P (line.a + line.b) (cartan_op_at P line.n) ≡ true }
-    requires stored { HasElement P table.now (line.a + line.b) (cartan_op_at P line.n) }
-    requires first { IsCocycleIn P index.now line.a x.now }
-    requires second { IsCocycleIn P index.now line.b y.now }
-    ensures { IfOk result (λ r. IsLess index.now line x.now y.now [] r) }
-{
-    let product = cup(alloc, index, x, y)?;
-    operation(alloc, table, index, cartan_op(P, line.n), &product)
 }
 
 /// The product of the operations of a pair on two cocycles.
@@ -94,7 +75,8 @@ fn difference<const P: u32>(
     ensures { IfOk result (λ r. IsLess index.now line x.now y.now (cartan_pairs_of P line.a line.b line.n) r) }
 {
     let pairs = cartan_pairs(alloc, P, line.a, line.b, line.n)?;
-    let mut difference = whole(alloc, table, index, line, x, y)?;
+    let product = cup(alloc, index, x, y)?;
+    let mut difference = operation(alloc, table, index, cartan_op(P, line.n), &product)?;
     for pair in pairs.as_slice() {
         let part = part(alloc, table, index, line, *pair, x, y)?;
         difference.row.add_scaled(&part.row, Fp::new(1).neg())?;

@@ -27,25 +27,13 @@ use Rattle.report_law.specs.Terms.{AreSizes, simplex_counts}
 use Rattle.report_law.proofs.Lists.{get_or-map, get_or-past}
 use Rattle.report_law.proofs.Unique.{same-order}
 use Rattle.op_matrix.specs.Columns.{AreListedAs}
-use Rattle.job_report.specs.Listed.{class_counts, level_counts, listed_classes}
+use Rattle.class_matrices.proofs.ClassLemmas.{as-listed, count, on-level, ranks-are}
+use Rattle.class_matrices.proofs.ListLemmas.{numbers-count, numbers-length}
+use Rattle.class_matrices.specs.Listed.{class_counts, listed_classes}
+use Rattle.job_report.specs.Listed.{level_counts}
 use Rattle.job_report.specs.Parts.{IsListedDegree}
 
 -- ---- lists over numbers
-
-pub numbers-get : {X : Type 0} (g : ℕ → X) (a k n : ℕ) (d : X) → n < k → get_or (map g (numbers_from a k)) n d ≡ g (a + n)
-numbers-get g a zero n d l = absurd (omega (arith, l))
-numbers-get g a (suc k) zero d l = let e : a ≡ a + 0 = omega arith in ap g e
-numbers-get g a (suc k) (suc n) d l = let e : suc a + n ≡ a + suc n = omega arith in numbers-get g (suc a) k n d (omega (arith, l)) ∙ ap g e
-
-pub numbers-at : {X : Type 0} (g : ℕ → X) (k n : ℕ) (d : X) → n < k → get_or (map g (numbers_from 0 k)) n d ≡ g n
-numbers-at g k n d l = let e : 0 + n ≡ n = omega arith in numbers-get g 0 k n d l ∙ ap g e
-
-pub numbers-length : (a k : ℕ) → length (numbers_from a k) ≡ k
-numbers-length a zero = refl
-numbers-length a (suc k) = ap suc (numbers-length (suc a) k)
-
-pub numbers-count : {X : Type 0} (g : ℕ → X) (k : ℕ) → length (map g (numbers_from 0 k)) ≡ k
-numbers-count g k = length-map (numbers_from 0 k) g ∙ numbers-length 0 k
 
 -- what stands at a number
 pub counted-at : {Y : Type 0} (R : ℕ → Y → Type 0) (a k : ℕ) (ys : List Y) (n : ℕ) (d : Y) → n < k → AllZip R (numbers_from a k) ys → R (a + n) (get_or ys n d)
@@ -80,58 +68,15 @@ module _ (p : ℕ) (levels : List (List (List ℕ))) (classes : ℕ → List (Co
   abbrev listed : Classes
   listed = listed_classes {p = p} levels classes
 
-  abbrev chains-in : ℕ → List Chain
-  chains-in n = chains_at {p = p} (level levels n) (classes n)
-
-  pub count : length listed ≡ length levels
-  count = numbers-count chains-in (length levels)
-
-  pub ranks-are : ranks listed ≡ class_counts {p = p} levels classes
-  ranks-are = map-map (λ (cs : List Chain). length cs) chains-in (numbers_from 0 (length levels)) ∙ go (numbers_from 0 (length levels))
-    where
-      go : (ns : List ℕ) → map (λ (n : ℕ). length (chains_at {p = p} (level levels n) (classes n))) ns ≡ map (λ (n : ℕ). length (classes n)) ns
-      go [] = refl
-      go (n ∷ ns) = ap₂ (λ (x : ℕ) (xs : List ℕ). x ∷ xs) (length-map (classes n) _) (go ns)
-
-  pub rank-at : (i n : ℕ) → 1 ≤ i → i ≤ get_or (class_counts {p = p} levels classes) n 0 → i ≤ length (classes n)
-  rank-at i n a l = elim (cases_lt n (length levels)) [
-    | inl k ↦ let e = numbers-at (λ n. length (classes n)) (length levels) n 0 k in omega (arith, l, e)
-    | inr k ↦
-        let c = numbers-count (λ n. length (classes n)) (length levels) in
-        let z = get_or-past (class_counts {p = p} levels classes) n 0 (omega (arith, k, c)) in absurd (omega (arith, a, l, z))
-  ]
-
   pub class-inside : (n i : ℕ) (z : Cochain p) → slice_get (classes n) (i + 1 - 1) ≡ Some z → IsBelow (length (level levels n)) z.row
   class-inside n i z e = (each-slice (IsPlaced p levels n) (classes n) (i + 1 - 1) z e (canonical n).placed).inside
 
   module _ (facets : List (List ℕ)) (is : IsIndexOf facets levels) where
-    on-level : (n : ℕ) (s : List ℕ) → IsSimplex facets n s → n < length levels
-    on-level n s on = elim (cases_lt n (length levels)) [
-      | inl l ↦ l
-      | inr m ↦ let k = (is.lists n).whole s on in let e = ap (λ (ss : List (List ℕ)). length ss) (get_or-past levels n [] m) in let l = k.1 in absurd (omega (arith, e, l))
-    ]
-
-    none : (n : ℕ) (cs : List Chain) → length levels ≤ n → AreCanonicalModulo facets n p (IsCocycle facets n p) (IsCoboundary facets n p) cs → cs ≡ []
-    none n [] m h = refl
-    none n (c ∷ cs) m h = go h.pivots h.canonical
-      where
-        go : (ss : List (List ℕ)) → AllZip (λ s terms. IsCanonicalModulo facets n p (IsCocycle facets n p) (IsCoboundary facets n p) s (cochain_of terms)) ss (c ∷ cs) → (c ∷ cs) ≡ []
-        go [] k = absurd k
-        go (s ∷ ss) k = let l = on-level n s k.0.canonical.pivot.lead.on in absurd (omega (arith, l, m))
-
-    pub as-listed : AreListedAs {p = p} levels classes listed
-    as-listed = record {
-      each = λ n. elim (cases_lt n (length levels)) [
-        | inl l ↦ numbers-at chains-in (length levels) n [] l
-        | inr m ↦ get_or-past listed n [] (subst (λ (k : ℕ). k ≤ n) (sym count) m) ∙ sym (none n (chains-in n) m ((canonical n).basis facets is).canonical)
-      ];
-    }
-
     pub are-classes : AreClasses facets p listed
     are-classes = record {
-      each = λ n l. subst (λ (cs : List Chain). AreCanonicalModulo facets n p (IsCocycle facets n p) (IsCoboundary facets n p) cs) (sym (as-listed.each n)) ((canonical n).basis facets is).canonical;
-      inhabited = λ n l. (get_or (level levels n) 0 [], each_get_or (IsSimplex facets n) (level levels n) 0 [] (is.inhabited n (subst (λ (k : ℕ). n < k) count l)) (is.lists n).sound);
-      whole = λ n s on. subst (λ (k : ℕ). n < k) (sym count) (on-level n s on);
+      each = λ n l. subst (λ (cs : List Chain). AreCanonicalModulo facets n p (IsCocycle facets n p) (IsCoboundary facets n p) cs) (sym ((as-listed p levels classes canonical facets is).each n)) ((canonical n).basis facets is).canonical;
+      inhabited = λ n l. (get_or (level levels n) 0 [], each_get_or (IsSimplex facets n) (level levels n) 0 [] (is.inhabited n (subst (λ (k : ℕ). n < k) (count p levels classes canonical) l)) (is.lists n).sound);
+      whole = λ n s on. subst (λ (k : ℕ). n < k) (sym (count p levels classes canonical)) (on-level p levels classes canonical facets is n s on);
     }
 
     -- ---- sizes
@@ -151,8 +96,8 @@ module _ (p : ℕ) (levels : List (List (List ℕ))) (classes : ℕ → List (Co
     sizes-are z up s r = record {
       classes = listed;
       are = are-classes;
-      ranks_are = r ∙ sym ranks-are;
-      simplices_are = s ∙ counts (numbers_from 0 (length levels)) ∙ ap (simplex_counts facets) (sym count);
+      ranks_are = r ∙ sym (ranks-are p levels classes canonical);
+      simplices_are = s ∙ counts (numbers_from 0 (length levels)) ∙ ap (simplex_counts facets) (sym (count p levels classes canonical));
     }
       where
         counts : (ns : List ℕ) → map (λ n. length (level levels n)) ns ≡ map (λ n. length (of_degree n (simplices facets))) ns

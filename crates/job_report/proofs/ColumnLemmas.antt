@@ -35,7 +35,7 @@ use Rattle.op_matrix.proofs.ColumnLemmas.{terms}
 use Rattle.cartan_check.specs.declared.Verdict.{Verdict}
 use Rattle.cartan_check.specs.declared.Verdict.TheVariants.{Yes as Primitive, No as Cycle}
 use Rattle.cartan_check.specs.Verdicts.{cycle_terms, listed_answer}
-use Rattle.job_report.proofs.ClassLemmas.{numbers-length}
+use Rattle.class_matrices.proofs.ListLemmas.{numbers-length}
 use Rattle.job_report.specs.Listed.{IsInside, IsListedColumn}
 use Rattle.job_report.specs.Parts.{IsInsideVerdict, IsSameAnswer}
 

@@ -2,7 +2,6 @@ pub mod Zips
 pub mod ClassLemmas
 pub mod ColumnLemmas
 pub mod PlanLemmas
-pub mod SendLemmas
 pub mod JobLemmas
 pub mod TableLemmas
 pub mod PartLemmas

@@ -18,9 +18,9 @@ use Rattle.report_law.specs.Matrices.{Classes, ranks}
 use Rattle.report_law.specs.Reports.{AreOrderedSends, IsInducedPart, IsMapPart}
 use Rattle.job_report.specs.declared.known.Known.{Known}
 use Rattle.job_report.specs.Jobs.{AreAllListed, IsFreeMap, IsKnown}
-use Rattle.job_report.specs.Listed.{class_counts, listed_classes}
+use Rattle.class_matrices.specs.Listed.{class_counts, listed_classes}
 use Rattle.job_report.specs.Parts.{IsListedInduced}
-use Rattle.job_report.proofs.ClassLemmas.{ranks-are}
+use Rattle.class_matrices.proofs.ClassLemmas.{ranks-are}
 use Rattle.job_report.proofs.Zips.{headings, parts, zip-get}
 
 slice-of : {X : Type 0} (xs : List X) (i : ℕ) (x : X) → i < length xs → x ≡ get_or xs i x → slice_get xs i ≡ Some x

@@ -28,10 +28,15 @@ use Rattle.report_law.specs.Terms.{AreSizes}
 use Rattle.report_law.proofs.OneSize.{sizes_law}
 use Rattle.term_total.specs.Counts.{IsPart}
 use Rattle.job_report.specs.declared.known.Known.{Known}
-use Rattle.job_report.specs.Jobs.{AreAllListed, HasStored, IsDeeper, IsKnown, IsSize}
-use Rattle.job_report.specs.Listed.{class_counts, level_counts, listed_classes}
-use Rattle.job_report.specs.Parts.{AreStored, IsListedDegree, IsListedLine, IsListedOperation, IsListedProduct}
-use Rattle.job_report.proofs.ClassLemmas.{are-classes, below-are, degree-classes, numbers-count, ranks-are, sizes-are}
+use Rattle.job_report.specs.Jobs.{AreAllListed, CanBeIndexed, HasStored, IsDeeper, IsKnown, IsSize}
+use Rattle.job_report.proofs.JobLemmas.{ascending-facets}
+use Rattle.class_matrices.specs.Listed.{class_counts, listed_classes}
+use Rattle.job_report.specs.Listed.{level_counts}
+use Rattle.class_matrices.specs.Matrices.{AreStored}
+use Rattle.job_report.specs.Parts.{IsListedDegree, IsListedLine, IsListedOperation, IsListedProduct}
+use Rattle.class_matrices.proofs.ListLemmas.{numbers-count}
+use Rattle.class_matrices.proofs.ClassLemmas.{ranks-are}
+use Rattle.job_report.proofs.ClassLemmas.{are-classes, below-are, degree-classes, sizes-are}
 use Rattle.job_report.proofs.Zips.{headings, parts}
 
 never : IsTrue false → ⊥
@@ -82,7 +87,7 @@ module _ (p : ℕ) (detailed : Bool) (levels : List (List (List ℕ))) (classes 
 -- ---- sizes and what is stored
 
 module _ {B : Type 0} (p : ℕ) (is_of : List (List (List ℕ)) → B → Type 0) (classes : B → ℕ → List (Cochain p)) (canonical : (levels : List (List (List ℕ))) (b : B) → is_of levels b → (n : ℕ) → AreCanonicalIn p levels n (classes b n)) where
-  pub all-sizes : (blocks : List ComplexBlock) (known : List (Known B)) (zs : List Sizes) → Each (λ b. Each IsAscending b.facets) blocks → AllZip (IsKnown is_of) blocks known → AllZip (IsSize {p = p} classes) known zs
+  all-sizes : (blocks : List ComplexBlock) (known : List (Known B)) (zs : List Sizes) → Each (λ b. Each IsAscending b.facets) blocks → AllZip (IsKnown is_of) blocks known → AllZip (IsSize {p = p} classes) known zs
       → AllZip (λ b z. AreSizes p b.facets z) blocks zs
   all-sizes [] [] [] up h k = tt
   all-sizes [] [] (z ∷ zs) up h k = absurd k
@@ -91,6 +96,12 @@ module _ {B : Type 0} (p : ℕ) (is_of : List (List (List ℕ)) → B → Type 0
   all-sizes (b ∷ bs) (x ∷ xs) [] up h k = absurd k
   all-sizes (b ∷ bs) (x ∷ xs) (z ∷ zs) up h k =
       (sizes-are p x.index (classes x.basis) (canonical x.index x.basis h.0.1) b.facets h.0.0 z up.0 k.0.simplices k.0.ranks, all-sizes bs xs zs up.1 h.1 k.1)
+
+  -- of complexes that are known, over another list for each
+  pub known-sizes : (cs blocks : List ComplexBlock) (known ks : List (Known B)) (zs : List Sizes) → blocks ≡ cs → ks ≡ known → Each (λ b. CanBeIndexed b.facets) cs → AllZip (IsKnown is_of) blocks known → AllZip (IsSize {p = p} classes) ks zs
+      → AllZip (λ b z. AreSizes p b.facets z) cs zs
+  known-sizes cs blocks known ks zs e f h k s =
+      all-sizes cs known zs (ascending-facets cs h) (subst (λ (bs : List ComplexBlock). AllZip (IsKnown is_of) bs known) e k) (subst (λ (xs : List (Known B)). AllZip (IsSize {p = p} classes) xs zs) f s)
 
   pub all-parts : (known : List (Known B)) (zs : List Sizes) → AllZip (IsSize {p = p} classes) known zs → Each IsPart zs
   all-parts known zs h = each_right (IsSize {p = p} classes) IsPart part known zs h

@@ -19,11 +19,12 @@ use Rattle.report.specs.declared.plan.Product.{Product}
 use Rattle.report.specs.declared.plan.Sizes.{Sizes}
 use Rattle.report_law.specs.Live.{all_lines, blocks, cartan_op, cartan_pairs, class_numbers, degrees, element_degree, has_class, is_defined, lines, products, target, target_degree}
 use Rattle.report_law.specs.Terms.{complex_elements, elements, line_elements}
+use Rattle.report_law.proofs.Blocks.{has-degree}
 use Rattle.report_law.proofs.Lists.{each-of, get_or-past, in-flat_map, of-filter, of-flat_map, of-map, of-numbers}
 use Rattle.report_law.proofs.Verdicts.{of-lines}
 use Rattle.op_matrix.specs.Columns.{HasElement}
 use Rattle.cartan_check.specs.Verdicts.{HasElements}
-use Rattle.job_report.specs.Parts.{AreStored}
+use Rattle.class_matrices.specs.Matrices.{AreStored}
 
 -- what was inserted stands among the keys
 key-kept : (vs ks : List ℕ) (x : ℕ) → Among x ks → Among x (fold (insert_key nat_cmp) ks vs)
@@ -37,28 +38,7 @@ key-put (v ∷ vs) ks x m = elim m [
   | inr n ↦ key-put vs (insert_key nat_cmp ks v) x n
 ]
 
--- a degree with a class is one of the degrees
-has-degree : (ranks : List ℕ) (n : ℕ) → has_class ranks n ≡ true → n < length ranks
-has-degree ranks n h = elim (cases_lt n (length ranks)) [
-  | inl l ↦ l
-  | inr m ↦ let l : 0 < get_or ranks n 0 = ltb-true 0 (get_or ranks n 0) h in let z = get_or-past ranks n 0 m in absurd (omega (arith, l, z))
-]
-
 module _ (ranks : List ℕ) (few : length ranks ≤ 16) where
-  pub product-low : (x : Product) → Among x (products ranks) → (x.a ≤ 15) × (x.b ≤ 15)
-  product-low x m =
-      let h = (of-filter (λ (y : Product). has_class ranks y.a && (has_class ranks y.b && has_class ranks (y.a + y.b))) _ x m).1 in
-      let k = and_parts (has_class ranks x.a) _ h in
-      let a = has-degree ranks x.a k.0 in
-      let b = has-degree ranks x.b (and_parts (has_class ranks x.b) _ k.1).0 in
-      (omega (arith, a, few), omega (arith, b, few))
-
-  pub block-low : (p : ℕ) (x : Block) → Among x (blocks p ranks) → x.from ≤ 15
-  block-low p x m =
-      let h = (of-filter (λ (y : Block). has_class ranks y.from && has_class ranks y.to) _ x m).1 in
-      let a = has-degree ranks x.from (and_parts (has_class ranks x.from) _ h).0 in
-      omega (arith, a, few)
-
   pub line-low : (p : ℕ) (l : Line) → Among l (lines p ranks) → l.a + l.b ≤ 15
   line-low p l m =
       let t = has-degree ranks (target_degree p (l.a + l.b) (cartan_op p l.n)) (of-lines p ranks l m).1 in
@@ -87,13 +67,6 @@ line-classes p ranks l m =
     let g = of-numbers j.0 1 (get_or ranks b.0 0) j.1 in
     subst (HasClasses ranks) n.2 (record { first = (h.0, let u = h.1 in omega (arith, u)); second = (g.0, let v = g.1 in omega (arith, v)) })
 
--- the target degree of the operation of a line
-pub target-is : (p q n d : ℕ) (op : Op) → op ≡ cartan_op p n → is_defined p q (cartan_op p n) ≡ true → target p op q ≡ Some d → d ≡ target_degree p q (cartan_op p n)
-target-is p q n d op e h k = the-some d (target_degree p q (cartan_op p n)) (sym k ∙ ap (λ (o : Op). target p o q) e ∙ ap (λ (b : Bool). if b then Some (target_degree p q (cartan_op p n)) else None) h)
-  where
-    the-some : (a b : ℕ) → ◌≡◌ {A = Option ℕ} (Some a) (Some b) → a ≡ b
-    the-some a b s = ap (λ (o : Option ℕ). unwrap_or o a) s
-
 -- ---- what is stored
 
 module _ (p : ℕ) (table : List (ℕ × List (List ℕ × ℤ))) (ranks : List ℕ) (stored : AreStored p table ranks) where
@@ -102,10 +75,6 @@ module _ (p : ℕ) (table : List (ℕ × List (List ℕ × ℤ))) (ranks : List 
 
   at : (d : ℕ) → Among d (complex_elements p sizes) → IsSome (stored_at d table)
   at d m = each_among (λ d. IsSome (stored_at d table)) d (complex_elements p sizes) stored m
-
-  pub block-stored : (x : Block) → Among x (blocks p ranks) → HasElement p table x.from x.op
-  block-stored x m = inr (at (element_degree p x.from x.op)
-      (among_left _ (map (λ (y : Block). element_degree p y.from y.op) (blocks p ranks)) (flat_map (line_elements p) (lines p ranks)) (among_map (λ (y : Block). element_degree p y.from y.op) x _ (blocks p ranks) m refl)))
 
   pub line-stored : (l : Line) → Among l (lines p ranks) → HasElements p table l
   line-stored l m = record {

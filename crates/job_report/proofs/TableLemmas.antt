@@ -1,10 +1,10 @@
 -- From matrices and verdicts by place to the parts of a report.
-use Rattle.std.proofs.Common.{◌≡◌, ◌∙◌, ℕ, ◌+◌, ◌-◌, Bool, List, map, length, refl, sym, ap, ap₂, subst}
+use Rattle.std.proofs.Common.{◌≡◌, ◌∙◌, ℕ, ◌+◌, ◌-◌, ◌≤◌, Bool, List, arith, map, length, refl, sym, ap, ap₂, subst}
 use Rattle.std.specs.Prelude.{IsTrue}
 use Rattle.std.specs.List.{AllZip}
 use Rattle.std.proofs.lemmas.List.{length-map}
-use Rattle.linear_law.specs.Lists.{Each}
-use Rattle.linear_law.proofs.ListLemmas.{length_alike}
+use Rattle.linear_law.specs.Lists.{Among, Each}
+use Rattle.linear_law.proofs.ListLemmas.{among_map, length_alike}
 use Rattle.steenrod_law.specs.Operations.{cochain_products, pull_back}
 use Rattle.simplicial_law.specs.Cochains.{Cochain as SimplexCochain}
 use Rattle.complex_index.specs.declared.indexed.Cochain.{Cochain}
@@ -26,9 +26,15 @@ use Rattle.op_matrix.specs.Tables.{IsOperationMatrix, IsProductMatrix}
 use Rattle.induced_map.specs.Induced.{IsInducedMatrix}
 use Rattle.cartan_check.specs.declared.Verdict.{Verdict}
 use Rattle.cartan_check.specs.Verdicts.{IsVerdictOf, listed_answer}
-use Rattle.job_report.specs.Listed.{IsInside, IsListedColumn, listed_classes}
+use Rattle.class_matrices.specs.declared.matrices.Matrices.{Matrices}
+use Rattle.class_matrices.specs.declared.matrices.ProductMatrix.{ProductMatrix}
+use Rattle.class_matrices.specs.Listed.{class_counts, listed_classes}
+use Rattle.class_matrices.specs.Matrices.{AreMatrices}
+use Rattle.class_matrices.proofs.ListLemmas.{numbers-count}
+use Rattle.class_matrices.proofs.PlanLemmas.{product-low}
+use Rattle.job_report.specs.Listed.{IsInside, IsListedColumn}
 use Rattle.job_report.specs.Parts.{IsInsideVerdict, IsListedInduced, IsListedLine, IsListedOperation, IsListedProduct, IsSameAnswer}
-use Rattle.job_report.proofs.ClassLemmas.{as-listed}
+use Rattle.class_matrices.proofs.ClassLemmas.{as-listed}
 use Rattle.job_report.proofs.ColumnLemmas.{answer-alike, column-alike, columns-inside, pairs-count, relisted, verdict-inside}
 
 module _ (p : ℕ) (detailed : Bool) (levels : List (List (List ℕ))) (classes : ℕ → List (Cochain p)) (canonical : (n : ℕ) → AreCanonicalIn p levels n (classes n)) where
@@ -78,6 +84,17 @@ module _ (p : ℕ) (detailed : Bool) (levels : List (List (List ℕ))) (classes 
         block = relisted {p = p} detailed levels (x.a + x.b) (product-column facets) (λ z c d. column-alike detailed facets (x.a + x.b) p (cochains_in all (x.a + x.b)) z c d) the-products cs (map unnumbered ds) (rows facets is) k;
       };
     }
+
+  -- the degrees of a live product
+  pub product-sum : (m : Matrices p) → AreMatrices {p = p} detailed levels classes (class_counts {p = p} levels classes) m → length levels ≤ 16 → (x : ProductMatrix p) → Among x m.products.items → x.product.a + x.product.b ≤ 30
+  product-sum m h few x on =
+      let ranks : List ℕ = class_counts {p = p} levels classes in
+      let count = numbers-count (λ n. length (classes n)) (length levels) in
+      let here = among_map (λ (y : ProductMatrix p). y.product) x x.product m.products.items on refl in
+      let low = product-low ranks (omega (arith, count, few)) x.product (subst (λ (xs : List Product). Among x.product xs) h.products here) in
+      let a = low.0 in
+      let b = low.1 in
+      omega (arith, a, b)
 
   -- ---- operations
 

@@ -2,13 +2,14 @@
 use Rattle.std.proofs.Common.{◌≡◌, ◌∙◌, Bool, true, false, cond, ℕ, zero, suc, ◌+◌, ◌<◌, ◌≤◌, List, [], ◌∷◌, ◌++◌, length, map, take, get_or, append_assoc, arith, refl, sym, ap, ap₂, subst}
 use Rattle.std.specs.Prelude.{flat_map, fold}
 use Rattle.std.specs.List.{AllZip, filter}
-use Rattle.std.proofs.lemmas.List.{append-nil, map-append, take_more}
+use Rattle.std.proofs.lemmas.List.{append-nil, length-map, map-append, take_more}
 use Rattle.std.proofs.lemmas.Grind.{flat_map-append}
 use Rattle.std.proofs.lemmas.List.Sums.{fold-append}
 use Rattle.signed_sum.specs.Lists.{numbers_from}
 use Rattle.linear_law.specs.Lists.{Among, Each}
 use Rattle.linear_law.proofs.ListLemmas.{each_get_or, each_itself, zip_push}
 use Rattle.complex_index.specs.Levels.{IsIndexOf}
+use Rattle.report_law.proofs.Lists.{get_or-map}
 use Rattle.op_matrix.proofs.ListLemmas.{whole}
 use Rattle.job_report.specs.Parts.{IsPartFor}
 
@@ -49,6 +50,11 @@ pub zip-more : {A B : Type 0} (R : A → B → Type 0) (xs : List A) (ys new : L
     → AllZip R (take i xs) ys → R x y → new ≡ ys ++ y ∷ [] → AllZip R (take (i + 1) xs) new
 zip-more R xs ys new i x y lt same h r e = rw (e, take_more xs i x lt) (zip_push R (take i xs) ys (get_or xs i x) y h (subst (λ v. R v y) same r))
 
+-- one item more, of which its heading is seen
+pub heading-more : {A H B : Type 0} (R : H → B → Type 0) (f : A → H) (xs : List A) (ys new : List B) (i : ℕ) (x : A) (y : B) → i < length xs → x ≡ get_or xs i x
+    → AllZip R (take i (map f xs)) ys → R (f x) y → new ≡ ys ++ y ∷ [] → AllZip R (take (i + 1) (map f xs)) new
+heading-more R f xs ys new i x y lt same h r e = zip-more R (map f xs) ys new i (f x) y (let k = length-map xs f in omega (arith, lt, k)) (ap f same ∙ sym (get_or-map f xs i x)) h r e
+
 -- ---- folds and filters
 
 filter-append : {X : Type 0} (t : X → Bool) (xs ys : List X) → filter t (xs ++ ys) ≡ filter t xs ++ filter t ys
@@ -64,10 +70,6 @@ pub filtered-more : {X Y : Type 0} (f : Y → X → Y) (a : Y) (t : X → Bool) 
 filtered-more {Y = Y} f a t xs i x old new lt same h e =
     e ∙ ap₂ (λ (y : Y) (z : _). fold f y (filter t (z ∷ []))) h same ∙ sym (fold-append f a (filter t (take i xs)) (filter t (get_or xs i x ∷ [])))
     ∙ ap (fold f a) (sym (ap (filter t) (take_more xs i x lt) ∙ filter-append t (take i xs) (get_or xs i x ∷ [])))
-
-pub folded-more : {X Y : Type 0} (f : Y → X → Y) (a : Y) (xs : List X) (i : ℕ) (d : X) (old new : Y) → i < length xs
-    → old ≡ fold f a (take i xs) → new ≡ f old (get_or xs i d) → new ≡ fold f a (take (i + 1) xs)
-folded-more f a xs i d old new lt h e = e ∙ ap (λ (y : _). f y (get_or xs i d)) h ∙ sym (ap (fold f a) (take_more xs i d lt) ∙ fold-append f a (take i xs) (get_or xs i d ∷ []))
 
 pub numbers-filtered : (t : ℕ → Bool) (k : ℕ) (old new : List ℕ) → old ≡ filter t (numbers_from 0 k) → new ≡ old ++ filter t (k ∷ []) → new ≡ filter t (numbers_from 0 (k + 1))
 numbers-filtered t k old new h e =
@@ -103,11 +105,12 @@ pub zip-next : {A B : Type 0} (R : A → B → Type 0) (xs : List A) (ys new : L
     → AllZip R (take i xs) ys → R (get_or xs i d) y → new ≡ ys ++ y ∷ [] → AllZip R (take (i + 1) xs) new
 zip-next R xs ys new i d y lt h r e = rw (e, take_more xs i d lt) (zip_push R (take i xs) ys (get_or xs i d) y h r)
 
-pub item-among : {X : Type 0} (xs ys : List X) (i : ℕ) (d : X) → i < length xs → xs ≡ ys → Among (get_or xs i d) ys
-item-among xs ys i d lt e = subst (λ (zs : List _). Among (get_or xs i d) zs) e (each_get_or (λ t. Among t xs) xs i d lt (each_itself xs))
-
 pub all-items : {A B : Type 0} (R : A → B → Type 0) (xs zs : List A) (ys new : List B) (i : ℕ) → length xs ≤ i → xs ≡ zs → AllZip R (take i xs) ys → new ≡ ys → AllZip R zs new
 all-items R xs zs ys new i l e h q = rw q (subst (λ (us : List _). AllZip R us ys) (whole xs i l ∙ e) h)
+
+-- all items, of which their headings are seen
+pub all-headings : {A H B : Type 0} (R : H → B → Type 0) (f : A → H) (xs : List A) (hs : List H) (ys new : List B) (i : ℕ) → length xs ≤ i → map f xs ≡ hs → AllZip R (take i (map f xs)) ys → new ≡ ys → AllZip R hs new
+all-headings R f xs hs ys new i l e h q = all-items R (map f xs) hs ys new i (let k = length-map xs f in omega (arith, l, k)) e h q
 
 pub each-item : {X : Type 0} (P : X → Type 0) (xs : List X) (i : ℕ) (x : X) → i < length xs → x ≡ get_or xs i x → Each P xs → P x
 each-item P xs i x lt same h = subst P (sym same) (each_get_or P xs i x lt h)

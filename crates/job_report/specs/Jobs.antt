@@ -12,8 +12,9 @@ use Rattle.report.specs.declared.plan.Sizes.{Sizes}
 use Rattle.report_law.specs.Matrices.{Classes}
 use Rattle.report_law.specs.Terms.{AreSizes}
 use Rattle.job_report.specs.declared.known.Known.{Known}
-use Rattle.job_report.specs.Listed.{class_counts, level_counts, listed_classes}
-use Rattle.job_report.specs.Parts.{AreStored}
+use Rattle.class_matrices.specs.Listed.{class_counts, listed_classes}
+use Rattle.job_report.specs.Listed.{level_counts}
+use Rattle.class_matrices.specs.Matrices.{AreStored}
 
 -- ascending facets of 1 to 16 vertices, with fewer than 2^32 simplices in all
 pub record CanBeIndexed (facets : List (List ℕ)) : Type 0 where

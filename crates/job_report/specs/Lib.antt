@@ -1,4 +1,3 @@
 pub mod Listed
 pub mod Parts
 pub mod Jobs
-pub mod Sends

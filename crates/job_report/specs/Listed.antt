@@ -11,14 +11,7 @@ use Rattle.report.specs.declared.columns.Column.{Column as ListedColumn}
 use Rattle.report_law.specs.Matrices.{Classes}
 use Rattle.op_matrix.specs.Columns.{primitive_terms}
 
--- the terms of the classes of each degree of a complex
-abbrev pub listed_classes : {p : ℕ} → List (List (List ℕ)) → (ℕ → List (Cochain p)) → Classes
-listed_classes levels classes = map (λ n. chains_at (level levels n) (classes n)) (numbers_from 0 (length levels))
-
--- how many classes each degree of a complex has, and how many simplices
-abbrev pub class_counts : {p : ℕ} → List (List (List ℕ)) → (ℕ → List (Cochain p)) → List ℕ
-class_counts levels classes = map (λ n. length (classes n)) (numbers_from 0 (length levels))
-
+-- how many simplices each degree of a complex has
 abbrev pub level_counts : List (List (List ℕ)) → List ℕ
 level_counts levels = map (λ n. length (level levels n)) (numbers_from 0 (length levels))
 

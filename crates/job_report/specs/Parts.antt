@@ -21,7 +21,8 @@ use Rattle.report_law.specs.Reports.{IsCartanPart, IsInducedPart, IsOperationPar
 use Rattle.report_law.specs.Terms.{complex_elements}
 use Rattle.cartan_check.specs.declared.Verdict.{Verdict}
 use Rattle.cartan_check.specs.declared.Verdict.TheVariants.{Yes as Primitive, No as Cycle}
-use Rattle.job_report.specs.Listed.{IsInside, listed_classes}
+use Rattle.class_matrices.specs.Listed.{listed_classes}
+use Rattle.job_report.specs.Listed.{IsInside}
 
 -- d lists the degree n: its classes, and where primitives are kept those below it
 pub record IsListedDegree {p : ℕ} (detailed : Bool) (levels : List (List (List ℕ))) (classes : ℕ → List (Cochain p)) (n : ℕ) (d : DegreePart) : Type 0 where
@@ -53,10 +54,6 @@ abbrev pub IsSameAnswer : Bool → CartanAnswer → CartanAnswer → Type 0
 IsSameAnswer detailed (Yes x) (Yes y) = IsTrue detailed → y ≡ x
 IsSameAnswer detailed (No v x) (No w y) = (w ≡ v) × (IsTrue detailed → y ≡ x)
 IsSameAnswer detailed _ _ = ⊥
-
--- the May elements of all live blocks and lines are stored
-abbrev pub AreStored : ℕ → List (ℕ × List (List ℕ × ℤ)) → List ℕ → Type 0
-AreStored p table ranks = Each (λ d. IsSome (stored_at d table)) (complex_elements p (record { simplices = []; ranks = ranks }))
 
 -- the chain of a verdict in degree n, if there is one, is at places of simplices
 abbrev pub IsInsideVerdict : {p : ℕ} → List (List (List ℕ)) → ℕ → Verdict p → Type 0

@@ -5,12 +5,13 @@ ghost use Rattle.linear_law.specs.Lists.{Each};
 ghost use Rattle.report_law.specs.Parts.{classes_of};
 ghost use Rattle.report_law.specs.Reports.{IsComplexPart};
 ghost use Rattle.job_report.specs.Jobs.{AreAllListed, CanBeIndexed, HasStored, IsKnown};
-ghost use Rattle.job_report.specs.Listed.{listed_classes};
+ghost use Rattle.class_matrices.specs.Listed.{listed_classes};
 
 use crate::degrees::{degree_parts, ranks_of};
 use crate::depth::Depth;
 use crate::known::Known;
 use crate::tables::{cartan_parts, operation_parts, product_parts};
+use class_matrices::Matrices;
 use comch_io::Listed;
 use complex_file::{ComplexBlock, Name};
 use facet_list::maximal_facets;
@@ -69,13 +70,14 @@ fn complex_part<const P: u32, B: Depth<P>>(
 {
     let Known { index, basis } = known;
     let ranks = ranks_of(alloc, index, basis)?;
+    let matrices = Matrices::of(alloc, basis, index, table, &ranks)?;
     Ok(ComplexPart {
         name: Name::new(alloc, block.name.bytes())?,
         facets: maximal_facets(alloc, index)?,
         degrees: degree_parts(alloc, index, basis)?,
-        products: product_parts(alloc, index, basis, &ranks)?,
-        operations: operation_parts(alloc, index, basis, table, &ranks)?,
-        cartans: cartan_parts(alloc, index, basis, table, &ranks)?,
+        products: product_parts(alloc, index, basis, &matrices)?,
+        operations: operation_parts(alloc, index, basis, &matrices)?,
+        cartans: cartan_parts(alloc, index, basis, table, &matrices, &ranks)?,
     })
 }
 

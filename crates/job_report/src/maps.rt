@@ -1,78 +1,27 @@
-ghost use Rattle.std.specs.Prelude.{◌≡◌, ◌≤◌, ◌<◌, ◌&&◌, ℕ, List, [], IfOk, IsTrue, OnOk, ◌++◌, ◌∷◌, get_or, length, map as list_map};
+ghost use Rattle.std.specs.Prelude.{◌≡◌, ◌≤◌, ◌<◌, ◌&&◌, List, [], IfOk, IsTrue, OnOk, ◌++◌, ◌∷◌, get_or, length};
 ghost use Rattle.std.specs.List.{AllZip, filter};
 ghost use Rattle.fp_field.specs.Served.{served};
 ghost use Rattle.linear_law.specs.Lists.{Each, IsAscending};
-ghost use Rattle.complex_file.specs.Maps.{image};
 ghost use Rattle.complex_index.specs.Levels.{IsComplexIndex};
 ghost use Rattle.induced_map.specs.Induced.{IsMapIn};
 ghost use Rattle.report_law.specs.Live.{has_class, induced_degrees};
 ghost use Rattle.report_law.specs.Matrices.{Classes};
-ghost use Rattle.report_law.specs.Reports.{AreOrderedSends, IsMapPart};
+ghost use Rattle.report_law.specs.Reports.{IsMapPart};
 ghost use Rattle.job_report.specs.Jobs.{AreAllListed, IsFreeMap, IsKnown};
-ghost use Rattle.job_report.specs.Listed.{class_counts};
+ghost use Rattle.class_matrices.specs.Listed.{class_counts};
 ghost use Rattle.job_report.specs.Parts.{IsListedInduced};
-ghost use Rattle.job_report.specs.Sends.{IsOnce, entries_of, pair_of, sent_of};
 
 use crate::columns::listed_columns;
 use crate::degrees::ranks_of;
 use crate::depth::Depth;
 use crate::known::Known;
 use comch_io::Listed;
-use complex_file::{ComplexBlock, MapBlock, Name, Sent};
+use complex_file::{ComplexBlock, MapBlock, Name};
 use complex_index::MapOn;
 use induced_map::induced;
+use ordered_sends::{map_of, ordered_sends};
 use report::{InducedPart, MapPart};
 use std::alloc::{AllocError, Global};
-use std::collections::BTreeMap;
-
-/// The sends as pairs, ascending by the vertex that is sent.
-fn ordered_pairs(alloc: Global, sends: &[Sent]) -> Result<Vec<(u32, u32)>, AllocError>
-    ensures { IfOk result (λ v. v.items ≡ entries_of sends.now) }
-{
-    let mut images = BTreeMap::new(alloc);
-    for sent in sends {
-        images.insert(sent.from, sent.to)?;
-    }
-    images.into_iter().collect(alloc)
-}
-
-/// The sends with these pairs.
-fn sends_of(alloc: Global, pairs: &[(u32, u32)]) -> Result<Vec<Sent>, AllocError>
-    ensures { IfOk result (λ v. v.items ≡ list_map sent_of pairs.now) }
-{
-    pairs
-        .iter()
-        .map(|pair| Sent {
-            from: pair.0,
-            to: pair.1,
-        })
-        .collect(alloc)
-}
-
-/// The pairs of the vertices that are sent and their images.
-fn pairs_of(alloc: Global, sends: &[Sent]) -> Result<Vec<(u32, u32)>, AllocError>
-    ensures { IfOk result (λ v. v.items ≡ list_map pair_of sends.now) }
-{
-    sends.iter().map(|sent| (sent.from, sent.to)).collect(alloc)
-}
-
-/// The sends of a map, ascending by the vertex that is sent. No vertex is sent twice.
-fn ordered_sends(alloc: Global, sends: &[Sent]) -> Result<Listed<Sent>, AllocError>
-    requires { IsOnce sends.now }
-    ensures { IfOk result (λ v. AreOrderedSends sends.now v) }
-{
-    let pairs = ordered_pairs(alloc, sends)?;
-    Ok(Listed::from(sends_of(alloc, &pairs)?))
-}
-
-/// The map with these sends. No vertex is sent twice.
-fn map_of(alloc: Global, sends: &[Sent]) -> Result<MapOn, AllocError>
-    requires { IsOnce sends.now }
-    ensures { IfOk result (λ m. (v : ℕ) → get_or m v 0 ≡ image sends.now v) }
-{
-    let pairs = pairs_of(alloc, sends)?;
-    MapOn::of(alloc, &pairs)
-}
 
 /// Whether both ranks of a degree are above 0.
 fn is_live(from: &[u32], to: &[u32], q: usize) -> bool

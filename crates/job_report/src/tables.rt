@@ -2,45 +2,42 @@ ghost use Rattle.std.specs.Prelude.{◌≡◌, ◌≤◌, ◌+◌, ◌-◌, IfOk
 ghost use Rattle.std.specs.List.{AllZip};
 ghost use Rattle.fp_field.specs.Served.{served};
 ghost use Rattle.complex_index.specs.Levels.{IsComplexIndex};
-ghost use Rattle.report_law.specs.Live.{blocks as blocks_at, cartan_op as cartan_op_at, is_defined, lines as lines_at, products as products_at, target_degree};
-ghost use Rattle.report_law.specs.Matrices.{line_degree};
+ghost use Rattle.report_law.specs.Live.{blocks as blocks_at, cartan_op as cartan_op_at, is_defined, lines as lines_at, products as products_at};
 ghost use Rattle.report_law.specs.Parts.{op_named};
-ghost use Rattle.op_matrix.specs.Columns.{HasElement};
+ghost use Rattle.class_matrices.specs.Listed.{class_counts};
+ghost use Rattle.class_matrices.specs.Matrices.{AreMatrices, AreStored, IsOperationOf, IsProductOf};
 ghost use Rattle.cartan_check.specs.Verdicts.{HasElements, listed_answer};
-ghost use Rattle.job_report.specs.Listed.{class_counts};
-ghost use Rattle.job_report.specs.Parts.{AreStored, IsInsideVerdict, IsListedLine, IsListedOperation, IsListedProduct, IsSameAnswer};
+ghost use Rattle.job_report.specs.Parts.{IsInsideVerdict, IsListedLine, IsListedOperation, IsListedProduct, IsSameAnswer};
 
 use crate::columns::{listed_columns, number_pairs, pair_columns};
 use crate::depth::Depth;
-use cartan_check::{Verdict, cartan};
+use cartan_check::Verdict;
+use class_matrices::{Matrices, OperationMatrix, ProductMatrix};
 use comch_io::Listed;
 use complex_index::Indexed;
 use may_elements::MayTable;
-use op_matrix::{matrix, ring};
 use report::{
     Block, CartanAnswer, CartanPart, Line, Op, OpWord, OperationPart, Product, ProductPart,
 };
 use std::alloc::{AllocError, Global};
-use term_total::{blocks, cartan_op, lines, products, target};
+use term_total::{cartan_op, lines, target};
 
-/// The products of two degrees, each at most 15.
+/// The products of two degrees, as they are listed.
 fn product_part<const P: u32, B: Depth<P>>(
     alloc: Global,
     index: &Indexed,
     basis: &B,
-    product: Product,
+    matrix: &ProductMatrix<P>,
 ) -> Result<ProductPart, AllocError>
-    requires prime { IsTrue (served P) }
     requires complex { IsComplexIndex index.now }
     requires of { B.is_of index.now basis.now }
-    requires first { product.a ≤ 15 }
-    requires second { product.b ≤ 15 }
-    ensures { IfOk result (λ x. IsListedProduct B.keeps index.now (B.classes basis.now) product x) }
+    requires low { matrix.now.product.a + matrix.now.product.b ≤ 30 }
+    requires matrix { IsProductOf B.keeps index.now (B.classes basis.now) matrix.now }
+    ensures { IfOk result (λ x. IsListedProduct B.keeps index.now (B.classes basis.now) matrix.now.product x) }
 {
-    let Product { a, b } = product;
-    let columns = ring(alloc, basis, index, product)?;
+    let Product { a, b } = matrix.product;
     let pairs = number_pairs(alloc, basis.rank(a), basis.rank(b))?;
-    let columns = pair_columns::<P, B>(alloc, index, a + b, &pairs, &columns)?;
+    let columns = pair_columns::<P, B>(alloc, index, a + b, &pairs, &matrix.columns)?;
     Ok(ProductPart { a, b, columns })
 }
 
@@ -49,18 +46,17 @@ pub fn product_parts<const P: u32, B: Depth<P>>(
     alloc: Global,
     index: &Indexed,
     basis: &B,
-    ranks: &[u32],
+    matrices: &Matrices<P>,
 ) -> Result<Listed<ProductPart>, AllocError>
-    requires prime { IsTrue (served P) }
     requires complex { IsComplexIndex index.now }
     requires of { B.is_of index.now basis.now }
-    requires few { length ranks.now ≤ 16 }
-    ensures { IfOk result (λ xs. AllZip (IsListedProduct B.keeps index.now (B.classes basis.now)) (products_at ranks.now) xs) }
+    requires few { length index.now ≤ 16 }
+    requires matrices { AreMatrices B.keeps index.now (B.classes basis.now) (class_counts index.now (B.classes basis.now)) matrices.now }
+    ensures { IfOk result (λ xs. AllZip (IsListedProduct B.keeps index.now (B.classes basis.now)) (products_at (class_counts index.now (B.classes basis.now))) xs) }
 {
-    let live = products(alloc, ranks)?;
     let mut parts = Vec::new(alloc);
-    for product in live.as_slice() {
-        parts.push(product_part(alloc, index, basis, *product)?)?;
+    for matrix in matrices.products.as_slice() {
+        parts.push(product_part(alloc, index, basis, matrix)?)?;
     }
     Ok(Listed::from(parts))
 }
@@ -76,31 +72,26 @@ fn named(op: Op) -> (OpWord, u32)
     }
 }
 
-/// The matrix of an operation on a degree of at most 15.
+/// The matrix of an operation, as it is listed.
 fn operation_part<const P: u32, B: Depth<P>>(
     alloc: Global,
     index: &Indexed,
     basis: &B,
-    table: &MayTable<P>,
-    block: Block,
+    matrix: &OperationMatrix<P>,
 ) -> Result<OperationPart, AllocError>
-    requires prime { IsTrue (served P) }
     requires complex { IsComplexIndex index.now }
     requires of { B.is_of index.now basis.now }
-    requires low { block.from ≤ 15 }
-    requires defined { is_defined P block.from block.op ≡ true }
-    requires target { block.to ≡ target_degree P block.from block.op }
-    requires stored { HasElement P table.now block.from block.op }
-    ensures { IfOk result (λ o. IsListedOperation B.keeps index.now (B.classes basis.now) block o) }
+    requires matrix { IsOperationOf B.keeps index.now (B.classes basis.now) matrix.now }
+    ensures { IfOk result (λ o. IsListedOperation B.keeps index.now (B.classes basis.now) matrix.now.block o) }
 {
-    let columns = matrix(alloc, basis, index, table, block)?;
-    let columns = listed_columns::<P, B>(alloc, index, block.to, &columns)?;
-    let (word, number) = named(block.op);
+    let Block { op, from, to } = matrix.block;
+    let columns = listed_columns::<P, B>(alloc, index, to, &matrix.columns)?;
+    let (word, number) = named(op);
     Ok(OperationPart {
         word,
         number,
-        from: block.from,
-        to: block.to,
+        from,
+        to,
         columns,
     })
 }
@@ -110,20 +101,16 @@ pub fn operation_parts<const P: u32, B: Depth<P>>(
     alloc: Global,
     index: &Indexed,
     basis: &B,
-    table: &MayTable<P>,
-    ranks: &[u32],
+    matrices: &Matrices<P>,
 ) -> Result<Listed<OperationPart>, AllocError>
-    requires prime { IsTrue (served P) }
     requires complex { IsComplexIndex index.now }
     requires of { B.is_of index.now basis.now }
-    requires few { length ranks.now ≤ 16 }
-    requires stored { AreStored P table.now ranks.now }
-    ensures { IfOk result (λ xs. AllZip (IsListedOperation B.keeps index.now (B.classes basis.now)) (blocks_at P ranks.now) xs) }
+    requires matrices { AreMatrices B.keeps index.now (B.classes basis.now) (class_counts index.now (B.classes basis.now)) matrices.now }
+    ensures { IfOk result (λ xs. AllZip (IsListedOperation B.keeps index.now (B.classes basis.now)) (blocks_at P (class_counts index.now (B.classes basis.now))) xs) }
 {
-    let live = blocks(alloc, P, ranks)?;
     let mut parts = Vec::new(alloc);
-    for block in live.as_slice() {
-        parts.push(operation_part(alloc, index, basis, table, *block)?)?;
+    for matrix in matrices.operations.as_slice() {
+        parts.push(operation_part(alloc, index, basis, matrix)?)?;
     }
     Ok(Listed::from(parts))
 }
@@ -149,17 +136,19 @@ fn answer_of<const P: u32, B: Depth<P>>(
     }
 }
 
-/// The verdict on a line.
+/// The verdict on a line, as it is listed.
 fn cartan_part<const P: u32, B: Depth<P>>(
     alloc: Global,
     index: &Indexed,
     basis: &B,
     table: &MayTable<P>,
+    matrices: &Matrices<P>,
     line: Line,
 ) -> Result<CartanPart, AllocError>
     requires prime { IsTrue (served P) }
     requires complex { IsComplexIndex index.now }
     requires of { B.is_of index.now basis.now }
+    requires matrices { AreMatrices B.keeps index.now (B.classes basis.now) (class_counts index.now (B.classes basis.now)) matrices.now }
     requires low { line.a + line.b ≤ 15 }
     requires defined { is_defined P (line.a + line.b) (cartan_op_at P line.n) ≡ true }
     requires stored { HasElements P table.now line }
@@ -167,7 +156,7 @@ fn cartan_part<const P: u32, B: Depth<P>>(
     requires second { (1 ≤ line.j) × (line.j ≤ length (B.classes basis.now line.b)) }
     ensures { IfOk result (λ l. IsListedLine B.keeps index.now (B.classes basis.now) line l) }
 {
-    let verdict = cartan(alloc, basis, index, table, line)?;
+    let verdict = basis.verdict(alloc, index, table, matrices, line)?;
     let Line { a, i, b, j, n } = line;
     let Some(degree) = target(P, cartan_op(P, n), a + b) else {
         unreachable!()
@@ -189,11 +178,13 @@ pub fn cartan_parts<const P: u32, B: Depth<P>>(
     index: &Indexed,
     basis: &B,
     table: &MayTable<P>,
+    matrices: &Matrices<P>,
     ranks: &[u32],
 ) -> Result<Listed<CartanPart>, AllocError>
     requires prime { IsTrue (served P) }
     requires complex { IsComplexIndex index.now }
     requires of { B.is_of index.now basis.now }
+    requires matrices { AreMatrices B.keeps index.now (B.classes basis.now) (class_counts index.now (B.classes basis.now)) matrices.now }
     requires few { length ranks.now ≤ 16 }
     requires ranks { ranks.now ≡ class_counts index.now (B.classes basis.now) }
     requires stored { AreStored P table.now ranks.now }
@@ -202,7 +193,7 @@ pub fn cartan_parts<const P: u32, B: Depth<P>>(
     let live = lines(alloc, P, ranks)?;
     let mut parts = Vec::new(alloc);
     for line in live.as_slice() {
-        parts.push(cartan_part(alloc, index, basis, table, *line)?)?;
+        parts.push(cartan_part(alloc, index, basis, table, matrices, *line)?)?;
     }
     Ok(Listed::from(parts))
 }

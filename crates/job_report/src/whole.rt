@@ -2,13 +2,14 @@ ghost use Rattle.std.specs.Prelude.{◌≡◌, ◌≤◌, ◌^◌, ℕ, Err, IfO
 ghost use Rattle.std.specs.List.{AllZip};
 ghost use Rattle.fp_field.specs.Served.{served};
 ghost use Rattle.linear_law.specs.Lists.{Each};
+ghost use Rattle.cohomology.specs.Cycles.{AreClassesOf};
 ghost use Rattle.complex_file.specs.Views.{content};
 ghost use Rattle.report.specs.Forms.{has_details};
 ghost use Rattle.report_law.specs.Reports.{IsReportOf};
 ghost use Rattle.report_law.specs.Terms.{IsWithinLimit, PassesLimit, passing_sum};
 ghost use Rattle.term_total.specs.Counts.{IsPart};
 ghost use Rattle.job_report.specs.Jobs.{HasStored, IsKnown};
-ghost use Rattle.job_report.specs.Parts.{AreStored};
+ghost use Rattle.class_matrices.specs.Matrices.{AreStored};
 
 use crate::MakeRefused;
 use crate::complexes::{basis_parts, complex_parts};
@@ -116,42 +117,25 @@ fn started<const P: u32, B: Depth<P>>(
     }
 }
 
-/// The report of a job over the bases that the count was made from.
-fn short<const P: u32, B: Depth<P>>(
+/// The report of a job of whose complexes this is known, in a form: a certificate is made over their whole cohomology.
+fn finished<const P: u32>(
     alloc: Global,
     job: &Job,
-    limit: u64,
-) -> Result<Report, MakeRefused>
+    form: Form,
+    known: Vec<Known<Classes<P>>>,
+    table: &MayTable<P>,
+) -> Result<Report, AllocError>
     requires prime { job.now.prime ≡ P }
-    requires low { limit ≤ 10 ^ 12 }
-    ensures report { IfOk result (λ r. (form : Form) → has_details form ≡ B.keeps → IsReportOf form (content job.now) r) }
-    ensures within { OnOk result (IsWithinLimit (content job.now) limit) }
-    ensures refused { (count most : ℕ) → result ≡ Err (MakeRefused.TooManyTerms count most) → (most ≡ limit) × PassesLimit (content job.now) limit count }
+    requires known { AllZip (IsKnown (AreClassesOf P)) job.now.complexes known.items }
+    requires stored { Each (HasStored P table.now) job.now.complexes }
+    ensures { IfOk result (λ r. IsReportOf form (content job.now) r) }
 {
-    match started::<P, B>(alloc, job, limit) {
-        Ok((known, table)) => Ok(report_of(alloc, job, &known, &table)?),
-        Err(refused) => Err(refused),
-    }
-}
-
-/// The report of a job over bases of another depth than those that the count was made from.
-fn deep<const P: u32, A: Depth<P>, B: Depth<P>>(
-    alloc: Global,
-    job: &Job,
-    limit: u64,
-) -> Result<Report, MakeRefused>
-    requires prime { job.now.prime ≡ P }
-    requires low { limit ≤ 10 ^ 12 }
-    ensures report { IfOk result (λ r. (form : Form) → has_details form ≡ B.keeps → IsReportOf form (content job.now) r) }
-    ensures within { OnOk result (IsWithinLimit (content job.now) limit) }
-    ensures refused { (count most : ℕ) → result ≡ Err (MakeRefused.TooManyTerms count most) → (most ≡ limit) × PassesLimit (content job.now) limit count }
-{
-    match started::<P, A>(alloc, job, limit) {
-        Ok((known, table)) => {
-            let known = deepened::<P, A, B>(alloc, known)?;
-            Ok(report_of(alloc, job, &known, &table)?)
+    match form {
+        Form::Certificate => {
+            let known = deepened::<P, Classes<P>, Cohomology<P>>(alloc, known)?;
+            report_of(alloc, job, &known, table)
         }
-        Err(refused) => Err(refused),
+        Form::Basis | Form::Short => report_of(alloc, job, &known, table),
     }
 }
 
@@ -168,9 +152,9 @@ fn report_over<const P: u32>(
     ensures within { IfOk result (λ r. IsWithinLimit (content job.now) limit) }
     ensures refused { (count most : ℕ) → result ≡ Err (MakeRefused.TooManyTerms count most) → (most ≡ limit) × PassesLimit (content job.now) limit count }
 {
-    match form {
-        Form::Certificate => deep::<P, Classes<P>, Cohomology<P>>(alloc, job, limit),
-        Form::Basis | Form::Short => short::<P, Classes<P>>(alloc, job, limit),
+    match started::<P, Classes<P>>(alloc, job, limit) {
+        Ok((known, table)) => Ok(finished(alloc, job, form, known, &table)?),
+        Err(refused) => Err(refused),
     }
 }
 

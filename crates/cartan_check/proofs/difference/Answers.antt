@@ -2,11 +2,23 @@ use Rattle.std.proofs.Common.{◌≡◌, ◌<◌, ◌≤◌, ◌%◌, ◌∙◌,
 use Rattle.std.proofs.lemmas.List.{take_more}
 use Rattle.linear_law.specs.Congruence.{negated}
 use Rattle.linear_law.proofs.ListLemmas.{each_get_or}
-use Rattle.report_law.specs.Live.{cartan_pairs}
+use Rattle.report.specs.declared.plan.Op.{Op}
+use Rattle.report_law.specs.Live.{cartan_pairs, target_degree}
 use Rattle.op_matrix.proofs.ListLemmas.{whole}
 use Rattle.cartan_check.specs.Differences.{IsLess, IsLinePair, IsPart}
-use Rattle.cartan_check.proofs.DifferenceLemmas.{line-pairs, one-less}
+use Rattle.cartan_check.proofs.DifferenceLemmas.{IsResultRow, line-pairs, one-less, whole-side}
 use Rattle.cartan_check.proofs.difference.Goals as goal
+
+pub loop-pair-init : goal.loop-pair-init
+loop-pair-init g c =
+    let p = g.row.P in
+    let levels = c.args.index.now in
+    let z = c.in_ok-product.product in
+    let r = c.in_ok-difference.difference in
+    whole-side p c.requires.prime levels c.args.line c.args.x.now c.args.y.now c.requires.first c.requires.second z r c.requires.defined
+    c.in_ok-product.ensures.degree (record { values = c.in_ok-product.ensures.values; closed = c.in_ok-product.ensures.closed })
+    (c.in_ok-difference.ensures.degree ∙ ap (λ (op : Op). target_degree p z.degree op) c.cartan_op.ensures)
+    (subst (λ (op : Op). IsResultRow p levels op z.degree z.row r.row) c.cartan_op.ensures (record { operation = c.in_ok-difference.ensures.operation; closed = c.in_ok-difference.ensures.closed }))
 
 pub part-requires : goal.part-requires
 part-requires g c =

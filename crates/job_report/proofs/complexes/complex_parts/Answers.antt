@@ -9,7 +9,7 @@ use Rattle.report_law.specs.Parts.{classes_of}
 use Rattle.report_law.specs.Reports.{IsComplexPart}
 use Rattle.job_report.specs.declared.known.Known.{Known}
 use Rattle.job_report.specs.Jobs.{CanBeIndexed, HasStored, IsKnown}
-use Rattle.job_report.specs.Listed.{listed_classes}
+use Rattle.class_matrices.specs.Listed.{listed_classes}
 use Rattle.job_report.proofs.PartLemmas.{all-listed}
 use Rattle.job_report.proofs.Zips.{all-items, zip-get, zip-turn-plain}
 use Rattle.job_report.proofs.complexes.complex_parts.Goals as goal

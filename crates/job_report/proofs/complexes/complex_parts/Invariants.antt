@@ -4,7 +4,7 @@ use Rattle.report.specs.declared.complex.ComplexPart.{ComplexPart}
 use Rattle.report_law.specs.Parts.{classes_of}
 use Rattle.report_law.specs.Reports.{IsComplexPart}
 use Rattle.job_report.specs.declared.known.Known.{Known}
-use Rattle.job_report.specs.Listed.{listed_classes}
+use Rattle.class_matrices.specs.Listed.{listed_classes}
 use Rattle.job_report.proofs.complexes.complex_parts.Given as goal
 
 abbrev pub invariant-loop-block : goal.invariant-loop-block

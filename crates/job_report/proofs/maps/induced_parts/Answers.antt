@@ -1,7 +1,7 @@
 use Rattle.std.proofs.Common.{◌∙◌, ℕ, List, ap, ap₂, arith, get_or, length}
 use Rattle.report_law.specs.Live.{induced_degrees}
 use Rattle.job_report.specs.Parts.{IsListedInduced}
-use Rattle.job_report.proofs.ClassLemmas.{numbers-count}
+use Rattle.class_matrices.proofs.ListLemmas.{numbers-count}
 use Rattle.job_report.proofs.Zips.{all-items, zip-next}
 use Rattle.job_report.proofs.maps.induced_parts.Goals as goal
 

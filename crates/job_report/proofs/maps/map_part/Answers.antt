@@ -7,10 +7,10 @@ use Rattle.complex_file.specs.Jobs.{facets_at}
 use Rattle.complex_file.specs.Maps.{image}
 use Rattle.report_law.specs.Reports.{AreOrderedSends}
 use Rattle.job_report.specs.Jobs.{IsKnown}
-use Rattle.job_report.specs.Sends.{IsOnce}
+use Rattle.ordered_sends.specs.Sends.{IsOnce}
 use Rattle.job_report.proofs.JobLemmas.{map-in}
 use Rattle.job_report.proofs.MapLemmas.{known-at, map-is}
-use Rattle.job_report.proofs.SendLemmas.{once}
+use Rattle.ordered_sends.proofs.SendLemmas.{once}
 use Rattle.job_report.proofs.maps.map_part.Goals as goal
 
 pub map_of-requires : goal.map_of-requires

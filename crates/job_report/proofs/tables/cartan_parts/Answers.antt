@@ -3,8 +3,9 @@ use Rattle.report_law.specs.Live.{lines}
 use Rattle.job_report.specs.Parts.{IsListedLine}
 use Rattle.job_report.proofs.PlanLemmas.{line-classes, line-low, line-stored}
 use Rattle.report_law.proofs.Verdicts.{of-lines}
-use Rattle.job_report.proofs.ClassLemmas.{rank-at}
-use Rattle.job_report.proofs.Zips.{all-items, item-among, zip-next}
+use Rattle.class_matrices.proofs.ClassLemmas.{rank-at}
+use Rattle.class_matrices.proofs.ListLemmas.{item-among}
+use Rattle.job_report.proofs.Zips.{all-items, zip-next}
 use Rattle.job_report.proofs.tables.cartan_parts.Goals as goal
 
 pub cartan_part-requires : goal.cartan_part-requires
@@ -17,18 +18,24 @@ cartan_part-requires g c =
     let rank = λ (i n : ℕ) (a : 1 ≤ i) (l : i ≤ get_or ranks n 0). rank-at p c.args.index.now (g.B.Basis.classes c.args.basis.now) (g.met.B.Basis.canonical c.args.index.now c.args.basis.now c.requires.of) i n a (subst (λ (rs : List ℕ). i ≤ get_or rs n 0) c.requires.ranks l) in (
       lit< tt,
       (
-        c.requires.prime,
+        lit< tt,
         (
-          c.requires.complex,
+          c.requires.prime,
           (
-            c.requires.of,
+            c.requires.complex,
             (
-              line-low ranks c.requires.few p _ m,
+              c.requires.of,
               (
-                live.0,
+                c.requires.matrices,
                 (
-                  line-stored p c.args.table.now ranks c.requires.stored _ m,
-                  ((k.first.0, rank _ _ k.first.0 k.first.1), (k.second.0, rank _ _ k.second.0 k.second.1)),
+                  line-low ranks c.requires.few p _ m,
+                  (
+                    live.0,
+                    (
+                      line-stored p c.args.table.now ranks c.requires.stored _ m,
+                      ((k.first.0, rank _ _ k.first.0 k.first.1), (k.second.0, rank _ _ k.second.0 k.second.1)),
+                    ),
+                  ),
                 ),
               ),
             ),

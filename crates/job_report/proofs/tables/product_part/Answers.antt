@@ -14,13 +14,14 @@ pair_columns-requires g c =
     let classes = g.B.Basis.classes c.args.basis.now in
     let canonical = g.met.B.Basis.canonical levels c.args.basis.now c.requires.of in
     let is = c.requires.complex in
-    let x = c.args.product in
+    let matrix = c.args.matrix.now in
+    let x = matrix.product in
     let e = c.deref-2.ensures.value in (
       lit< tt,
       (
         subst (Each (inside p g.B.Basis.keeps levels classes canonical (x.a + x.b))) (sym e)
-            (products-inside p g.B.Basis.keeps levels classes canonical x c.in_ok-columns.columns.items c.in_ok-columns.ensures is.facets is.index),
-        same-count p g.B.Basis.keeps levels classes canonical x c.in_ok-columns.columns.items c.in_ok-columns.ensures is.facets is.index c.deref.result.now
+            (products-inside p g.B.Basis.keeps levels classes canonical x matrix.columns.items c.requires.matrix is.facets is.index),
+        same-count p g.B.Basis.keeps levels classes canonical x matrix.columns.items c.requires.matrix is.facets is.index c.deref.result.now
             (c.deref.ensures.value ∙ c.in_ok-pairs.ensures ∙ ap₂ number_pairs c.rank.ensures c.rank-2.ensures)
             ∙ ap (λ (cs : List (Column p)). length cs) (sym e),
       ),
@@ -32,6 +33,8 @@ returns g c =
     let levels = c.args.index.now in
     let classes = g.B.Basis.classes c.args.basis.now in
     let canonical = g.met.B.Basis.canonical levels c.args.basis.now c.requires.of in
-    listed-product p g.B.Basis.keeps levels classes canonical c.args.product c.in_ok-columns.columns.items c.in_ok-columns.ensures c.in_ok-columns-2.columns
-    (c.in_ok-columns-2.ensures.numbers ∙ c.deref.ensures.value ∙ c.in_ok-pairs.ensures ∙ ap₂ number_pairs c.rank.ensures c.rank-2.ensures)
-    (subst (λ (cs : List (Column p)). AllZip (IsListedColumn {p = p} g.B.Basis.keeps levels (c.args.product.a + c.args.product.b)) cs (map unnumbered c.in_ok-columns-2.columns)) c.deref-2.ensures.value c.in_ok-columns-2.ensures.columns)
+    let matrix = c.args.matrix.now in
+    let x = matrix.product in
+    listed-product p g.B.Basis.keeps levels classes canonical x matrix.columns.items c.requires.matrix c.in_ok-columns.columns
+    (c.in_ok-columns.ensures.numbers ∙ c.deref.ensures.value ∙ c.in_ok-pairs.ensures ∙ ap₂ number_pairs c.rank.ensures c.rank-2.ensures)
+    (subst (λ (cs : List (Column p)). AllZip (IsListedColumn {p = p} g.B.Basis.keeps levels (x.a + x.b)) cs (map unnumbered c.in_ok-columns.columns)) c.deref-2.ensures.value c.in_ok-columns.ensures.columns)

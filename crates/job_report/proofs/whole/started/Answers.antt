@@ -8,9 +8,9 @@ use Rattle.report_law.specs.Terms.{AreSizes, passing_sum}
 use Rattle.term_total.specs.Counts.{IsPart}
 use Rattle.job_report.specs.declared.known.Known.{Known}
 use Rattle.job_report.specs.Jobs.{CanBeIndexed, IsKnown, IsSize}
-use Rattle.job_report.specs.Parts.{AreStored}
+use Rattle.class_matrices.specs.Matrices.{AreStored}
 use Rattle.job_report.proofs.JobLemmas.{ascending-facets, is-served, job-fits, same-error}
-use Rattle.job_report.proofs.PartLemmas.{all-parts, all-sizes, all-stored}
+use Rattle.job_report.proofs.PartLemmas.{all-parts, all-stored, known-sizes}
 use Rattle.job_report.proofs.whole.started.Goals as goal
 
 pub known_of-requires : goal.known_of-requires
@@ -39,15 +39,13 @@ pub returns-in-Ok : goal.returns-in-Ok
 returns-in-Ok g c =
     let p : ℕ = g.row.P in
     let job = c.args.job.now in
-    let served = is-served job.prime p job.complexes job.maps job.kept c.requires.prime in
     let fits = job-fits job.prime job.complexes job.maps job.kept in
     let zs = c.in_ok-sizes.sizes.items in
-    let known = subst (λ (bs : List ComplexBlock). AllZip (IsKnown g.B.Basis.is_of) bs c.in_ok-known.known.items) c.as_slice.ensures c.in_ok-known.ensures in
-    let sizes = all-sizes p g.B.Basis.is_of g.B.Basis.classes g.met.B.Basis.canonical job.complexes c.in_ok-known.known.items zs (ascending-facets job.complexes fits) known
-    (subst (λ (ks : List (Known _)). AllZip (IsSize {p = p} g.B.Basis.classes) ks zs) c.deref.ensures.value c.in_ok-sizes.ensures) in
+    let sizes = known-sizes p g.B.Basis.is_of g.B.Basis.classes g.met.B.Basis.canonical job.complexes _ c.in_ok-known.known.items _ zs c.as_slice.ensures c.deref.ensures.value fits c.in_ok-known.ensures c.in_ok-sizes.ensures in
     record {
-      known = known;
-      stored = all-stored p c.in-Ok.table job.complexes zs served (ascending-facets job.complexes fits) sizes (subst (Each (λ (z : Sizes). AreStored p c.in-Ok.table z.ranks)) c.deref-2.ensures.value c.in-Ok.ensures.stored);
+      known = subst (λ (bs : List ComplexBlock). AllZip (IsKnown g.B.Basis.is_of) bs c.in_ok-known.known.items) c.as_slice.ensures c.in_ok-known.ensures;
+      stored = all-stored p c.in-Ok.table job.complexes zs (is-served job.prime p job.complexes job.maps job.kept c.requires.prime) (ascending-facets job.complexes fits) sizes
+          (subst (Each (λ (z : Sizes). AreStored p c.in-Ok.table z.ranks)) c.deref-2.ensures.value c.in-Ok.ensures.stored);
       within = record {
         sizes = zs;
         are = subst (λ (q : ℕ). AllZip (λ (b : ComplexBlock) (z : Sizes). AreSizes q b.facets z) job.complexes zs) (sym c.requires.prime) sizes;
@@ -60,12 +58,9 @@ pub returns-in-Err : goal.returns-in-Err
 returns-in-Err g c =
     let p : ℕ = g.row.P in
     let job = c.args.job.now in
-    let served = is-served job.prime p job.complexes job.maps job.kept c.requires.prime in
-    let fits = job-fits job.prime job.complexes job.maps job.kept in
     let zs = c.in_ok-sizes.sizes.items in
-    let known = subst (λ (bs : List ComplexBlock). AllZip (IsKnown g.B.Basis.is_of) bs c.in_ok-known.known.items) c.as_slice.ensures c.in_ok-known.ensures in
-    let sizes = all-sizes p g.B.Basis.is_of g.B.Basis.classes g.met.B.Basis.canonical job.complexes c.in_ok-known.known.items zs (ascending-facets job.complexes fits) known
-    (subst (λ (ks : List (Known _)). AllZip (IsSize {p = p} g.B.Basis.classes) ks zs) c.deref.ensures.value c.in_ok-sizes.ensures) in
+    let sizes = known-sizes p g.B.Basis.is_of g.B.Basis.classes g.met.B.Basis.canonical job.complexes _ c.in_ok-known.known.items _ zs c.as_slice.ensures c.deref.ensures.value (job-fits job.prime job.complexes job.maps job.kept)
+    c.in_ok-known.ensures c.in_ok-sizes.ensures in
     record {
       known = tt;
       stored = tt;

@@ -1,0 +1,4 @@
+pub mod Listed
+pub mod Matrices
+pub mod Sums
+pub mod Coordinates
