@@ -1,0 +1,4 @@
+pub mod NameLemmas
+mod FacetLemmas
+mod SendLemmas
+pub mod BlockLemmas

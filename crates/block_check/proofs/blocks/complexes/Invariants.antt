@@ -1,0 +1,14 @@
+use Rattle.std.proofs.Common.{◌≡◌, ℕ, ◌+◌, [], drop, map, sum_by, take}
+use Rattle.certificate_law.specs.Conditions.{Asks}
+use Rattle.certificate_law.specs.Parts.{itself}
+use Rattle.certificate_law.specs.Stated.{behind, complex_stated}
+use Rattle.certificate_walk.specs.Sizes.{complex_lines}
+use Rattle.certificate_walk.proofs.WalkLemmas.{Leads}
+use Rattle.block_check.proofs.blocks.complexes.Given as goal
+
+abbrev pub invariant-loop-place : goal.invariant-loop-place
+invariant-loop-place l = record {
+  counted : l.at + sum_by complex_lines (drop l.place l.parts) ≡ l.before + sum_by complex_lines l.parts;
+  kept : l.blocks.items ≡ map itself (take l.place l.parts);
+  walked : (p : ℕ) → Leads (Asks p 1) l.before (behind complex_stated [] l.parts) l.at (behind complex_stated (take l.place l.parts) (drop l.place l.parts));
+}

@@ -1,0 +1,12 @@
+use Rattle.std.proofs.Common.{◌≡◌, ℕ, ◌+◌, [], drop, sum_by, take}
+use Rattle.certificate_law.specs.Conditions.{Asks}
+use Rattle.certificate_law.specs.Stated.{behind, map_stated}
+use Rattle.certificate_walk.specs.Sizes.{map_lines}
+use Rattle.certificate_walk.proofs.WalkLemmas.{Leads}
+use Rattle.block_check.proofs.maps.maps.Given as goal
+
+abbrev pub invariant-loop-place : goal.invariant-loop-place
+invariant-loop-place l = record {
+  counted : l.at + sum_by map_lines (drop l.place l.parts) ≡ l.before + sum_by map_lines l.parts;
+  walked : (p : ℕ) → Leads (Asks p 1) l.before (behind (map_stated l.complexes) [] l.parts) l.at (behind (map_stated l.complexes) (take l.place l.parts) (drop l.place l.parts));
+}

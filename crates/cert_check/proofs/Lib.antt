@@ -1,0 +1,3 @@
+mod PartLemmas
+mod FreeLemmas
+mod ReadyLemmas

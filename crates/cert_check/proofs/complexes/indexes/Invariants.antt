@@ -1,0 +1,7 @@
+use Rattle.std.proofs.Common.{take}
+use Rattle.std.specs.List.{AllZip}
+use Rattle.complex_index.specs.Levels.{IsIndexOf}
+use Rattle.cert_check.proofs.complexes.indexes.Given as goal
+
+abbrev pub invariant-loop-block : goal.invariant-loop-block
+invariant-loop-block l = AllZip (λ x b. IsIndexOf b.facets x) l.indexes.items (take l.block-index l.blocks)

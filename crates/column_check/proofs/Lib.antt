@@ -1,0 +1,10 @@
+pub mod ListLemmas
+pub mod SumLemmas
+pub mod ColumnLemmas
+pub mod ListingLemmas
+pub mod FormedLemmas
+pub mod ReadyLemmas
+pub mod WalkLemmas
+pub mod MapLemmas
+pub mod CycleLemmas
+pub mod SectionLemmas

@@ -1,0 +1,10 @@
+use Rattle.std.proofs.Common.{drop}
+use Rattle.certificate_law.specs.Conditions.{Asks}
+use Rattle.certificate_law.specs.Stated.{numbered, operation_stated}
+use Rattle.certificate_walk.proofs.WalkLemmas.{Leads}
+use Rattle.column_check.proofs.operations.operations_fault.Given as goal
+
+abbrev pub invariant-loop-part : goal.invariant-loop-part
+invariant-loop-part g l =
+    let c = l.listing.part.now in
+    Leads (Asks g.row.P 6) l.before (numbered (operation_stated c) 0 c.operations) l.at (numbered (operation_stated c) l.part-index (drop l.part-index c.operations))

@@ -1,0 +1,82 @@
+-- What earlier conditions give of the blocks, columns and lines whose sums are tested.
+use Rattle.std.specs.Prelude.{◌≡◌, ℕ, ◌+◌, ◌^◌, ◌<◌, ◌≤◌, true, List, length, ℤ}
+use Rattle.std.specs.List.{list_all}
+use Rattle.linear_law.specs.Lists.{Each}
+use Rattle.report.specs.declared.columns.CartanAnswer.{CartanAnswer}
+use Rattle.report.specs.declared.columns.CartanAnswer.TheVariants.{Yes, No}
+use Rattle.report.specs.declared.columns.CartanPart.{CartanPart}
+use Rattle.report.specs.declared.columns.Column.{Column}
+use Rattle.report.specs.declared.columns.OperationPart.{OperationPart}
+use Rattle.report.specs.declared.columns.PairColumn.{PairColumn}
+use Rattle.report.specs.declared.columns.ProductPart.{ProductPart}
+use Rattle.report.specs.declared.complex.ComplexPart.{ComplexPart}
+use Rattle.report.specs.declared.map.InducedPart.{InducedPart}
+use Rattle.report.specs.declared.map.MapPart.{MapPart}
+use Rattle.report_law.specs.Live.{cartan_op, is_defined, target_degree}
+use Rattle.report_law.specs.Parts.{line_of, op_of}
+use Rattle.report_text_law.specs.Lines.{complex_lines, map_lines}
+use Rattle.report_text_law.specs.WellFormed.{is_chain, is_line}
+use Rattle.certificate_law.specs.Conditions.{Asks}
+use Rattle.certificate_law.specs.Parts.{rank_in}
+use Rattle.certificate_law.specs.Stated.{complex_stated, map_between}
+use Rattle.line_difference.specs.Elements.{HasElement, HasElements}
+
+-- The lines of the complex are well formed, and meet the conditions 2, 3 and 5.
+pub record HasPassed (p : ℕ) (c : ComplexPart) : Type 0 where
+  pub formed : list_all (is_line p) (complex_lines c) ≡ true
+  pub degrees : (earlier : List ComplexPart) → Each (Asks p 2) (complex_stated earlier c)
+  pub classes : (earlier : List ComplexPart) → Each (Asks p 3) (complex_stated earlier c)
+  pub counts : (earlier : List ComplexPart) → Each (Asks p 5) (complex_stated earlier c)
+
+-- The lines of the map are well formed, and meet condition 5.
+pub record HasPassedMap (p : ℕ) (from to : ComplexPart) (m : MapPart) : Type 0 where
+  pub formed : list_all (is_line p) (map_lines m) ≡ true
+  pub counts : (cs : List ComplexPart) (earlier : List MapPart) → Each (Asks p 5) (map_between from to cs earlier m)
+
+-- ---- columns and blocks
+
+pub record IsPairReady (p : ℕ) (c : ComplexPart) (x : ProductPart) (y : PairColumn) : Type 0 where
+  pub first : (1 ≤ y.i) × (y.i ≤ rank_in c x.a)
+  pub second : (1 ≤ y.j) × (y.j ≤ rank_in c x.b)
+  pub size : length y.values ≡ rank_in c (x.a + x.b)
+  pub formed : is_chain p y.primitive ≡ true
+
+pub record IsProductReady (p : ℕ) (c : ComplexPart) (x : ProductPart) : Type 0 where
+  pub low : x.a + x.b ≤ 15
+  pub live : 0 < rank_in c (x.a + x.b)
+  pub columns : Each (IsPairReady p c x) x.columns
+
+-- a column with this many values
+pub record IsColumnReady (p rows : ℕ) (y : Column) : Type 0 where
+  pub size : length y.values ≡ rows
+  pub formed : is_chain p y.primitive ≡ true
+
+pub record IsOperationReady (p : ℕ) (table : List (ℕ × List (List ℕ × ℤ))) (c : ComplexPart) (x : OperationPart) : Type 0 where
+  pub low : x.from ≤ 15
+  pub live : 0 < rank_in c x.to
+  pub defined : is_defined p x.from (op_of x) ≡ true
+  pub target : x.to ≡ target_degree p x.from (op_of x)
+  pub stored : HasElement p table x.from (op_of x)
+  pub count : length x.columns ≤ rank_in c x.from
+  pub few : length x.columns < 2 ^ 32
+  pub columns : Each (IsColumnReady p (rank_in c x.to)) x.columns
+
+pub record IsInducedReady (p : ℕ) (from to : ComplexPart) (x : InducedPart) : Type 0 where
+  pub live : 0 < rank_in from x.q
+  pub count : length x.columns ≤ rank_in to x.q
+  pub few : length x.columns < 2 ^ 32
+  pub columns : Each (IsColumnReady p (rank_in from x.q)) x.columns
+
+-- ---- Cartan lines
+
+abbrev pub IsFormedAnswer : ℕ → CartanAnswer → Type 0
+IsFormedAnswer p (Yes primitive) = is_chain p primitive ≡ true
+IsFormedAnswer p (No value cycle) = is_chain p cycle ≡ true
+
+pub record IsCartanReady (p : ℕ) (table : List (ℕ × List (List ℕ × ℤ))) (c : ComplexPart) (x : CartanPart) : Type 0 where
+  pub low : x.a + x.b ≤ 15
+  pub defined : is_defined p (x.a + x.b) (cartan_op p x.n) ≡ true
+  pub stored : HasElements p table (line_of x)
+  pub first : (1 ≤ x.i) × (x.i ≤ rank_in c x.a)
+  pub second : (1 ≤ x.j) × (x.j ≤ rank_in c x.b)
+  pub formed : IsFormedAnswer p x.answer

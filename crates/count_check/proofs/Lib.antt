@@ -1,0 +1,5 @@
+mod PlaceLemmas
+pub mod SectionLemmas
+mod LiveLemmas
+pub mod TotalLemmas
+pub mod ComplexWalks

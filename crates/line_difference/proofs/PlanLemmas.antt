@@ -1,0 +1,127 @@
+-- The live products, blocks and lines of a complex, and what is stored for them.
+use Rattle.std.proofs.Common.{◌≡◌, ◌∙◌, ℕ, ◌+◌, ◌<◌, ◌≤◌, ◌&&◌, inl, inr, Bool, true, List, [], ◌∷◌, length, map, get_or, arith, refl, sym, ap, subst}
+use Rattle.std.specs.Prelude.{IsSome, flat_map, fold, if◌then◌else◌, None, Some, unwrap_or, ℤ}
+use Rattle.std.specs.declared.option.Option.{Option}
+use Rattle.std.specs.BTreeSet.{insert_key}
+use Rattle.std.specs.Ordering.{nat_cmp}
+use Rattle.std.specs.FinMap.{nat_cmp-IsAntisymmetric}
+use Rattle.std.proofs.lemmas.Bool.{and_parts, cases_lt, ltb-true}
+use Rattle.signed_sum.specs.Lists.{numbers_from}
+use Rattle.linear_law.specs.Lists.{Among, Each}
+use Rattle.linear_law.proofs.ListLemmas.{among_left, among_map, among_right, each_among}
+use Rattle.simplicial_law.proofs.OrderedKeys.{insert_keeps, insert_puts}
+use Rattle.may_elements.specs.Stored.{stored_at}
+use Rattle.report.specs.declared.plan.Block.{Block}
+use Rattle.report.specs.declared.plan.Line.{Line}
+use Rattle.report.specs.declared.plan.Op.{Op}
+use Rattle.report.specs.declared.plan.Op.TheVariants.{Square, Power, BocksteinPower}
+use Rattle.report.specs.declared.plan.Product.{Product}
+use Rattle.report.specs.declared.plan.Sizes.{Sizes}
+use Rattle.report_law.specs.Live.{all_lines, blocks, cartan_op, cartan_pairs, class_numbers, degrees, element_degree, has_class, is_defined, lines, products, target, target_degree}
+use Rattle.report_law.specs.Terms.{complex_elements, elements, line_elements}
+use Rattle.report_law.proofs.Lists.{each-of, get_or-past, in-flat_map, of-filter, of-flat_map, of-map, of-numbers}
+use Rattle.report_law.proofs.Verdicts.{of-lines}
+use Rattle.line_difference.specs.Elements.{AreStored, HasElement, HasElements}
+
+-- what was inserted stands among the keys
+key-kept : (vs ks : List ℕ) (x : ℕ) → Among x ks → Among x (fold (insert_key nat_cmp) ks vs)
+key-kept [] ks x m = m
+key-kept (v ∷ vs) ks x m = key-kept vs (insert_key nat_cmp ks v) x (insert_keeps nat_cmp x v ks m)
+
+key-put : (vs ks : List ℕ) (x : ℕ) → Among x vs → Among x (fold (insert_key nat_cmp) ks vs)
+key-put [] ks x m = elim m [ ]
+key-put (v ∷ vs) ks x m = elim m [
+  | inl e ↦ key-kept vs (insert_key nat_cmp ks v) x (subst (λ (y : ℕ). Among y (insert_key nat_cmp ks v)) e (insert_puts nat_cmp nat_cmp-IsAntisymmetric v ks))
+  | inr n ↦ key-put vs (insert_key nat_cmp ks v) x n
+]
+
+-- a degree with a class is one of the degrees
+has-degree : (ranks : List ℕ) (n : ℕ) → has_class ranks n ≡ true → n < length ranks
+has-degree ranks n h = elim (cases_lt n (length ranks)) [
+  | inl l ↦ l
+  | inr m ↦ let l : 0 < get_or ranks n 0 = ltb-true 0 (get_or ranks n 0) h in let z = get_or-past ranks n 0 m in absurd (omega (arith, l, z))
+]
+
+module _ (ranks : List ℕ) (few : length ranks ≤ 16) where
+  pub product-low : (x : Product) → Among x (products ranks) → (x.a ≤ 15) × (x.b ≤ 15)
+  product-low x m =
+      let h = (of-filter (λ (y : Product). has_class ranks y.a && (has_class ranks y.b && has_class ranks (y.a + y.b))) _ x m).1 in
+      let k = and_parts (has_class ranks x.a) _ h in
+      let a = has-degree ranks x.a k.0 in
+      let b = has-degree ranks x.b (and_parts (has_class ranks x.b) _ k.1).0 in
+      (omega (arith, a, few), omega (arith, b, few))
+
+  pub block-low : (p : ℕ) (x : Block) → Among x (blocks p ranks) → x.from ≤ 15
+  block-low p x m =
+      let h = (of-filter (λ (y : Block). has_class ranks y.from && has_class ranks y.to) _ x m).1 in
+      let a = has-degree ranks x.from (and_parts (has_class ranks x.from) _ h).0 in
+      omega (arith, a, few)
+
+  pub line-low : (p : ℕ) (l : Line) → Among l (lines p ranks) → l.a + l.b ≤ 15
+  line-low p l m =
+      let t = has-degree ranks (target_degree p (l.a + l.b) (cartan_op p l.n)) (of-lines p ranks l m).1 in
+      let u = at-least (cartan_op p l.n) in
+      omega (arith, t, u, few)
+    where
+      at-least : (op : Op) → l.a + l.b ≤ target_degree p (l.a + l.b) op
+      at-least (Square k) = omega arith
+      at-least (Power s) = omega arith
+      at-least (BocksteinPower s) = omega arith
+
+-- the numbers of the classes of a line
+pub record HasClasses (ranks : List ℕ) (l : Line) : Type 0 where
+  pub first : (1 ≤ l.i) × (l.i ≤ get_or ranks l.a 0)
+  pub second : (1 ≤ l.j) × (l.j ≤ get_or ranks l.b 0)
+
+pub line-classes : (p : ℕ) (ranks : List ℕ) (l : Line) → Among l (lines p ranks) → HasClasses ranks l
+line-classes p ranks l m =
+    let k = (of-filter (λ (y : Line). is_defined p (y.a + y.b) (cartan_op p y.n) && has_class ranks (target_degree p (y.a + y.b) (cartan_op p y.n))) (all_lines ranks) l m).0 in
+    let a = of-flat_map _ (degrees ranks) l k in
+    let b = of-flat_map _ (degrees ranks) l a.2 in
+    let i = of-flat_map _ (class_numbers ranks a.0) l b.2 in
+    let j = of-flat_map _ (class_numbers ranks b.0) l i.2 in
+    let n = of-map _ (numbers_from 0 (a.0 + b.0 + 1)) l j.2 in
+    let h = of-numbers i.0 1 (get_or ranks a.0 0) i.1 in
+    let g = of-numbers j.0 1 (get_or ranks b.0 0) j.1 in
+    subst (HasClasses ranks) n.2 (record { first = (h.0, let u = h.1 in omega (arith, u)); second = (g.0, let v = g.1 in omega (arith, v)) })
+
+-- the target degree of the operation of a line
+pub target-is : (p q n d : ℕ) (op : Op) → op ≡ cartan_op p n → is_defined p q (cartan_op p n) ≡ true → target p op q ≡ Some d → d ≡ target_degree p q (cartan_op p n)
+target-is p q n d op e h k = the-some d (target_degree p q (cartan_op p n)) (sym k ∙ ap (λ (o : Op). target p o q) e ∙ ap (λ (b : Bool). if b then Some (target_degree p q (cartan_op p n)) else None) h)
+  where
+    the-some : (a b : ℕ) → ◌≡◌ {A = Option ℕ} (Some a) (Some b) → a ≡ b
+    the-some a b s = ap (λ (o : Option ℕ). unwrap_or o a) s
+
+-- ---- what is stored
+
+module _ (p : ℕ) (table : List (ℕ × List (List ℕ × ℤ))) (ranks : List ℕ) (stored : AreStored p table ranks) where
+  abbrev sizes : Sizes
+  sizes = record { simplices = []; ranks = ranks }
+
+  at : (d : ℕ) → Among d (complex_elements p sizes) → IsSome (stored_at d table)
+  at d m = each_among (λ d. IsSome (stored_at d table)) d (complex_elements p sizes) stored m
+
+  pub block-stored : (x : Block) → Among x (blocks p ranks) → HasElement p table x.from x.op
+  block-stored x m = inr (at (element_degree p x.from x.op)
+      (among_left _ (map (λ (y : Block). element_degree p y.from y.op) (blocks p ranks)) (flat_map (line_elements p) (lines p ranks)) (among_map (λ (y : Block). element_degree p y.from y.op) x _ (blocks p ranks) m refl)))
+
+  pub line-stored : (l : Line) → Among l (lines p ranks) → HasElements p table l
+  line-stored l m = record {
+    whole = inr (of l (inl refl));
+    parts = each-of _ (cartan_pairs p l.a l.b l.n) (λ e k. (
+      inr (of l (inr (in-flat_map (pair l) (cartan_pairs p l.a l.b l.n) e _ k (inl refl)))),
+      inr (of l (inr (in-flat_map (pair l) (cartan_pairs p l.a l.b l.n) e _ k (inr (inl refl))))),
+    ));
+  }
+    where
+      pair : Line → ℕ × ℕ → List ℕ
+      pair k e = element_degree p k.a (cartan_op p e.0) ∷ element_degree p k.b (cartan_op p e.1) ∷ []
+
+      of : (k : Line) → {d : ℕ} → Among d (line_elements p l) → IsSome (stored_at d table)
+      of k {d} n = at d (among_right d (map (λ (y : Block). element_degree p y.from y.op) (blocks p ranks)) (flat_map (line_elements p) (lines p ranks)) (in-flat_map (line_elements p) (lines p ranks) l d m n))
+
+-- ---- what is stored for a job is stored for each of its complexes
+
+pub each-stored : (p : ℕ) (table : List (ℕ × List (List ℕ × ℤ))) (zs : List Sizes) → Each (λ d. IsSome (stored_at d table)) (elements p zs) → Each (λ z. AreStored p table z.ranks) zs
+each-stored p table zs h = each-of (λ z. AreStored p table z.ranks) zs (λ z m. each-of (λ d. IsSome (stored_at d table)) (complex_elements p z) (λ d n.
+    each_among (λ d. IsSome (stored_at d table)) d (elements p zs) h (key-put (flat_map (complex_elements p) zs) [] d (in-flat_map (complex_elements p) zs z d m n))))
