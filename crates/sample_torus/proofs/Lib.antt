@@ -1,0 +1,2 @@
+pub mod TorusLemmas
+pub mod SampleLemmas
