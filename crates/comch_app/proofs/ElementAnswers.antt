@@ -13,8 +13,8 @@ use Rattle.comch_app.specs.Answers.{IsElementText}
 use Rattle.comch_app.specs.CommandLine.{Given}
 use Rattle.comch_app.specs.Elements.{element_text}
 use Rattle.comch_app.specs.declared.request.Request.{Request}
-use Rattle.comch_app.specs.declared.request.Request.TheVariants.{Certify, May, Report}
-use Rattle.comch_app.specs.Requests.{IsAnswerable, basis_request, certify_request, limit_of, may_request, number_word, report_request, request_by}
+use Rattle.comch_app.specs.declared.request.Request.TheVariants.{Basis, Certify, Check, May, Report, Sample}
+use Rattle.comch_app.specs.Requests.{IsAnswerable, alone, certify_request, limit_of, may_request, number_word, sample_request, report_request, request_by}
 
 both : (a b : Bool) → (a && b) ≡ true → (a ≡ true) × (b ≡ true)
 both true b e = (refl, e)
@@ -32,10 +32,10 @@ from : {X : Type 0} (o : Option X) (f : X → Option Request) → ((x : X) → I
 from None f h = tt
 from (Some x) f h = h x
 
-basis_known : (ns : List Text) (t : Option Text) → IfSome (basis_request ns t) IsAnswerable
-basis_known [] None = tt
-basis_known [] (Some t) = tt
-basis_known (n ∷ ns) t = tt
+alone_known : (r : Request) → IsAnswerable r → (ns : List Text) (t : Option Text) → IfSome (alone r ns t) IsAnswerable
+alone_known r h [] None = h
+alone_known r h [] (Some t) = tt
+alone_known r h (n ∷ ns) t = tt
 
 limited : (n : ℕ) (b : Bool) → (nat_le 1 n && nat_le n (10 ^ 12)) ≡ b → IfSome (if b then Some n else None) (λ l. l ≤ 10 ^ 12)
 limited n true e = leb-true n (10 ^ 12) (both (nat_le 1 n) (nat_le n (10 ^ 12)) e).1
@@ -68,13 +68,29 @@ may_known (p ∷ d ∷ []) None = from (number_word p) _ (λ prime. from (number
 may_known (p ∷ d ∷ []) (Some t) = tt
 may_known (p ∷ d ∷ n ∷ ns) t = tt
 
+number_if : (n p : ℕ) (b : Bool) → ((nat_le 1 n && nat_le n 994) && served p) ≡ b → IfSome (if b then Some (Sample n p) else None) IsAnswerable
+number_if n p true e =
+    let h = both (nat_le 1 n && nat_le n 994) (served p) e in
+    let k = both (nat_le 1 n) (nat_le n 994) h.0 in
+    ((leb-true 1 n k.0, leb-true n 994 k.1), h.1)
+number_if n p false e = tt
+
+sample_known : (ns : List Text) (t : Option Text) → IfSome (sample_request ns t) IsAnswerable
+sample_known [] t = tt
+sample_known (n ∷ []) t = tt
+sample_known (n ∷ p ∷ []) None = from (number_word n) _ (λ number. from (number_word p) _ (λ prime. number_if number prime ((nat_le 1 number && nat_le number 994) && served prime) refl))
+sample_known (n ∷ p ∷ []) (Some t) = tt
+sample_known (n ∷ p ∷ q ∷ ns) t = tt
+
 -- the prime and the degree of a request are within their limits
 pub answerable : (g : Given) → IfSome (request_by g) IsAnswerable
 answerable g = from g.command _ (λ word.
-    either (bytes_eq word (codes "basis")) _ _ (basis_known g.numbers g.terms)
+    either (bytes_eq word (codes "basis")) _ _ (alone_known Basis tt g.numbers g.terms)
     (either (bytes_eq word (codes "report")) _ _ (report_known g.numbers g.terms)
     (either (bytes_eq word (codes "certify")) _ _ (certify_known g.numbers g.terms)
-    (either (bytes_eq word (codes "may")) _ _ (may_known g.numbers g.terms) tt))))
+    (either (bytes_eq word (codes "check")) _ _ (alone_known Check tt g.numbers g.terms)
+    (either (bytes_eq word (codes "may")) _ _ (may_known g.numbers g.terms)
+    (either (bytes_eq word (codes "sample")) _ _ (sample_known g.numbers g.terms) tt))))))
 
 -- the count tells whether the candidates pass the limit
 pub few : (n c : ℕ) → c ≡ cut_off n → c ≤ 10 ^ 8 → n ≤ 10 ^ 8

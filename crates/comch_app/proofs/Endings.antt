@@ -1,8 +1,9 @@
 -- How a run ends, by the text that was to be written.
-use Rattle.std.proofs.Common.{◌≡◌, List, ℕ, inl, inr, refl, subst, Some, None, Ok, Err, IfSome, length}
+use Rattle.std.proofs.Common.{◌≡◌, List, ℕ, inl, inr, refl, subst, Some, None, Ok, Err, IfSome, length, ◌<◌}
 use Rattle.std.specs.Prelude.{Bool, Result, nat_lt, true, false, if◌then◌else◌}
 use Rattle.std.specs.declared.option.Option.{Option}
 use Rattle.std.specs.Io.KnownBytes.{Appends}
+use Rattle.std.proofs.lemmas.Bool.{ltb-true}
 use Rattle.comch_io.specs.Reading.{ReadsAs, read_answer}
 use Rattle.comch_io.specs.declared.read_end.ReadEnd.{ReadEnd}
 use Rattle.comch_io.specs.declared.read_end.ReadEnd.TheVariants as end
@@ -13,9 +14,13 @@ use Rattle.report.specs.declared.form.Form.{Form}
 use Rattle.report.specs.declared.form.Form.TheVariants.{Basis}
 use Rattle.comch_app.specs.Answers.{Ends, MayAnswers, RefusesWords, ReportAnswers, WritesRefusal}
 use Rattle.comch_app.specs.Refusals.{refusal}
-use Rattle.comch_app.specs.Steps.{SaysIt, WantedAnswers}
+use Rattle.comch_app.specs.Checks.{CheckAnswers}
+use Rattle.comch_app.specs.Samples.{SampleAnswers}
+use Rattle.comch_app.specs.Steps.{AskedAnswers, SaysIt, WantedAnswers, most_bytes}
+use Rattle.comch_app.specs.declared.answer.Asked.{Asked}
+use Rattle.comch_app.specs.declared.answer.Asked.TheVariants as asked
 use Rattle.comch_app.specs.declared.request.Request.{Request}
-use Rattle.comch_app.specs.declared.request.Request.TheVariants.{May}
+use Rattle.comch_app.specs.declared.request.Request.TheVariants.{May, Sample}
 use Rattle.comch_app.specs.declared.answer.Wanted.{Wanted}
 use Rattle.comch_app.specs.declared.answer.Wanted.TheVariants as wanted
 use Rattle.comch_app.specs.declared.status.Status.{Status}
@@ -39,23 +44,26 @@ for_each (Some x) P f = f x
 never_report : (form : Form) (limit : Option ℕ) (bytes text : List ℕ) → ReportAnswers form limit bytes WriteFault text → ⊥
 never_report form limit bytes text (job, spelled, a) = a
 
-pub wanted_ends : (w : Wanted) (bytes : List ℕ) (s : Status) (text : List ℕ) (old new : Option (List ℕ)) (r : Status) → WantedAnswers w bytes s text → SaysIt s text old new r → Ends (WantedAnswers w bytes) old new r
-wanted_ends wanted.Bases bytes s text old new r a says = said_ends (ReportAnswers Basis None bytes) s text old new r (never_report Basis None bytes text) a says
-wanted_ends (wanted.Report form limit) bytes s text old new r a says = said_ends (ReportAnswers form (Some limit) bytes) s text old new r (never_report form (Some limit) bytes text) a says
+pub asked_ends : (a : Asked) (bytes : List ℕ) (s : Status) (text : List ℕ) (old new : Option (List ℕ)) (r : Status) → AskedAnswers a bytes s text → SaysIt s text old new r → Ends (AskedAnswers a bytes) old new r
+asked_ends (asked.OfJob wanted.Bases) bytes s text old new r a says = said_ends (ReportAnswers Basis None bytes) s text old new r (never_report Basis None bytes text) a says
+asked_ends (asked.OfJob (wanted.Report form limit)) bytes s text old new r a says = said_ends (ReportAnswers form (Some limit) bytes) s text old new r (never_report form (Some limit) bytes text) a says
+asked_ends asked.Verdict bytes s text old new r a says = said_ends (CheckAnswers bytes) s text old new r (λ h. h) a says
 
-memory_wanted : (w : Wanted) (bytes : List ℕ) → WantedAnswers w bytes OutOfMemory (refusal OutOfMemory)
-memory_wanted wanted.Bases bytes = refl
-memory_wanted (wanted.Report form limit) bytes = refl
+memory_asked : (a : Asked) (bytes : List ℕ) → AskedAnswers a bytes OutOfMemory (refusal OutOfMemory)
+memory_asked (asked.OfJob wanted.Bases) bytes = refl
+memory_asked (asked.OfJob (wanted.Report form limit)) bytes = refl
+memory_asked asked.Verdict bytes = refl
 
-read_wanted : (w : Wanted) (bytes : List ℕ) → WantedAnswers w bytes ReadFault (refusal ReadFault)
-read_wanted wanted.Bases bytes = refl
-read_wanted (wanted.Report form limit) bytes = refl
+read_asked : (a : Asked) (bytes : List ℕ) → AskedAnswers a bytes ReadFault (refusal ReadFault)
+read_asked (asked.OfJob wanted.Bases) bytes = refl
+read_asked (asked.OfJob (wanted.Report form limit)) bytes = refl
+read_asked asked.Verdict bytes = refl
 
-pub memory_ends : (w : Wanted) (o old new : Option (List ℕ)) (r : Status) → SaysIt OutOfMemory (refusal OutOfMemory) old new r → IfSome o (λ bytes. Ends (WantedAnswers w bytes) old new r)
-memory_ends w o old new r says = for_each o _ (λ bytes. wanted_ends w bytes OutOfMemory (refusal OutOfMemory) old new r (memory_wanted w bytes) says)
+pub memory_ends : (a : Asked) (o old new : Option (List ℕ)) (r : Status) → SaysIt OutOfMemory (refusal OutOfMemory) old new r → IfSome o (λ bytes. Ends (AskedAnswers a bytes) old new r)
+memory_ends a o old new r says = for_each o _ (λ bytes. asked_ends a bytes OutOfMemory (refusal OutOfMemory) old new r (memory_asked a bytes) says)
 
-pub read_ends : (w : Wanted) (o old new : Option (List ℕ)) (r : Status) → SaysIt ReadFault (refusal ReadFault) old new r → IfSome o (λ bytes. Ends (WantedAnswers w bytes) old new r)
-read_ends w o old new r says = for_each o _ (λ bytes. wanted_ends w bytes ReadFault (refusal ReadFault) old new r (read_wanted w bytes) says)
+pub read_ends : (a : Asked) (o old new : Option (List ℕ)) (r : Status) → SaysIt ReadFault (refusal ReadFault) old new r → IfSome o (λ bytes. Ends (AskedAnswers a bytes) old new r)
+read_ends a o old new r says = for_each o _ (λ bytes. asked_ends a bytes ReadFault (refusal ReadFault) old new r (read_asked a bytes) says)
 
 -- a failed read has its line
 pub read_refuses : (old new : Option (List ℕ)) (r : Status) → SaysIt ReadFault (refusal ReadFault) old new r → WritesRefusal old new r
@@ -70,11 +78,25 @@ one_element P found asked r a b p d some is same wanted h =
     let right : b ≡ d = cc e in
     subst (λ (x : ℕ). P x d) left (subst (λ (y : ℕ). P a y) right h)
 
+-- the same for the torus
+pub one_sample : (P : ℕ → ℕ → Type 0) (found asked : Option Request) (r : Request) (a b n p : ℕ) → found ≡ Some r → r ≡ Sample a b → found ≡ asked → asked ≡ Some (Sample n p) → P a b → P n p
+one_sample P found asked r a b n p some is same wanted h =
+    let e : Some (Sample a b) ≡ Some (Sample n p) = cc (some, is, same, wanted) in
+    let left : a ≡ n = cc e in
+    let right : b ≡ p = cc e in
+    subst (λ (x : ℕ). P x p) left (subst (λ (y : ℕ). P a y) right h)
+
 pub may_ends : (p d : ℕ) (s : Status) (text : List ℕ) (old new : Option (List ℕ)) (r : Status) → MayAnswers p d s text → SaysIt s text old new r → Ends (MayAnswers p d) old new r
 may_ends p d s text old new r a says = said_ends (MayAnswers p d) s text old new r (λ h. h) a says
 
 pub memory_ends_may : (p d : ℕ) (old new : Option (List ℕ)) (r : Status) → SaysIt OutOfMemory (refusal OutOfMemory) old new r → Ends (MayAnswers p d) old new r
 memory_ends_may p d old new r says = may_ends p d OutOfMemory (refusal OutOfMemory) old new r refl says
+
+pub sample_ends : (n p : ℕ) (s : Status) (text : List ℕ) (old new : Option (List ℕ)) (r : Status) → SampleAnswers n p s text → SaysIt s text old new r → Ends (SampleAnswers n p) old new r
+sample_ends n p s text old new r a says = said_ends (SampleAnswers n p) s text old new r (λ h. h) a says
+
+pub memory_ends_sample : (n p : ℕ) (old new : Option (List ℕ)) (r : Status) → SaysIt OutOfMemory (refusal OutOfMemory) old new r → Ends (SampleAnswers n p) old new r
+memory_ends_sample n p old new r says = sample_ends n p OutOfMemory (refusal OutOfMemory) old new r refl says
 
 pub memory_ends_words : (old new : Option (List ℕ)) (r : Status) → SaysIt OutOfMemory (refusal OutOfMemory) old new r → Ends RefusesWords old new r
 memory_ends_words old new r says = said_ends RefusesWords OutOfMemory (refusal OutOfMemory) old new r (λ h. h) refl says
@@ -96,9 +118,22 @@ pub refused_wanted : (w : Wanted) (bytes : List ℕ) (kind : InputKind) (line : 
 refused_wanted wanted.Bases bytes kind line text e text_is = (e, text_is)
 refused_wanted (wanted.Report form limit) bytes kind line text e text_is = (e, text_is)
 
-pub long_answers : (w : Wanted) (o : Option (List ℕ)) (e : ReadEnd) (s : Status) (text : List ℕ) → e ≡ end.TooLong → IfSome o (λ xs. ReadsAs (Err e) (read_answer 1048576 xs))
-    → s ≡ InputRefused TooLong 0 → text ≡ refusal (InputRefused TooLong 0) → IfSome o (λ bytes. WantedAnswers w bytes s text)
-long_answers w None e s text long h same text_is = tt
-long_answers w (Some bytes) e s text long h same text_is =
-    let answer : ReadsAs (Err end.TooLong) (read_answer 1048576 bytes) = subst (λ (x : ReadEnd). ReadsAs (Err x) (read_answer 1048576 bytes)) long h in
-    rw same (refused_wanted w bytes TooLong 0 text (refused_as_long bytes answer) text_is)
+-- so many bytes are more than may be read
+too_many : (most : ℕ) (bytes : List ℕ) → read_answer most bytes ≡ Err end.TooLong → most < length bytes
+too_many most bytes h = ltb-true most (length bytes) (by_length (nat_lt most (length bytes)) h)
+  where
+    by_length : (long : Bool) → (if long then Err end.TooLong else Ok bytes) ≡ Err end.TooLong → long ≡ true
+    by_length true e = refl
+    by_length false e = absurd cc
+
+long_asked : (a : Asked) (bytes text : List ℕ) → read_answer (most_bytes a) bytes ≡ Err end.TooLong → text ≡ refusal (InputRefused TooLong 0) → AskedAnswers a bytes (InputRefused TooLong 0) text
+long_asked (asked.OfJob w) bytes text long text_is = refused_wanted w bytes TooLong 0 text (refused_as_long bytes long) text_is
+long_asked asked.Verdict bytes text long text_is = (too_many 33554432 bytes long, refl, refl, text_is)
+
+pub long_answers : (a : Asked) (o : Option (List ℕ)) (e : ReadEnd) (s : Status) (text : List ℕ) (most : ℕ) → most ≡ most_bytes a → e ≡ end.TooLong → IfSome o (λ xs. ReadsAs (Err e) (read_answer most xs))
+    → s ≡ InputRefused TooLong 0 → text ≡ refusal (InputRefused TooLong 0) → IfSome o (λ bytes. AskedAnswers a bytes s text)
+long_answers a None e s text most most_is long h same text_is = tt
+long_answers a (Some bytes) e s text most most_is long h same text_is =
+    let answer : ReadsAs (Err end.TooLong) (read_answer (most_bytes a) bytes) =
+    subst (λ (n : ℕ). ReadsAs (Err end.TooLong) (read_answer n bytes)) most_is (subst (λ (x : ReadEnd). ReadsAs (Err x) (read_answer most bytes)) long h) in
+    rw same (long_asked a bytes text answer text_is)

@@ -3,3 +3,5 @@ pub mod Endings
 pub mod Printed
 pub mod ElementAnswers
 pub mod JobAnswered
+pub mod Verdicts
+pub mod SampleLemmas

@@ -1,10 +1,11 @@
 -- The exit codes.
 use Rattle.std.specs.Prelude.{ℕ}
 use Rattle.comch_app.specs.declared.status.Status.{Status}
-use Rattle.comch_app.specs.declared.status.Status.TheVariants.{Done, BadWords, InputRefused, TooManyTerms, OutOfMemory, ReadFault, WriteFault}
+use Rattle.comch_app.specs.declared.status.Status.TheVariants.{Done, No, BadWords, InputRefused, TooManyTerms, OutOfMemory, ReadFault, WriteFault}
 
 abbrev pub code_of : Status → ℕ
 code_of Done = 0
+code_of (No condition line) = 1
 code_of BadWords = 2
 code_of (InputRefused kind line) = 3
 code_of (TooManyTerms count limit) = 4

@@ -4,4 +4,6 @@ pub mod Requests
 pub mod Refusals
 pub mod Elements
 pub mod Answers
+pub mod Checks
+pub mod Samples
 pub mod Steps

@@ -5,14 +5,17 @@ use Rattle.std.specs.Io.KnownBytes.{Appends, IsAtEnd}
 use Rattle.comch_io.specs.Causes.{Rose}
 use Rattle.comch_io.specs.Reading.{AppendsPrefix}
 use Rattle.comch_app.specs.declared.status.Status.{Status}
-use Rattle.comch_app.specs.declared.status.Status.TheVariants.{Done, InputRefused, TooManyTerms, WriteFault}
+use Rattle.comch_app.specs.declared.status.Status.TheVariants.{Done, No, InputRefused, TooManyTerms, WriteFault}
 use Rattle.comch_app.specs.declared.answer.Stop.{Stop}
 use Rattle.comch_app.specs.declared.answer.Stop.TheVariants as stop
+use Rattle.comch_app.specs.declared.answer.Asked.{Asked}
+use Rattle.comch_app.specs.declared.answer.Asked.TheVariants as asked
 use Rattle.comch_app.specs.declared.answer.Wanted.{Wanted}
 use Rattle.comch_app.specs.declared.answer.Wanted.TheVariants as wanted
 use Rattle.complex_file.specs.Input.{Spelled}
 use Rattle.report.specs.declared.form.Form.TheVariants.{Basis}
 use Rattle.comch_app.specs.Answers.{JobAnswers, ReportAnswers}
+use Rattle.comch_app.specs.Checks.{CheckAnswers}
 use Rattle.comch_app.specs.Refusals.{refusal}
 
 -- a stop at a read comes only where the count of faults rose, and everything else leaves the count
@@ -20,9 +23,10 @@ abbrev pub StopCause : {X : Type 0} → ℕ → ℕ → Result X Stop → Type 0
 StopCause before now (Err stop.Read) = (before ≤ now) × Rose before now
 StopCause before now _ = now ≡ before
 
--- Statuses that the work itself gives: no fault and no want of memory. A refusal has its line as text.
+-- Statuses that the work itself gives: no fault and no want of memory. A refusal and a no have their line as text.
 abbrev pub IsMade : Status → List ℕ → Type 0
 IsMade Done text = Unit {0}
+IsMade (No condition line) text = text ≡ refusal (No condition line)
 IsMade (InputRefused kind line) text = text ≡ refusal (InputRefused kind line)
 IsMade (TooManyTerms count limit) text = text ≡ refusal (TooManyTerms count limit)
 IsMade _ text = ⊥
@@ -44,6 +48,15 @@ abbrev pub IsWithinMost : Wanted → Type 0
 IsWithinMost wanted.Bases = Unit {0}
 IsWithinMost (wanted.Report form limit) = limit ≤ 10 ^ 12
 
+abbrev pub IsAskable : Asked → Type 0
+IsAskable (asked.OfJob wanted) = IsWithinMost wanted
+IsAskable asked.Verdict = Unit {0}
+
+-- how many bytes may be read
+abbrev pub most_bytes : Asked → ℕ
+most_bytes (asked.OfJob wanted) = 1048576
+most_bytes asked.Verdict = 33554432
+
 -- what is answered to a job, and to bytes
 abbrev pub WantedOf : Wanted → Spelled → Status → List ℕ → Type 0
 WantedOf wanted.Bases = JobAnswers Basis None
@@ -52,3 +65,7 @@ WantedOf (wanted.Report form limit) = JobAnswers form (Some limit)
 abbrev pub WantedAnswers : Wanted → List ℕ → Status → List ℕ → Type 0
 WantedAnswers wanted.Bases = ReportAnswers Basis None
 WantedAnswers (wanted.Report form limit) = ReportAnswers form (Some limit)
+
+abbrev pub AskedAnswers : Asked → List ℕ → Status → List ℕ → Type 0
+AskedAnswers (asked.OfJob wanted) = WantedAnswers wanted
+AskedAnswers asked.Verdict = CheckAnswers

@@ -1,10 +1,11 @@
 ghost use Rattle.std.specs.Prelude.{◌≡◌, ◌≤◌, ◌^◌, IfOk, IfSome, None, Some};
 ghost use Rattle.complex_file.specs.Views.{content};
 ghost use Rattle.comch_app.specs.Answers.{IsReportText, JobAnswers};
-ghost use Rattle.comch_app.specs.Steps.{IsMade, IsReadWhole, IsWithinMost, StopCause, WantedAnswers, WantedOf};
+ghost use Rattle.comch_app.specs.Steps.{AskedAnswers, IsAskable, IsMade, IsReadWhole, IsWithinMost, StopCause, WantedAnswers, WantedOf, most_bytes};
 
 use crate::Status;
 use crate::refusal::{input_refused, too_many_terms};
+use crate::verdict::{MOST_BYTES, verdict};
 use comch_io::{Bytes, ReadEnd, Source, read_all};
 use complex_file::{InputKind, Job, JobRefused, read_job};
 use job_report::{MakeRefused, make_bases, make_report};
@@ -12,7 +13,7 @@ use report_text::{Form, print};
 use std::alloc::{AllocError, Global};
 
 // How many bytes a job may have.
-const LIMIT: u64 = 1_048_576;
+const JOB_BYTES: u64 = 1_048_576;
 
 /// What is wanted of a job.
 #[derive(Clone, Copy, Debug, PartialEq, Eq)]
@@ -21,6 +22,15 @@ pub enum Wanted {
     Bases,
     /// Its report in a form, where its counted terms do not pass the limit.
     Report { form: Form, limit: u64 },
+}
+
+/// What is asked of bytes.
+#[derive(Clone, Copy, Debug, PartialEq, Eq)]
+pub enum Asked {
+    /// What is wanted of the job that they spell.
+    OfJob(Wanted),
+    /// Whether they are a certificate that certifies.
+    Verdict,
 }
 
 /// Why no answer was made.
@@ -94,21 +104,43 @@ fn bytes_answer(alloc: Global, bytes: &[u8], wanted: Wanted) -> Result<(Status, 
     }
 }
 
+// The answer to the bytes that were read.
+fn asked_answer(alloc: Global, bytes: &[u8], asked: Asked) -> Result<(Status, Bytes), AllocError>
+    requires { IsAskable asked }
+    ensures answer { IfOk result (λ p. AskedAnswers asked bytes.now p.0 p.1) }
+    ensures made { IfOk result (λ p. IsMade p.0 p.1) }
+{
+    match asked {
+        Asked::OfJob(wanted) => bytes_answer(alloc, bytes, wanted),
+        Asked::Verdict => verdict(alloc, bytes),
+    }
+}
+
+// How many bytes may be read.
+fn most_bytes(asked: Asked) -> u64
+    ensures { result ≡ most_bytes asked }
+{
+    match asked {
+        Asked::OfJob(_) => JOB_BYTES,
+        Asked::Verdict => MOST_BYTES,
+    }
+}
+
 /// The status and the text that are answered to what the source has left. All is read before
 /// anything is made.
 pub fn answer<S: Source>(
     alloc: Global,
     source: &mut S,
-    wanted: Wanted,
+    asked: Asked,
 ) -> Result<(Status, Bytes), Stop>
-    requires { IsWithinMost wanted }
-    ensures answer { IfSome (S.left source.old) (λ bytes. IfOk result (λ p. WantedAnswers wanted bytes p.0 p.1)) }
+    requires { IsAskable asked }
+    ensures answer { IfSome (S.left source.old) (λ bytes. IfOk result (λ p. AskedAnswers asked bytes p.0 p.1)) }
     ensures made { IfOk result (λ p. IsMade p.0 p.1) }
     ensures whole { IfOk result (λ p. IsReadWhole (S.left source.new) p.0) }
     ensures cause { StopCause (S.faults source.old) (S.faults source.new) result }
 {
-    match read_all(alloc, source, LIMIT) {
-        Ok(bytes) => Ok(bytes_answer(alloc, bytes.as_slice(), wanted)?),
+    match read_all(alloc, source, most_bytes(asked)) {
+        Ok(bytes) => Ok(asked_answer(alloc, bytes.as_slice(), asked)?),
         Err(ReadEnd::TooLong) => Ok(input_refused(alloc, InputKind::TooLong, 0)?),
         Err(ReadEnd::Fault) => Err(Stop::Read),
         Err(ReadEnd::OutOfMemory) => Err(Stop::Memory),

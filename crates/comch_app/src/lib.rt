@@ -5,8 +5,10 @@ mod answer;
 mod may;
 mod refusal;
 mod request;
+mod samples;
 mod status;
 mod top;
+mod verdict;
 mod words;
 
 pub use status::Status;

@@ -15,6 +15,28 @@ pub fn add_number(alloc: Global, text: &mut Bytes, n: u64) -> Result<(), AllocEr
     text.extend(digits.as_bytes())
 }
 
+// The line of a no.
+fn no_line(alloc: Global, condition: u8, line: u64) -> Result<Bytes, AllocError>
+    ensures { IfOk result (λ b. b ≡ refusal (Status.No condition line)) }
+{
+    let mut text = Bytes::new(alloc);
+    text.extend(b"no ")?;
+    add_number(alloc, &mut text, u64::from(condition))?;
+    text.extend(b" line ")?;
+    add_number(alloc, &mut text, line)?;
+    text.push(b'\n')?;
+    Ok(text)
+}
+
+/// The answer where a condition fails at a line.
+pub fn no(alloc: Global, condition: u8, line: u64) -> Result<(Status, Bytes), AllocError>
+    ensures status { IfOk result (λ p. p.0 ≡ Status.No condition line) }
+    ensures text { IfOk result (λ p. p.1 ≡ refusal (Status.No condition line)) }
+{
+    let text = no_line(alloc, condition, line)?;
+    Ok((Status::No { condition, line }, text))
+}
+
 // The line of a refused input.
 fn input_line(alloc: Global, kind: InputKind, line: u64) -> Result<Bytes, AllocError>
     ensures { IfOk result (λ b. b ≡ refusal (Status.InputRefused kind line)) }

@@ -10,6 +10,10 @@ pub enum Request {
     Report { limit: u64 },
     /// The certificate of a job, within the same limit.
     Certify { limit: u64 },
+    /// Whether a text is a certificate that certifies.
+    Check,
     /// The May element of this degree for this prime.
     May { prime: u32, degree: u32 },
+    /// What the certificate of the torus of this number in the sample family shows at this prime.
+    Sample { number: u32, prime: u32 },
 }

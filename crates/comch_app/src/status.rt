@@ -8,6 +8,9 @@ use complex_file::InputKind;
 pub enum Status {
     /// The whole text was written.
     Done,
+    /// The text is no certificate, or does not certify: the least condition that fails, and its first line that does. The
+    /// condition 0 is that the text is a certificate.
+    No { condition: u8, line: u64 },
     /// The words ask for nothing that there is.
     BadWords,
     /// The input spells no job: the kind of its first fault, and its line.
@@ -29,6 +32,7 @@ impl Status {
     {
         match self {
             Status::Done => 0,
+            Status::No { .. } => 1,
             Status::BadWords => 2,
             Status::InputRefused { .. } => 3,
             Status::TooManyTerms { .. } => 4,

@@ -2,15 +2,18 @@ ghost use Rattle.std.specs.Prelude.{◌≡◌, ◌≢◌, ℕ, ◌<◌, ◌≤�
 ghost use Rattle.std.specs.Io.KnownBytes.{IsAtEnd};
 ghost use Rattle.comch_io.specs.Causes.{Rose};
 ghost use Rattle.fp_field.specs.Served.{served};
-ghost use Rattle.comch_app.specs.declared.request.Request.TheVariants.{Basis, Certify, May, Report};
+ghost use Rattle.comch_app.specs.declared.request.Request.TheVariants.{Basis, Certify, Check, May, Report, Sample};
 ghost use Rattle.comch_app.specs.Answers.{Ends, MayAnswers, RefusesWords, ReportAnswers, WritesRefusal};
-ghost use Rattle.comch_app.specs.Requests.{ReadsJob, request_of};
-ghost use Rattle.comch_app.specs.Steps.{IsWithinMost, SaidCause, SaysIt, WantedAnswers};
+ghost use Rattle.comch_app.specs.Checks.{CheckAnswers, IsCertified, IsNo};
+ghost use Rattle.comch_app.specs.Samples.{SampleAnswers};
+ghost use Rattle.comch_app.specs.Requests.{ReadsInput, request_of};
+ghost use Rattle.comch_app.specs.Steps.{AskedAnswers, IsAskable, SaidCause, SaysIt};
 
 use crate::Status;
-use crate::answer::{Stop, Wanted, answer};
+use crate::answer::{Asked, Stop, Wanted, answer};
 use crate::may::may;
 use crate::request::Request;
+use crate::samples::sample_answer;
 use crate::words::request_of;
 use comch_io::{Sink, Source, write_all};
 use report_text::Form;
@@ -27,16 +30,16 @@ fn said<K: Sink>(sink: &mut K, status: Status, text: &[u8]) -> Status
     }
 }
 
-// Writes what is wanted of the job that the source has left.
-fn job_run<S: Source, K: Sink>(
+// Writes what is asked of what the source has left.
+fn reading_run<S: Source, K: Sink>(
     alloc: Global,
     source: &mut S,
     sink: &mut K,
-    wanted: Wanted,
+    asked: Asked,
 ) -> Status
-    requires { IsWithinMost wanted }
+    requires { IsAskable asked }
     ensures answers { IfSome (S.left source.old) (λ bytes.
-        Ends (WantedAnswers wanted bytes) (K.written sink.old) (K.written sink.new) result) }
+        Ends (AskedAnswers asked bytes) (K.written sink.old) (K.written sink.new) result) }
     ensures words { result ≢ Status.BadWords }
     ensures refusal { WritesRefusal (K.written sink.old) (K.written sink.new) result }
     ensures whole { result ≡ Status.Done → IsAtEnd (S.left source.new) }
@@ -46,7 +49,7 @@ fn job_run<S: Source, K: Sink>(
         (result ≡ Status.ReadFault) ⊎ (result ≡ Status.WriteFault) }
     ensures writes { K.faults sink.old < K.faults sink.new → result ≡ Status.WriteFault }
 {
-    match answer(alloc, source, wanted) {
+    match answer(alloc, source, asked) {
         Ok((status, text)) => said(sink, status, text.as_slice()),
         Err(Stop::Memory) => said(sink, Status::OutOfMemory, b"refused memory\n"),
         Err(Stop::Read) => said(sink, Status::ReadFault, b"refused read\n"),
@@ -65,6 +68,24 @@ fn may_run<K: Sink>(alloc: Global, sink: &mut K, prime: u32, degree: u32) -> Sta
     ensures writes { K.faults sink.old < K.faults sink.new → result ≡ Status.WriteFault }
 {
     match may(alloc, prime, degree) {
+        Ok((status, text)) => said(sink, status, text.as_slice()),
+        Err(_) => said(sink, Status::OutOfMemory, b"refused memory\n"),
+    }
+}
+
+// Writes what is shown of the torus of a number at a prime.
+fn sample_run<K: Sink>(alloc: Global, sink: &mut K, number: u32, prime: u32) -> Status
+    requires some { 1 ≤ number }
+    requires low { number ≤ 994 }
+    requires prime { IsTrue (served prime) }
+    ensures answers { Ends (SampleAnswers number prime) (K.written sink.old) (K.written sink.new) result }
+    ensures words { result ≢ Status.BadWords }
+    ensures refusal { WritesRefusal (K.written sink.old) (K.written sink.new) result }
+    ensures read { result ≢ Status.ReadFault }
+    ensures write { result ≡ Status.WriteFault → Rose (K.faults sink.old) (K.faults sink.new) }
+    ensures writes { K.faults sink.old < K.faults sink.new → result ≡ Status.WriteFault }
+{
+    match sample_answer(alloc, number, prime) {
         Ok((status, text)) => said(sink, status, text.as_slice()),
         Err(_) => said(sink, Status::OutOfMemory, b"refused memory\n"),
     }
@@ -97,14 +118,24 @@ pub fn run<S: Source, K: Sink>(
         IfSome (S.left source.old) (λ bytes.
         Ends (ReportAnswers Form.Certificate (Some limit) bytes) (K.written sink.old) (K.written sink.new) result) }
 
-    // What `may` answers; nothing is read.
+    // What `check` answers; it never says no to what `certify` writes.
+    ensures check { request_of (map string_bytes words.now) ≡ Some Check →
+        IfSome (S.left source.old) (λ bytes.
+        Ends (CheckAnswers bytes) (K.written sink.old) (K.written sink.new) result) }
+    ensures complete { request_of (map string_bytes words.now) ≡ Some Check →
+        IfSome (S.left source.old) (λ bytes. IsCertified bytes → IsNo result → ⊥) }
+
+    // What `may` and `sample` answer; nothing is read.
     ensures may { (p d : ℕ) → request_of (map string_bytes words.now) ≡ Some (May p d) →
         Ends (MayAnswers p d) (K.written sink.old) (K.written sink.new) result
         × (source.new ≡ source.old) }
+    ensures sample { (n p : ℕ) → request_of (map string_bytes words.now) ≡ Some (Sample n p) →
+        Ends (SampleAnswers n p) (K.written sink.old) (K.written sink.new) result
+        × (source.new ≡ source.old) }
 
-    // Whatever the source tells, a refusal is one line, and a run over a job that is done has read to the end.
+    // Whatever the source tells, a refusal or a no is one line, and a run that reads and is done has read to the end.
     ensures refusal { WritesRefusal (K.written sink.old) (K.written sink.new) result }
-    ensures whole { ReadsJob (request_of (map string_bytes words.now)) → result ≡ Status.Done → IsAtEnd (S.left source.new) }
+    ensures whole { ReadsInput (request_of (map string_bytes words.now)) → result ≡ Status.Done → IsAtEnd (S.left source.new) }
 
     // Faults have their causes, and none is passed over.
     ensures read { result ≡ Status.ReadFault → Rose (S.faults source.old) (S.faults source.new) }
@@ -116,15 +147,19 @@ pub fn run<S: Source, K: Sink>(
     match request_of(alloc, words) {
         Err(_) => said(sink, Status::OutOfMemory, b"refused memory\n"),
         Ok(None) => said(sink, Status::BadWords, b"refused words\n"),
-        Ok(Some(Request::Basis)) => job_run(alloc, source, sink, Wanted::Bases),
+        Ok(Some(Request::Basis)) => reading_run(alloc, source, sink, Asked::OfJob(Wanted::Bases)),
         Ok(Some(Request::Report { limit })) => {
             let form = Form::Short;
-            job_run(alloc, source, sink, Wanted::Report { form, limit })
+            let wanted = Wanted::Report { form, limit };
+            reading_run(alloc, source, sink, Asked::OfJob(wanted))
         }
         Ok(Some(Request::Certify { limit })) => {
             let form = Form::Certificate;
-            job_run(alloc, source, sink, Wanted::Report { form, limit })
+            let wanted = Wanted::Report { form, limit };
+            reading_run(alloc, source, sink, Asked::OfJob(wanted))
         }
+        Ok(Some(Request::Check)) => reading_run(alloc, source, sink, Asked::Verdict),
         Ok(Some(Request::May { prime, degree })) => may_run(alloc, sink, prime, degree),
+        Ok(Some(Request::Sample { number, prime })) => sample_run(alloc, sink, number, prime),
     }
 }

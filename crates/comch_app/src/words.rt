@@ -2,7 +2,7 @@ ghost use Rattle.std.specs.Prelude.{◌≡◌, Some, IfOk, IfSome, map, MatchRes
 ghost use Rattle.clap.specs.Words.{app_of, kind_of, found_of};
 ghost use Rattle.comch_app.specs.CommandLine.{given, given_in, line, GivesUp, IsRule, command_rule, numbers_rule, terms_rule};
 ghost use Rattle.complex_file.specs.Text.{is_digit};
-ghost use Rattle.comch_app.specs.Requests.{IsAnswerable, basis_request, certify_request, limit_of, may_at, may_request, number_word, report_request, request_of, request_by, request_named};
+ghost use Rattle.comch_app.specs.Requests.{IsAnswerable, alone, certify_request, limit_of, may_at, may_request, number_word, sample_at, sample_request, report_request, request_of, request_by, request_named};
 
 use crate::request::{DEFAULT_LIMIT, Request};
 use clap::error::ErrorKind;
@@ -12,6 +12,9 @@ use std::alloc::{AllocError, Global};
 
 // The greatest degree of a May element that may be asked for.
 const MOST_DEGREE: u64 = 60;
+
+// The greatest number of a torus of the sample family.
+const MOST_NUMBER: u64 = 994;
 
 // The greatest limit on the counted terms.
 const MOST_TERMS: u64 = 1_000_000_000_000;
@@ -83,11 +86,12 @@ fn number_of(word: &str) -> Option<u64>
     Some(value)
 }
 
-fn basis_request(numbers: &[&str], terms: Option<&str>) -> Option<Request>
-    ensures { result ≡ basis_request (map (λ s. s.now) numbers.now) (option_map (λ s. s.now) terms.entry) }
+// The request, where neither numbers nor `--terms` stand behind it.
+fn alone(request: Request, numbers: &[&str], terms: Option<&str>) -> Option<Request>
+    ensures { result ≡ alone request (map (λ s. s.now) numbers.now) (option_map (λ s. s.now) terms.entry) }
 {
     match (numbers, terms) {
-        ([], None) => Some(Request::Basis),
+        ([], None) => Some(request),
         _ => None,
     }
 }
@@ -150,18 +154,45 @@ fn may_request(numbers: &[&str], terms: Option<&str>) -> Option<Request>
     }
 }
 
+// The request of the torus of a number at a prime, where both are within their limits.
+fn sample_at(number: u64, prime: u64) -> Option<Request>
+    ensures { result ≡ sample_at number prime }
+{
+    if 1 <= number && number <= MOST_NUMBER && prime <= 5 && served(prime as u32) {
+        Some(Request::Sample {
+            number: number as u32,
+            prime: prime as u32,
+        })
+    } else {
+        None
+    }
+}
+
+fn sample_request(numbers: &[&str], terms: Option<&str>) -> Option<Request>
+    ensures { result ≡ sample_request (map (λ s. s.now) numbers.now) (option_map (λ s. s.now) terms.entry) }
+{
+    match (numbers, terms) {
+        ([number, prime], None) => sample_at(number_of(number)?, number_of(prime)?),
+        _ => None,
+    }
+}
+
 // The request of these parts of the words, if there is one.
 fn request_named(word: &str, numbers: &[&str], terms: Option<&str>) -> Option<Request>
     ensures { result ≡ request_named word.now (map (λ s. s.now) numbers.now) (option_map (λ s. s.now) terms.entry) }
 {
     if word == "basis" {
-        basis_request(numbers, terms)
+        alone(Request::Basis, numbers, terms)
     } else if word == "report" {
         report_request(numbers, terms)
     } else if word == "certify" {
         certify_request(numbers, terms)
+    } else if word == "check" {
+        alone(Request::Check, numbers, terms)
     } else if word == "may" {
         may_request(numbers, terms)
+    } else if word == "sample" {
+        sample_request(numbers, terms)
     } else {
         None
     }

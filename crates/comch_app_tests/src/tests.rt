@@ -226,6 +226,12 @@ fn other_words_are_refused_unread(rt: HostRuntime) -> Result<(), Fail> {
         "may +3 2",
         "may 3 00000000000002",
         "may 3 2 --terms 5",
+        "check 2",
+        "check --terms 5",
+        "sample 3",
+        "sample 0 3",
+        "sample 995 3",
+        "sample 3 7",
     ];
     for line in lines {
         let words = words_of(alloc, line)?;
@@ -244,7 +250,17 @@ fn other_words_are_refused_unread(rt: HostRuntime) -> Result<(), Fail> {
 #[test]
 fn elements_are_printed_unread(rt: HostRuntime) -> Result<(), Fail> {
     let alloc = rt.alloc();
-    let cases: [(&str, u8, &str); 3] = [
+    let cases: [(&str, u8, &str); 5] = [
+        (
+            "sample 994 2",
+            0,
+            "sample 994 2\nsimplices 1000 3000 2000\nranks 1 2 1\nterms 106009\ncheck yes\ndone\n",
+        ),
+        (
+            "sample 494 3",
+            0,
+            "sample 494 3\nsimplices 500 1500 1000\nranks 1 2 1\nterms 43157\ncheck yes\ndone\n",
+        ),
         (
             "may 3 2",
             0,
@@ -260,6 +276,67 @@ fn elements_are_printed_unread(rt: HostRuntime) -> Result<(), Fail> {
         let status = run(alloc, words.as_slice(), &mut source, &mut sink);
         assert_eq!(rt; status.code(), code);
         assert_eq!(rt; sink.text(), text.as_bytes());
+    }
+    Ok(())
+}
+
+// The certificate of the circle, with a part of it put in the place of another.
+#[test]
+fn certificates_are_checked(rt: HostRuntime) -> Result<(), Fail> {
+    let alloc = rt.alloc();
+    let rows: [(&str, &str, u8, &str); 17] = [
+        ("done;", "done;", 0, "yes\n"),
+        ("below 1:1;", "below 1:0;", 0, "yes\n"),
+        ("certificate", "report", 1, "no 0 line 1\n"),
+        ("facet 0 1;", "facet 00 1;", 1, "no 0 line 4\n"),
+        ("done;", "", 1, "no 0 line 35\n"),
+        (
+            "facet 1 2;",
+            "facet 1 2 3 4 5 6 7 8 9 10 11 12 13 14 15 16 17;",
+            1,
+            "no 1 line 6\n",
+        ),
+        ("below 1:2;", "below 1:1;", 1, "no 2 line 11\n"),
+        ("1:0 1:1 1:2;", "1:0;", 1, "no 3 line 8\n"),
+        ("facet 1 2;", "", 1, "no 3 line 11\n"),
+        ("class 1:1.2;", "class 1:0.1;", 1, "no 4 line 12\n"),
+        (
+            "rank 1;below 1:1;below 1:2;class 1:1.2;",
+            "rank 0;below 1:1;below 1:2;",
+            1,
+            "no 5 line 9\n",
+        ),
+        ("product 1 0;", "product 1 1;", 1, "no 5 line 19\n"),
+        ("prime 3;", "prime 2;", 1, "no 5 line 22\n"),
+        ("prime 3;", "prime 5;", 0, "yes\n"),
+        (
+            "0 to 0;column 1 is 1;with 0;",
+            "0 to 0;column 1 is 1;with 1:0;",
+            1,
+            "no 6 line 23\n",
+        ),
+        (
+            "1 to 1;column 1 is 1;",
+            "1 to 1;column 1 is 2;",
+            1,
+            "no 6 line 26\n",
+        ),
+        (
+            "1 1 1 0 yes;with 0;",
+            "1 1 1 0 yes;with 1:2;",
+            1,
+            "no 8 line 30\n",
+        ),
+    ];
+    let words = words_of(alloc, "check")?;
+    for (part, other, code, text) in rows {
+        let altered = String::from_str(alloc, CIRCLE_CERTIFIED)?.replace(alloc, part, other)?;
+        let input = spelled(alloc, altered.as_str())?;
+        let mut source = MemSource::new(alloc, input.as_bytes(), [].as_slice())?;
+        let mut sink = MemSink::new(alloc, 99, [].as_slice())?;
+        let status = run(alloc, words.as_slice(), &mut source, &mut sink);
+        assert_eq!(rt; status.code(), code, "{other}");
+        assert_eq!(rt; sink.text(), text.as_bytes(), "{other}");
     }
     Ok(())
 }
