@@ -5,7 +5,7 @@ usage: bench/bench.py PROGRAM [PRIME] [GROUP ..]
 
 PROGRAM is the built program (crates/comch/out/comch, after `rt run` in crates/comch), PRIME is 2, 3
 or 5 (default 2), and the groups are torus, random, dense, sphere, wide, strip, ground and hostile,
-which run `basis`; report and certify, which run these commands; and may (default: all).
+which run `basis`; report and certify, which run these commands; check, may and sample (default: all).
 
 Each input is made here, written to the program's standard input, and run RUNS times. One line is
 printed for each: simplices, bytes of input and of output, the least of the processor seconds, the
@@ -13,7 +13,9 @@ peak of the resident memory, how time and memory grew from the line before (the 
 "cost ~ simplices^b"), and the peak as a multiple of input plus output. Absolute times vary with
 the machine and with what else it does; the ratios tell more.
 
-The group may makes May elements. It prints for each the candidates, the terms, and the same costs.
+The group may makes May elements. It prints for each the candidates, the terms, and the same costs. The
+group check checks certificates: of tori, as `certify` writes them, and three of some 32 MiB that promise
+what they do not keep. The group sample runs `sample` with its greatest number.
 """
 
 import itertools
@@ -191,6 +193,37 @@ def run(program, words, text):
         return usage.ru_utime + usage.ru_stime, peak, sink.seek(0, os.SEEK_END), child.returncode
 
 
+def promise(rank, line, times, behind):
+    """A certificate that begins as that of a circle, with this rank in degree 0 and a line many times over."""
+    head = f"comch certificate 1\nprime 3\ncomplex c\nfacet 0 1\nfacet 0 2\nfacet 1 2\ndegree 0 rank {rank}\n"
+    return (head + line * times + behind + "end\ndone\n").encode()
+
+
+# certificates that promise what they do not keep
+PROMISES = [
+    ("belows", lambda: promise(1, "below 1:0\n", 3_355_000, "class 1:0 1:1 1:2\n")),
+    ("classes", lambda: promise(3_355_000, "class 1:0\n", 3_355_000, "product 0 0\n")),
+    ("great rank", lambda: promise(4_000_000_000, "class 1:0\n", 1, "")),
+]
+
+
+def measure_checks(program, prime):
+    print(f"{'certificate':14} {'in kB':>8} {'seconds':>8} {'peak MB':>8}  answer")
+    tori = [(f"torus {m}", lambda m=m: subprocess.run(
+        [program, "certify"], input=text_of(prime, [tuple(facet) for facet in torus(m)]), stdout=subprocess.PIPE, check=True).stdout)
+        for m in (100, 500, 1000, 1860)]
+    for name, make in tori + PROMISES:
+        text = make()
+        results = [run(program, ["check"], text) for _ in range(RUNS)]
+        answer = subprocess.run([program, "check"], input=text, stdout=subprocess.PIPE, check=False).stdout.decode().strip()
+        print(f"{name:14} {len(text) / 1000:8.1f} {min(r[0] for r in results):8.3f} {max(r[1] for r in results) / 1000:8.1f}  {answer}", flush=True)
+
+
+def measure_samples(program, prime):
+    results = [run(program, ["sample", "994", str(prime)], b"") for _ in range(RUNS)]
+    print(f"sample 994 {prime}: {min(r[0] for r in results):.3f} s, {max(r[1] for r in results) / 1000:.1f} MB")
+
+
 def exponent(new, old, n, m):
     if old <= 0 or new <= 0 or n == m:
         return "    -"
@@ -212,10 +245,14 @@ def main():
         sys.exit(__doc__)
     program = os.path.abspath(sys.argv[1])
     prime = int(sys.argv[2]) if len(sys.argv) > 2 else 2
-    groups = sys.argv[3:] or [*GROUPS, "may"]
+    groups = sys.argv[3:] or [*GROUPS, "check", "may", "sample"]
+    if "check" in groups:
+        measure_checks(program, prime)
+    if "sample" in groups:
+        measure_samples(program, prime)
     if "may" in groups:
         measure_elements(program)
-        groups = [group for group in groups if group != "may"]
+    groups = [group for group in groups if group in GROUPS]
     if not groups:
         return
     print(f"at {prime}; {os.cpu_count()} processors; least of {RUNS} runs")
