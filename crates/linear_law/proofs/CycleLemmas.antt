@@ -1,15 +1,10 @@
 -- Coordinates by pairing with canonical cycles.
 use Rattle.std.proofs.Common.{◌≡◌, ℕ, zero, suc, ◌+◌, ◌*◌, ◌-◌, ◌<◌, ◌≢◌, List, map, arith, refl, sym, subst, inl, inr}
 use Rattle.std.proofs.lemmas.Bool.{cases_eq}
-use Rattle.linear_law.specs.Congruence.{Congruent, IsField}
-use Rattle.linear_law.specs.Lists.{Each, Among}
-use Rattle.linear_law.specs.ReducedBases.{AgreesOn, IsSubspace}
-use Rattle.linear_law.specs.Pivots.{IsPivot}
+use Rattle.linear_law.specs.Names.{Congruent, IsField, Each, Among, AgreesOn, IsSubspace, IsPivot, LeadsAt, paired, IsCycle}
 use Rattle.linear_law.proofs.CongruenceLemmas.{Congruent_refl, Congruent_of, Congruent_sym, Congruent_trans, Congruent_add, Congruent_mul, Congruent_scale, Congruent_from, add-negated}
 use Rattle.linear_law.proofs.ListLemmas.{among_map, each_among}
 use Rattle.linear_law.proofs.PivotLemmas.{zero_or_not}
-use Rattle.linear_law.specs.Triangular.{LeadsAt}
-use Rattle.linear_law.specs.Pairing.{paired, IsCycle}
 use Rattle.linear_law.proofs.TriangularBases.{found}
 
 -- ---- what holds of the rows and is kept by sums and multiples holds of all that they span
@@ -130,20 +125,3 @@ module _ (p n : ℕ) (field : IsField p) {B : (ℕ → ℕ) → Type 0} (space :
         | inr none ↦ Congruent_from (Congruent_scale (w x) (cycle.support x b m none)) (omega arith)
       ]))
       (Congruent_from (Congruent_scale (w s) cycle.one) (omega arith))
-
-  -- so the coordinate of z at s is what z pairs to
-  pub cycle_coordinate : (z b w : ℕ → ℕ) → B b → ((x : ℕ) → Among x (map lead rows) → Congruent p (w x) 0) → AgreesOn p (λ y. y < n) z (λ x. w x + 1 * b x) → Congruent p (paired n z f) (w s)
-  cycle_coordinate z b w h zero_w same =
-      Congruent_trans (paired_same p n z (λ x. w x + 1 * b x) f same)
-      (Congruent_trans (Congruent_of (paired_plus n 1 w b f)) (Congruent_from (Congruent_add (cycle_value w zero_w) (cycle_bound b h)) (omega arith)))
-
-  -- and its value at a lead is minus the value at s of the canonical member of that lead: it is the canonical cycle
-  pub cycle_canonical : (t : ℕ) (c : ℕ → ℕ) → t < n → Among t (map lead rows) → B c → Congruent p (c t) 1 → ((x : ℕ) → x ≢ t → Among x (map lead rows) → Congruent p (c x) 0)
-      → Congruent p (f t + c s) 0
-  cycle_canonical t c b is h one others =
-      let two = pair_two p n s t c f cycle.inside b (λ e. cycle.apart (subst (λ x. Among x (map lead rows)) (sym e) is))
-      (λ x d m g. elim (found lead x rows) [
-        | inl r ↦ Congruent_from (Congruent_mul (others x g (subst (λ y. Among y (map lead rows)) r.2 (among_map lead r.0 (lead r.0) rows r.1 refl))) (Congruent_refl (f x))) (omega arith)
-        | inr none ↦ Congruent_from (Congruent_scale (c x) (cycle.support x d m none)) (omega arith)
-      ]) in
-      Congruent_from (Congruent_add (Congruent_sym two) (Congruent_add (cycle_bound c h) (Congruent_add (Congruent_sym (Congruent_scale (c s) cycle.one)) (Congruent_sym (Congruent_mul one (Congruent_refl (f t))))))) (omega arith)

@@ -1,13 +1,10 @@
 -- Leads: what has one, and what is zero where it could have one.
 use Rattle.std.proofs.Common.{◌≡◌, ℕ, zero, suc, ◌+◌, ◌*◌, ◌-◌, ◌%◌, ◌<◌, ◌≢◌, ◌⊎◌, arith, sym, subst, ◌∙◌, inl, inr}
-use Rattle.std.proofs.lemmas.Bool.{cases_lt, cases_eq}
-use Rattle.linear_law.specs.Congruence.{Congruent, IsField}
-use Rattle.linear_law.specs.ReducedBases.{AgreesOn, IsSubspace}
-use Rattle.linear_law.specs.Pivots.{IsPivot, IsCanonical}
+use Rattle.std.proofs.lemmas.Bool.{cases_lt}
+use Rattle.linear_law.specs.Names.{Congruent, IsField, AgreesOn, IsSubspace, IsPivot, LeadsAt}
 use Rattle.linear_law.proofs.CongruenceLemmas.{Congruent_sym, Congruent_trans, Congruent_add, Congruent_from, add-negated}
 use Rattle.linear_law.proofs.PivotLemmas.{zero_or_not, not_zero, Congruent_of_zero}
 use Rattle.linear_law.proofs.Counting.{Congruent_divide}
-use Rattle.linear_law.specs.Triangular.{LeadsAt}
 
 pub mul_nonzero : (p a b : ℕ) → IsField p → a % p ≢ 0 → b % p ≢ 0 → (a * b) % p ≢ 0
 mul_nonzero p a b field n m e =
@@ -60,12 +57,3 @@ module _ (p n : ℕ) (large : 1 < p) {M : (ℕ → ℕ) → Type 0} (space : IsS
       let m : M d = space.plus (p - 1) v w hv hw in
       same_of_difference p n v w large
       (zero_if p n d (λ t l. Congruent_from (Congruent_add (h t (record { vector = d; member = m; lead = l })) (add-negated p (w t) large)) (omega arith)))
-
-  -- a pivot has no more than one canonical vector
-  pub canonical_once : (x : ℕ) (v w : ℕ → ℕ) → IsCanonical p (λ y. y < n) (λ a b. a < b) M x v → IsCanonical p (λ y. y < n) (λ a b. a < b) M x w → AgreesOn p (λ y. y < n) v w
-  canonical_once x v w hv hw =
-      determined_by v w hv.member hw.member
-      (λ y q. elim (cases_eq y x) [
-        | inl e ↦ let P : ℕ → Type 0 = λ t. Congruent p (v t) (w t) in subst P (sym e) (Congruent_trans hv.one (Congruent_sym hw.one))
-        | inr m ↦ Congruent_trans (hv.others y q m) (Congruent_sym (hw.others y q m))
-      ])

@@ -1,10 +1,7 @@
 -- Coordinates of combinations, by a matrix.
 use Rattle.std.proofs.Common.{◌≡◌, ℕ, zero, suc, ◌+◌, ◌*◌, ◌-◌, ◌<◌, List, [], ◌∷◌, length, refl, sym, ◌∙◌, ap, ap₂, arith, mod-lt}
 use Rattle.std.specs.List.{AllZip}
-use Rattle.linear_law.specs.Congruence.{Congruent, negated}
-use Rattle.linear_law.specs.Lists.{Each, copies}
-use Rattle.linear_law.specs.Matrices.{IsCoordinates, matrix_times, plus_scaled}
-use Rattle.linear_law.specs.ReducedBases.{AgreesOn, IsSubspace, combination}
+use Rattle.linear_law.specs.Names.{Congruent, negated, Each, copies, IsCoordinates, matrix_times, plus_scaled, AgreesOn, IsSubspace, combination}
 use Rattle.linear_law.proofs.CongruenceLemmas.{Congruent_add, Congruent_from, Congruent_mod, Congruent_mul, Congruent_of, Congruent_refl, Congruent_scale, Congruent_sym, Congruent_trans, add-negated}
 
 pub length-copies : {A : Type 0} (k : ℕ) (a : A) → length (copies k a) ≡ k

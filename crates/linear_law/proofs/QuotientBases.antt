@@ -1,12 +1,7 @@
 -- Bases of a space modulo a smaller one, from the pivots of the smaller one.
 use Rattle.std.proofs.Common.{◌≡◌, ℕ, zero, suc, ◌+◌, ◌*◌, ◌-◌, ◌<◌, ◌≤◌, ◌⊎◌, List, map, length, arith, subst, inl, inr}
 use Rattle.std.proofs.lemmas.Bool.{cases_lt}
-use Rattle.linear_law.specs.Congruence.{Congruent, IsField}
-use Rattle.linear_law.specs.Lists.{Each}
-use Rattle.linear_law.specs.ReducedBases.{AgreesOn, IsReduced, IsSubspace, combination, expansion}
-use Rattle.linear_law.specs.Elimination.{KernelVector}
-use Rattle.linear_law.specs.Pivots.{IsPivot}
-use Rattle.linear_law.specs.Triangular.{Skips, kernel_place}
+use Rattle.linear_law.specs.Names.{Congruent, IsField, Each, AgreesOn, IsReduced, IsSubspace, combination, expansion, KernelVector, IsPivot, Skips, kernel_place}
 use Rattle.linear_law.proofs.CongruenceLemmas.{Congruent_add, Congruent_from, Congruent_scale, Congruent_sym, Congruent_trans, add-negated}
 use Rattle.linear_law.proofs.ListLemmas.{each_map}
 use Rattle.linear_law.proofs.ReducedLemmas.{coefficients, coefficients_count, coefficients_small, combination_expanded, combination_vanishes, same_coefficients}

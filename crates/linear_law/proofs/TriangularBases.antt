@@ -2,14 +2,10 @@
 -- reduced basis with these leads.
 use Rattle.std.proofs.Common.{◌≡◌, ℕ, zero, suc, ◌+◌, ◌*◌, ◌-◌, ◌<◌, ◌≢◌, ◌⊎◌, List, [], ◌∷◌, map, arith, refl, sym, ap, subst, ◌∙◌, inl, inr}
 use Rattle.std.proofs.lemmas.Bool.{cases_eq, cases_order}
-use Rattle.linear_law.specs.Congruence.{Congruent, IsField, sum_over}
-use Rattle.linear_law.specs.Lists.{Among, Each, IsApart}
-use Rattle.linear_law.specs.ReducedBases.{IsSubspace, IsReduced, expansion}
-use Rattle.linear_law.specs.Pivots.{IsPivot}
+use Rattle.linear_law.specs.Names.{Congruent, IsField, sum_over, Among, Each, IsApart, IsSubspace, IsReduced, expansion, IsPivot, HasReducedBasis, LeadsAt, PlacedVector, place_of}
 use Rattle.linear_law.proofs.CongruenceLemmas.{Congruent_trans, Congruent_add, Congruent_scale, Congruent_from, add-negated}
 use Rattle.linear_law.proofs.ListLemmas.{among_map, each_map, each_zip, each_among}
 use Rattle.linear_law.proofs.ReducedLemmas.{expanded_in, sum_picks}
-use Rattle.linear_law.specs.Triangular.{HasReducedBasis, LeadsAt, PlacedVector, place_of}
 use Rattle.linear_law.proofs.LeadLemmas.{zero_if, same_of_difference}
 use Rattle.linear_law.proofs.PivotLemmas.{one-nonzero}
 

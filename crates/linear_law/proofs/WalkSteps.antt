@@ -1,14 +1,10 @@
 -- A walk takes one more place: it is skipped, its row goes to zero, or its row is one more image.
 use Rattle.std.proofs.Common.{◌≡◌, ℕ, suc, ◌+◌, ◌*◌, ◌-◌, ◌%◌, ◌<◌, ◌≤◌, ◌≢◌, List, [], ◌∷◌, map, arith, sym, subst, inl, inr}
 use Rattle.std.proofs.lemmas.Bool.{cases_lt, cases_eq}
-use Rattle.linear_law.specs.Congruence.{Congruent, IsField}
-use Rattle.linear_law.specs.Lists.{Each, Among}
-use Rattle.linear_law.specs.ReducedBases.{AgreesOn}
-use Rattle.linear_law.specs.Elimination.{IsLinear, KernelVector, ImageVector}
+use Rattle.linear_law.specs.Names.{Congruent, IsField, Each, Among, AgreesOn, IsLinear, KernelVector, ImageVector, LeadsAt, Skips, StartsAt, Walked, image_place, kernel_place}
 use Rattle.linear_law.proofs.ListLemmas.{each_map, each_of_map, each_zip}
 use Rattle.linear_law.proofs.CongruenceLemmas.{Congruent_refl, Congruent_sym, Congruent_trans, Congruent_add, Congruent_scale, Congruent_from, add-negated}
 use Rattle.linear_law.proofs.PivotLemmas.{zero_or_not, not_zero}
-use Rattle.linear_law.specs.Triangular.{LeadsAt, Skips, StartsAt, Walked, image_place, kernel_place}
 use Rattle.linear_law.proofs.LeadLemmas.{mul_nonzero, nonzero_alike, lead_alike}
 
 module _ (p count width : ℕ) (field : IsField p) (L : (ℕ → ℕ) → ℕ → ℕ) (linear : IsLinear p count (λ y. y < width) L) (skipped : ℕ → Type 0) where

@@ -1,17 +1,11 @@
 -- What a walk of all places says of the kernel and of the image of a linear map.
 use Rattle.std.proofs.Common.{ℕ, ◌+◌, ◌*◌, ◌-◌, ◌<◌, ◌≤◌, ◌⊎◌, List, map, arith, sym, subst, ◌∙◌, inl, inr}
 use native.Mathlib.Nat.{zero-mod}
-use Rattle.linear_law.specs.Congruence.{Congruent, IsField, sum_over}
-use Rattle.linear_law.specs.Lists.{Each, Among}
-use Rattle.linear_law.specs.ReducedBases.{AgreesOn, IsSubspace, expansion}
-use Rattle.linear_law.specs.Elimination.{ImageVector, IsImage, IsInKernel, IsLinear, KernelVector}
-use Rattle.linear_law.specs.Pivots.{IsPivot, IsCanonical}
+use Rattle.linear_law.specs.Names.{Congruent, IsField, sum_over, Each, Among, AgreesOn, IsSubspace, expansion, ImageVector, IsImage, IsInKernel, IsLinear, KernelVector, IsPivot, IsCanonical, WalkLaw, HasReducedBasis, LeadsAt, StartsAt, Skips, Walked, kernel_place, image_place}
 use Rattle.linear_law.proofs.CongruenceLemmas.{Congruent_sym, Congruent_trans, Congruent_add, Congruent_scale, Congruent_from, add-negated}
 use Rattle.linear_law.proofs.ListLemmas.{each_map, each_zip, each_among}
 use Rattle.linear_law.proofs.PivotLemmas.{one-nonzero, reduced_apart, reduced_one}
 use Rattle.linear_law.proofs.ReducedLemmas.{expanded_in, sum_picks, sum_vanishes}
-use Rattle.linear_law.specs.Laws.{WalkLaw}
-use Rattle.linear_law.specs.Triangular.{HasReducedBasis, LeadsAt, StartsAt, Skips, Walked, kernel_place, image_place}
 use Rattle.linear_law.proofs.LeadLemmas.{zero_if, same_of_difference, lead_alike}
 use Rattle.linear_law.proofs.TriangularBases.{each_of_index, found, reduced_basis}
 
@@ -124,21 +118,6 @@ module _ (p count width : ℕ) (field : IsField p) (L : (ℕ → ℕ) → ℕ �
         ]
         | inr is ↦ s.at x is
       ]
-
-  -- and no more than one such vector goes to the same
-  pub primitive_once : (v w : ℕ → ℕ) → AgreesOn p (λ y. y < width) (L v) (L w)
-      → ((x : ℕ) → IsPivot p (λ x. x < count) (λ a b. a < b) (IsInKernel p (λ y. y < width) L) x → Congruent p (v x) 0) → ((x : ℕ) → IsPivot p (λ x. x < count) (λ a b. a < b) (IsInKernel p (λ y. y < width) L) x → Congruent p (w x) 0)
-      → AgreesOn p (λ x. x < count) v w
-  primitive_once v w same hv hw =
-      let d : ℕ → ℕ = λ x. v x + (p - 1) * w x in
-      let in_m : (IsInKernel p (λ y. y < width) L) d = record {
-        at = λ y on.
-            Congruent_trans ((linear.plus (p - 1) v w).at y on) (Congruent_from (Congruent_add (same.at y on) (add-negated p (L w y) field.large)) (omega arith));
-      } in
-      same_of_difference p count v w field.large
-      (zero_if p count d (λ t l.
-      let q : IsPivot p (λ x. x < count) (λ a b. a < b) (IsInKernel p (λ y. y < width) L) t = record { vector = d; member = in_m; lead = l } in
-      Congruent_from (Congruent_add (hv t q) (Congruent_scale (p - 1) (hw t q))) (omega arith)))
 
 pub walk_law : WalkLaw
 walk_law p count width L skip kernel images field linear state =

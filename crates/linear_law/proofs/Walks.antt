@@ -1,15 +1,8 @@
 -- Each linear map has a walk of all its places. The vectors of the kernel and the images are together as
 -- many as the places.
-use Rattle.std.proofs.Common.{◌≡◌, ℕ, ◌+◌, ◌*◌, ◌-◌, ◌<◌, ◌≤◌, inl, inr, subst, arith, [], ◌∷◌, sym}
-use Rattle.std.specs.Prelude.{zero, suc}
+use Rattle.std.proofs.Common.{◌≡◌, ℕ, ◌+◌, ◌*◌, ◌-◌, ◌<◌, ◌≤◌, inl, inr, subst, arith, [], ◌∷◌, sym, zero, suc}
 use Rattle.std.proofs.lemmas.Bool.{cases_lt}
-use Rattle.linear_law.specs.Congruence.{Congruent, IsField}
-use Rattle.linear_law.specs.Lists.{Among, Each}
-use Rattle.linear_law.specs.ReducedBases.{AgreesOn}
-use Rattle.linear_law.specs.Elimination.{ImageVector, IsLinear, KernelVector}
-use Rattle.linear_law.specs.Listing.{unit_vector}
-use Rattle.linear_law.specs.Laws.{CountedWalkLaw}
-use Rattle.linear_law.specs.Triangular.{CountedWalk, LeadsAt, Skips, StartsAt, image_place}
+use Rattle.linear_law.specs.Names.{Congruent, IsField, Among, Each, AgreesOn, ImageVector, IsLinear, KernelVector, unit_vector, CountedWalkLaw, CountedWalk, LeadsAt, Skips, StartsAt, image_place}
 use Rattle.linear_law.proofs.CongruenceLemmas.{Congruent_add, Congruent_from, Congruent_of, Congruent_refl, Congruent_scale, Congruent_trans, add-negated}
 use Rattle.linear_law.proofs.ListLemmas.{each_among, each_map, each_zip}
 use Rattle.linear_law.proofs.PivotLemmas.{zero_or_not}

@@ -1,12 +1,10 @@
 -- The difference of the turn and the identity, and the sum of the powers of the turn: what they give
 -- one after the other, and with a boundary.
-use Rattle.std.proofs.Common.{◌≡◌, ℕ, zero, suc, List, [], ◌∷◌, refl, sym, ap, ◌∙◌, arith}
-use Rattle.std.specs.Prelude.{ℤ, pos, ◌+ℤ◌, ◌-ℤ◌, ◌*ℤ◌}
+use Rattle.std.proofs.Common.{◌≡◌, ℕ, zero, suc, List, sym, ap, ◌∙◌, arith, ℤ, pos, ◌-ℤ◌, ◌*ℤ◌}
 use Rattle.std.proofs.lemmas.Int.{ints}
-use Rattle.signed_sum.specs.Sums.{value_at}
-use Rattle.signed_sum.specs.Turns.{difference, power_sum, after_turns}
+use Rattle.signed_sum.specs.Names.{value_at, difference, power_sum, after_turns}
 use Rattle.signed_sum.proofs.Ring.{mul-add, mul-sub, mul_assoc, mul_comm, one-mul}
-use Rattle.signed_sum.proofs.SumLemmas.{value_at-sub}
+use Rattle.signed_sum.proofs.SumLemmas.{value_at-nothing, value_at-sub, value_at-sum}
 
 -- phi at the element after n turns, with the sign
 abbrev pub at_turn : {X : Type 0} → (X → X × ℤ) → ℕ → (X → ℤ) → X → ℤ
@@ -95,14 +93,6 @@ boundary-turned {X = X} turn boundary Kind c phi (suc n) x k =
     ∙ ap (λ v. p.1 *ℤ v) (c.commutes phi p.0 (kept_on turn boundary Kind c n x k))
     ∙ boundary-turned turn boundary Kind c f n x k
     ∙ (λ i. value_at (λ y. turn_more turn n phi y i) (boundary x))
-
-value_at-sum : {X : Type 0} (f g : X → ℤ) (ts : List (X × ℤ)) → value_at (λ y. f y +ℤ g y) ts ≡ value_at f ts +ℤ value_at g ts
-value_at-sum f g [] = refl
-value_at-sum f g (t ∷ ts) = omega (arith, ints, value_at-sum f g ts, mul-add t.1 (f t.0) (g t.0))
-
-value_at-nothing : {X : Type 0} (ts : List (X × ℤ)) → value_at {X = X} (λ y. pos 0) ts ≡ pos 0
-value_at-nothing [] = refl
-value_at-nothing (t ∷ ts) = omega (arith, ints, value_at-nothing ts, mul_comm t.1 (pos 0))
 
 -- the boundary commutes with the sum of the powers
 pub boundary-powers : {X : Type 0} (turn : X → X × ℤ) (boundary : X → List (X × ℤ)) (Kind : X → Type 0) → CommutesWithTurn turn boundary Kind → (phi : X → ℤ) (n : ℕ) (x : X) → Kind x →
