@@ -1,7 +1,7 @@
 -- One step of the power by squares.
-use Rattle.std.proofs.Common.{◌≡◌, ℕ, ◌+◌, ◌*◌, ◌/◌, ◌%◌, ◌^◌, ◌≢◌, sym, ◌∙◌, ap, arith}
+use Rattle.std.proofs.Common.{◌≡◌, ℕ, ◌+◌, ◌*◌, ◌/◌, ◌%◌, ◌^◌, ◌≢◌, sym, ◌∙◌, ap, arith, pow-add}
 use Rattle.std.proofs.Math.Nat.{pow-suc, pow-zero}
-use Rattle.std.proofs.lemmas.Nat.{pow-mod, mul-mod_second, mul-mod_first, mul-pow, pow-add}
+use Rattle.std.proofs.lemmas.Nat.{pow-mod, mul-mod_second, mul-mod_first, mul-pow}
 
 one_exponent : (b : ℕ) → b ^ 1 ≡ b
 one_exponent b = pow-suc b 0 ∙ ap (λ x. x * b) (pow-zero b) ∙ omega arith

@@ -1,11 +1,10 @@
 -- The constant of the odd power operations.
-use Rattle.std.proofs.Common.{◌≡◌, ℕ, ◌*◌, ◌%◌, ◌-◌, ◌^◌, ◌<◌, ◌≢◌, zero, suc, sym, ◌∙◌, ap, arith}
-use Rattle.std.specs.Prelude.{IsTrue}
+use Rattle.std.proofs.Common.{◌≡◌, ℕ, ◌*◌, ◌%◌, ◌-◌, ◌^◌, ◌<◌, ◌≢◌, zero, suc, sym, ◌∙◌, ap, arith, IsTrue}
 use Rattle.std.proofs.Math.Nat.{pow-suc, pow-zero, mod-eq_of_lt}
 use Rattle.std.proofs.lemmas.Nat.{pow-mod, mul-pow}
 use native.Mathlib.Nat.{mod-mod}
-use Rattle.linear_law.specs.Congruence.{Congruent, IsField, negated}
-use Rattle.linear_law.proofs.CongruenceLemmas.{Congruent_refl, Congruent_of, Congruent_sym, Congruent_trans, Congruent_mul, Congruent_scale, Congruent_mod}
+use Rattle.linear_law.specs.Names.{Congruent, IsField, negated}
+use Rattle.linear_law.proofs.Names.{Congruent_refl, Congruent_of, Congruent_sym, Congruent_trans, Congruent_mul, Congruent_scale, Congruent_mod}
 use Rattle.fp_field.specs.Served.{served}
 use Rattle.fp_field.specs.Element.{sign_power, factorial, half}
 use Rattle.fp_field.proofs.ServedLemmas.{for_served}

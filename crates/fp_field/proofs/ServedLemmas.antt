@@ -1,9 +1,8 @@
 -- What each served prime is. No file of another crate names the primes.
-use Rattle.std.specs.Prelude.{ℕ, ◌<◌, ◌^◌, IsTrue}
-use Rattle.std.proofs.Common.{sym, subst, inl, inr, arith, lit<}
+use Rattle.std.proofs.Common.{ℕ, ◌<◌, ◌^◌, IsTrue, sym, subst, inl, inr, arith, lit<}
 use Rattle.std.proofs.lemmas.Bool.{cases_eq}
-use Rattle.linear_law.specs.Congruence.{IsField}
-use Rattle.linear_law.proofs.Primes.{two_field, three_field, five_field}
+use Rattle.linear_law.specs.Names.{IsField}
+use Rattle.linear_law.proofs.Names.{two_field, three_field, five_field}
 use Rattle.fp_field.specs.Served.{served}
 
 -- what holds of each of them holds of a served prime

@@ -1,6 +1,6 @@
 -- Signs and factorials, modulo p.
 use Rattle.std.specs.Prelude.{ℕ, ◌+◌, ◌-◌, ◌*◌, ◌/◌, ◌^◌, zero, suc}
-use Rattle.linear_law.specs.Congruence.{Congruent, negated}
+use Rattle.linear_law.specs.Names.{Congruent, negated}
 
 -- (-1)^e
 abbrev pub sign_power : ℕ → ℕ → ℕ

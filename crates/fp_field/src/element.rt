@@ -1,6 +1,6 @@
 ghost use Rattle.std.specs.Prelude.{◌≡◌, ℕ, ◌+◌, ◌*◌, ◌%◌, ◌^◌, ◌<◌, ◌≤◌, ◌≢◌, ◌↔◌, IsTrue, pos};
 ghost use Rattle.std.specs.Int.{int_rem_euclid};
-ghost use Rattle.linear_law.specs.Congruence.{negated};
+ghost use Rattle.linear_law.specs.Names.{negated};
 ghost use Rattle.fp_field.specs.Served.{served};
 ghost use Rattle.fp_field.specs.Element.{IsScale};
 

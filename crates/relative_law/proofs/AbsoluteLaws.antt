@@ -1,17 +1,10 @@
 -- Where the subcomplex has no facet, relative notions are absolute ones; and degrees without a simplex.
 use Rattle.std.proofs.Common.{◌≡◌, ℕ, ◌+◌, List, [], ◌∷◌, length, map, refl, arith}
-use Rattle.linear_law.proofs.ListLemmas.{each_map, zip_change}
-use Rattle.linear_law.specs.Congruence.{negated}
-use Rattle.linear_law.specs.Matrices.{IsCoordinates}
-use Rattle.linear_law.specs.Pivots.{IsCanonical, IsPivot}
-use Rattle.linear_law.specs.ReducedBases.{combination}
-use Rattle.simplicial_law.specs.Canonical.{IsCanonicalModulo}
-use Rattle.simplicial_law.specs.CanonicalClasses.{IsCanonicalBasisModulo, cochain_of}
-use Rattle.simplicial_law.specs.Cochains.{Chain, Cochain, IsBasisModulo, IsCoboundary, IsCocycle}
-use Rattle.simplicial_law.specs.Simplices.{IsSimplex, Precedes}
+use Rattle.linear_law.proofs.Names.{each_map, zip_change}
+use Rattle.linear_law.specs.Names.{negated, IsCoordinates, IsCanonical, IsPivot, combination}
+use Rattle.simplicial_law.specs.Names.{IsCanonicalModulo, IsCanonicalBasisModulo, cochain_of, Chain, Cochain, IsBasisModulo, IsCoboundary, IsCocycle, IsSimplex, Precedes}
 use Rattle.relative_law.proofs.Spaces.{forget_bound, zero_bound}
-use Rattle.relative_law.specs.Laws.{AbsoluteLaw, NoSimplexLaw}
-use Rattle.relative_law.specs.Pairs.{IsRelativeBasis, IsRelativeCoboundary, IsRelativeCocycle}
+use Rattle.relative_law.specs.Names.{AbsoluteLaw, NoSimplexLaw, IsRelativeBasis, IsRelativeCoboundary, IsRelativeCocycle}
 
 -- ---- cocycles and coboundaries of two kinds that are the same cochains
 

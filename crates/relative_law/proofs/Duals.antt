@@ -1,8 +1,7 @@
 -- The relative coordinates of a relative cocycle are its pairings with dual cycles.
 use Rattle.std.proofs.Common.{ℕ, List, subst}
-use Rattle.simplicial_law.proofs.DualLemmas.{coordinates_are}
-use Rattle.relative_law.specs.Laws.{RelativeDualLaw}
-use Rattle.relative_law.specs.Pairs.{HasRelativeCoordinates, IsRelativeCoboundary}
+use Rattle.simplicial_law.proofs.Names.{coordinates_are}
+use Rattle.relative_law.specs.Names.{RelativeDualLaw, HasRelativeCoordinates, IsRelativeCoboundary}
 
 pub relative_dual_law : RelativeDualLaw
 relative_dual_law facets sub n p zs ys z field basis dual closed =

@@ -1,38 +1,16 @@
 -- The vectors that a walk of the rows of relative cochains keeps are the canonical relative classes, and a basis
 -- of relative cohomology.
-use Rattle.std.proofs.Common.{◌≡◌, ℕ, ◌+◌, ◌*◌, ◌-◌, ◌%◌, ◌<◌, ◌≤◌, ◌⊎◌, List, [], ◌∷◌, map, length, get_or, arith, refl, sym, ap, ap₂, subst, ◌∙◌, inl, inr}
+use Rattle.std.proofs.Common.{◌≡◌, ℕ, ◌+◌, ◌*◌, ◌-◌, ◌%◌, ◌<◌, ◌≤◌, ◌⊎◌, List, [], ◌∷◌, map, length, get_or, arith, sym, ap, ap₂, subst, ◌∙◌, inl, inr}
 use Rattle.std.specs.List.{AllZip}
 use Rattle.std.proofs.Math.ListN.{length-map}
 use Rattle.std.proofs.lemmas.Simd.{map-map}
-use Rattle.std.proofs.lemmas.Bool.{cases_eq}
-use Rattle.linear_law.specs.Congruence.{Congruent, IsField, negated, sum_over}
-use Rattle.linear_law.specs.Lists.{Among, Each, IsAscending}
-use Rattle.linear_law.specs.ReducedBases.{AgreesOn, IsSubspace, combination, expansion}
-use Rattle.linear_law.specs.Elimination.{ImageVector, IsImage, IsInKernel, IsLinear, KernelVector}
-use Rattle.linear_law.specs.Listing.{ListsAll, row_combination, unit_vector}
-use Rattle.linear_law.specs.Pivots.{IsCanonical, IsPivot}
-use Rattle.linear_law.specs.Triangular.{LeadsAt, Skips, Walked, image_place, kernel_place}
-use Rattle.linear_law.proofs.ListLemmas.{each_alike, each_right, length_alike, zip_each, zip_left, zip_right}
-use Rattle.linear_law.proofs.CongruenceLemmas.{Congruent_add, Congruent_from, Congruent_of, Congruent_refl, Congruent_scale, Congruent_sym, Congruent_trans}
-use Rattle.linear_law.proofs.ListLemmas.{among_map, each_among, each_map, each_of_map, each_zip}
-use Rattle.linear_law.proofs.PivotLemmas.{not_zero}
-use Rattle.linear_law.proofs.QuotientBases.{coordinates, coordinates_count, coordinates_only, coordinates_rest, coordinates_small}
-use Rattle.linear_law.proofs.RowCombinations.{unit_one, unit_other}
-use Rattle.linear_law.proofs.TriangularBases.{found}
-use Rattle.linear_law.proofs.WalkedSpaces.{classes_span, image_pivot, kernel_canonical, kernel_fresh, kernel_leads, kernel_pivot, kernel_space, lead_pivot, primitive_vanishes}
-use Rattle.simplicial_law.specs.Simplices.{IsInOrder, IsSimplex, Precedes}
-use Rattle.simplicial_law.specs.Cochains.{AgreesOnSimplices, Chain, Cochain, coboundary, unit_cochain}
-use Rattle.simplicial_law.specs.CanonicalClasses.{AreTerms, cochain_of}
-use Rattle.simplicial_law.specs.Places.{IsRowOf, cochain_at, terms_of}
-use Rattle.simplicial_law.proofs.DegreeZero.{no_bounds}
-use Rattle.simplicial_law.proofs.SimplexPlaces.{agree_by_place, canonical_up, cochain_at-value, ordered_places, pivot_down, pivot_up, simplex_at}
-use Rattle.simplicial_law.proofs.UnitCochains.{unit_away, unit_here}
+use Rattle.linear_law.specs.Names.{Congruent, IsField, negated, Among, Each, IsAscending, AgreesOn, IsSubspace, combination, expansion, ImageVector, IsImage, IsInKernel, IsLinear, KernelVector, ListsAll, row_combination, IsCanonical, IsPivot, LeadsAt, Skips, Walked, image_place, kernel_place}
+use Rattle.linear_law.proofs.Names.{each_alike, each_right, length_alike, zip_each, zip_left, zip_right, Congruent_add, Congruent_from, Congruent_of, Congruent_refl, Congruent_scale, Congruent_sym, Congruent_trans, among_map, each_among, each_map, each_of_map, each_zip, not_zero, coordinates, coordinates_count, coordinates_only, coordinates_rest, coordinates_small, found, classes_span, image_pivot, kernel_canonical, kernel_fresh, kernel_leads, kernel_pivot, kernel_space, lead_pivot, primitive_vanishes}
+use Rattle.simplicial_law.specs.Names.{IsInOrder, IsSimplex, Precedes, AgreesOnSimplices, Chain, Cochain, coboundary, AreTerms, cochain_of, IsRowOf, cochain_at, terms_of}
+use Rattle.simplicial_law.proofs.Names.{no_bounds, agree_by_place, canonical_up, cochain_at-value, ordered_places, pivot_down, pivot_up, simplex_at, value_by_place}
 use Rattle.relative_law.proofs.RelativeDegrees.{IsOff, IsOuterByPlace, coboundary_down, coboundary_up, cocycle_down, cocycle_up, linear, off_down, off_up, outer_itself, rows_by_place}
 use Rattle.relative_law.proofs.Spaces.{bound_relative, forget_bound, relative_close, relative_coboundaries, relative_cocycles}
-use Rattle.relative_law.specs.Laws.{RelativeBasisLaw}
-use Rattle.relative_law.specs.Pairs.{IsRelativeBasis, IsRelativeCoboundary, IsRelativeCocycle, IsSubcomplex}
-use Rattle.relative_law.specs.RelativeClasses.{IsCanonicalRelativeBasis, IsCanonicalRelativeClass, IsCanonicalRelativeCoboundary, IsCanonicalRelativePrimitive, IsRelativeCoboundaryPivot, IsRelativeCocyclePivot}
-use Rattle.relative_law.specs.RelativeElimination.{AreRelativeBoundPlaces, AreSkippedPlaces}
+use Rattle.relative_law.specs.Names.{RelativeBasisLaw, IsRelativeBasis, IsRelativeCoboundary, IsRelativeCocycle, IsSubcomplex, IsCanonicalRelativeBasis, IsCanonicalRelativeClass, IsCanonicalRelativeCoboundary, IsCanonicalRelativePrimitive, IsRelativeCoboundaryPivot, IsRelativeCocyclePivot, AreRelativeBoundPlaces, AreSkippedPlaces}
 
 -- ---- cochains that agree
 
@@ -80,6 +58,31 @@ module _ (facets sub : List (List ℕ)) (n p : ℕ) (field : IsField p) (pair : 
             (image_pivot p (length here) (length above) field L (linear facets sub n p pair here all_here above all_above L is_outer) skipped kernel images state d.0 d.3);
         decide = λ x. elim (found image_place x images) [ inl f ↦ inl (among_map image_place f.0 x images f.1 f.2) | inr none ↦ inr none ];
       }
+
+-- ---- the relative coboundaries, by places
+
+abbrev pub IsBoundByPlace : List (List ℕ) → List (List ℕ) → ℕ → ℕ → List (List ℕ) → (ℕ → ℕ) → Type 0
+IsBoundByPlace facets sub n p here v = IsRelativeCoboundary facets sub n p (cochain_at here v)
+
+module _ (facets sub : List (List ℕ)) (n p : ℕ) (large : 1 < p) (pair : IsSubcomplex sub facets) (here : List (List ℕ)) (all_here : ListsAll (IsSimplex facets n) here) where
+  bound_by_place : (v : ℕ → ℕ) (f : Cochain) → ((x : ℕ) → x < length here → Congruent p (v x) (f (get_or here x []))) → IsRelativeCoboundary facets sub n p f → IsBoundByPlace facets sub n p here v
+  bound_by_place v f h b =
+      (relative_coboundaries facets sub n p large pair).alike (cochain_at here v) f
+      (agree_by_place facets n p here all_here (cochain_at here v) f (λ x c. Congruent_trans (Congruent_of (cochain_at-value facets n p here all_here v x c)) (h x c))) b
+
+  pub bounds_by_place : IsSubspace p (λ x. x < length here) (IsBoundByPlace facets sub n p here)
+  bounds_by_place =
+      let in_b = relative_coboundaries facets sub n p large pair in
+      let value = cochain_at-value facets n p here all_here in
+      record {
+        zero_in = bound_by_place (λ x. 0) (λ s. 0) (λ x c. Congruent_refl 0) in_b.zero_in;
+        plus = λ k v w hv hw. bound_by_place (λ x. v x + k * w x) (λ s. cochain_at here v s + k * cochain_at here w s)
+            (λ x c. Congruent_of (sym (ap₂ (λ a b. a + k * b) (value v x c) (value w x c)))) (in_b.plus k (cochain_at here v) (cochain_at here w) hv hw);
+        alike = λ v w same h. bound_by_place v (cochain_at here w) (λ x c. Congruent_trans (same.at x c) (Congruent_of (sym (value w x c)))) h;
+      }
+
+  pub bound_down : (f : Cochain) → IsRelativeCoboundary facets sub n p f → IsBoundByPlace facets sub n p here (λ x. f (get_or here x []))
+  bound_down f h = bound_by_place (λ x. f (get_or here x [])) f (λ x c. Congruent_refl (f (get_or here x []))) h
 
 -- ---- the relative cocycles of one degree
 
@@ -159,30 +162,7 @@ module _ (facets sub : List (List ℕ)) (n p : ℕ) (field : IsField p) (pair : 
         ]
       ]
 
-  -- ---- the relative coboundaries, by places
-
-  abbrev Bounds : (ℕ → ℕ) → Type 0
-  Bounds v = IsRelativeCoboundary facets sub n p (cochain_at here v)
-
-  bounds_alike : (v : ℕ → ℕ) (f : Cochain) → ((x : ℕ) → x < length here → Congruent p (v x) (f (get_or here x []))) → IsRelativeCoboundary facets sub n p f → Bounds v
-  bounds_alike v f h b =
-      (relative_coboundaries facets sub n p field.large pair).alike (cochain_at here v) f (agree_by_place facets n p here all_here (cochain_at here v) f (λ x c. Congruent_trans (Congruent_of (cochain_at-value facets n p here all_here v x c)) (h x c))) b
-
-  bounds_space : IsSubspace p (λ x. x < length here) Bounds
-  bounds_space =
-      let in_b = relative_coboundaries facets sub n p field.large pair in
-      let value = cochain_at-value facets n p here all_here in
-      record {
-        zero_in = bounds_alike (λ x. 0) (λ s. 0) (λ x c. Congruent_refl 0) in_b.zero_in;
-        plus = λ k v w hv hw. bounds_alike (λ x. v x + k * w x) (λ s. cochain_at here v s + k * cochain_at here w s)
-            (λ x c. Congruent_of (sym (ap₂ (λ a b. a + k * b) (value v x c) (value w x c)))) (in_b.plus k (cochain_at here v) (cochain_at here w) hv hw);
-        alike = λ v w same h. bounds_alike v (cochain_at here w) (λ x c. Congruent_trans (same.at x c) (Congruent_of (sym (value w x c)))) h;
-      }
-
-  bounds_down : (f : Cochain) → IsRelativeCoboundary facets sub n p f → Bounds (λ x. f (get_or here x []))
-  bounds_down f h = bounds_alike (λ x. f (get_or here x [])) f (λ x c. Congruent_refl (f (get_or here x []))) h
-
-  bounds_close_here : (w : ℕ → ℕ) → Bounds w → IsClosed w
+  bounds_close_here : (w : ℕ → ℕ) → IsBoundByPlace facets sub n p here w → IsClosed w
   bounds_close_here w h =
       closed_space.alike w (λ x. cochain_at here w (get_or here x [])) (record { at = λ x c. Congruent_of (sym (cochain_at-value facets n p here all_here w x c)) })
       (closed_down (cochain_at here w) (relative_close facets sub n p field.large pair (cochain_at here w) h))
@@ -204,14 +184,14 @@ module _ (facets sub : List (List ℕ)) (n p : ℕ) (field : IsField p) (pair : 
   bound_inside : (x : ℕ) → IsBound x → x < length here
   bound_inside x h = places.inside x h.skipped_there
 
-  bounds_pivot : (x : ℕ) → IsBound x → IsPivot p (λ x. x < length here) (λ a b. a < b) Bounds x
+  bounds_pivot : (x : ℕ) → IsBound x → IsPivot p (λ x. x < length here) (λ a b. a < b) (IsBoundByPlace facets sub n p here) x
   bounds_pivot x is =
-      let d = pivot_down facets n p here all_here here_ordered {M = Bounds} (λ v h. h) bounds_down (get_or here x []) is.pivot in
-      subst (λ y. IsPivot p (λ x. x < length here) (λ a b. a < b) Bounds y) (all_here.once d.0 x [] d.1 (bound_inside x is) d.2) d.3
+      let d = pivot_down facets n p here all_here here_ordered {M = IsBoundByPlace facets sub n p here} (λ v h. h) (bound_down facets sub n p field.large pair here all_here) (get_or here x []) is.pivot in
+      subst (λ y. IsPivot p (λ x. x < length here) (λ a b. a < b) (IsBoundByPlace facets sub n p here) y) (all_here.once d.0 x [] d.1 (bound_inside x is) d.2) d.3
 
-  bounds_whole : (x : ℕ) → IsPivot p (λ x. x < length here) (λ a b. a < b) Bounds x → IsBound x
+  bounds_whole : (x : ℕ) → IsPivot p (λ x. x < length here) (λ a b. a < b) (IsBoundByPlace facets sub n p here) x → IsBound x
   bounds_whole x h =
-      let q = pivot_up facets n p here all_here here_ordered {M = Bounds} (λ v h. h) bounds_down x h in
+      let q = pivot_up facets n p here all_here here_ordered {M = IsBoundByPlace facets sub n p here} (λ v h. h) (bound_down facets sub n p field.large pair here all_here) x h in
       record { skipped_there = places.whole x h.lead.on q; pivot = q }
 
   inside_here : Each (λ (k : KernelVector). k.place < length here) kernel
@@ -227,7 +207,7 @@ module _ (facets sub : List (List ℕ)) (n p : ℕ) (field : IsField p) (pair : 
 
   coordinates_here : (ℕ → ℕ) → List ℕ
   coordinates_here =
-      coordinates p (length here) field bounds_space IsBound bound_or_not bound_inside bounds_pivot bounds_whole closed_space bounds_close_here kernel inside_here state.kernel_reduced skips_here spans_here
+      coordinates p (length here) field (bounds_by_place facets sub n p field.large pair here all_here) IsBound bound_or_not bound_inside bounds_pivot bounds_whole closed_space bounds_close_here kernel inside_here state.kernel_reduced skips_here spans_here
 
   -- ---- the printed classes
 
@@ -253,12 +233,12 @@ module _ (facets sub : List (List ℕ)) (n p : ℕ) (field : IsField p) (pair : 
     by_place z cs x b = Congruent_add (Congruent_refl (z (get_or here x []))) (Congruent_scale (p - 1) (combination_by_place cs kernel classes have x b))
 
     rest_down : (z : Cochain) (cs : List ℕ) → IsRelativeCoboundary facets sub n p (λ s. z s + negated p (combination cs (map cochain_of classes) s))
-        → Bounds (λ x. z (get_or here x []) + (p - 1) * combination cs (map (λ (k : KernelVector). k.vector) kernel) x)
+        → IsBoundByPlace facets sub n p here (λ x. z (get_or here x []) + (p - 1) * combination cs (map (λ (k : KernelVector). k.vector) kernel) x)
     rest_down z cs h =
-        bounds_alike (λ x. z (get_or here x []) + (p - 1) * combination cs (map (λ (k : KernelVector). k.vector) kernel) x) (λ s. z s + negated p (combination cs (map cochain_of classes) s))
+        bound_by_place facets sub n p field.large pair here all_here (λ x. z (get_or here x []) + (p - 1) * combination cs (map (λ (k : KernelVector). k.vector) kernel) x) (λ s. z s + negated p (combination cs (map cochain_of classes) s))
         (λ x b. Congruent_sym (by_place z cs x b)) h
 
-    rest_up : (z : Cochain) (cs : List ℕ) → Bounds (λ x. z (get_or here x []) + (p - 1) * combination cs (map (λ (k : KernelVector). k.vector) kernel) x)
+    rest_up : (z : Cochain) (cs : List ℕ) → IsBoundByPlace facets sub n p here (λ x. z (get_or here x []) + (p - 1) * combination cs (map (λ (k : KernelVector). k.vector) kernel) x)
         → IsRelativeCoboundary facets sub n p (λ s. z s + negated p (combination cs (map cochain_of classes) s))
     rest_up z cs h =
         let w : ℕ → ℕ = λ x. z (get_or here x []) + (p - 1) * combination cs (map (λ (k : KernelVector). k.vector) kernel) x in
@@ -277,30 +257,18 @@ module _ (facets sub : List (List ℕ)) (n p : ℕ) (field : IsField p) (pair : 
           let v : ℕ → ℕ = λ x. z (get_or here x []) in (
             coordinates_here v,
             record {
-              count = coordinates_count p (length here) field bounds_space IsBound bound_or_not bound_inside bounds_pivot bounds_whole closed_space bounds_close_here kernel inside_here state.kernel_reduced skips_here spans_here v ∙ sym size;
-              small = coordinates_small p (length here) field bounds_space IsBound bound_or_not bound_inside bounds_pivot bounds_whole closed_space bounds_close_here kernel inside_here state.kernel_reduced skips_here spans_here v;
+              count = coordinates_count p (length here) field (bounds_by_place facets sub n p field.large pair here all_here) IsBound bound_or_not bound_inside bounds_pivot bounds_whole closed_space bounds_close_here kernel inside_here state.kernel_reduced skips_here spans_here v ∙ sym size;
+              small = coordinates_small p (length here) field (bounds_by_place facets sub n p field.large pair here all_here) IsBound bound_or_not bound_inside bounds_pivot bounds_whole closed_space bounds_close_here kernel inside_here state.kernel_reduced skips_here spans_here v;
               rest = rest_up z (coordinates_here v)
-                  (coordinates_rest p (length here) field bounds_space IsBound bound_or_not bound_inside bounds_pivot bounds_whole closed_space bounds_close_here kernel inside_here state.kernel_reduced skips_here spans_here v (closed_down z h));
+                  (coordinates_rest p (length here) field (bounds_by_place facets sub n p field.large pair here all_here) IsBound bound_or_not bound_inside bounds_pivot bounds_whole closed_space bounds_close_here kernel inside_here state.kernel_reduced skips_here spans_here v (closed_down z h));
             },
           );
       only = λ z cs ds h a b.
-          coordinates_only p (length here) field bounds_space IsBound bound_or_not bound_inside bounds_pivot bounds_whole closed_space bounds_close_here kernel inside_here state.kernel_reduced skips_here spans_here
+          coordinates_only p (length here) field (bounds_by_place facets sub n p field.large pair here all_here) IsBound bound_or_not bound_inside bounds_pivot bounds_whole closed_space bounds_close_here kernel inside_here state.kernel_reduced skips_here spans_here
           (λ x. z (get_or here x [])) cs ds (a.count ∙ size) (b.count ∙ size) a.small b.small (rest_down z cs a.rest) (rest_down z ds b.rest);
     }
 
   -- ---- the rows of the vectors
-
-  unit_by_place : (x y : ℕ) → x < length here → y < length here → unit_cochain (get_or here x []) (get_or here y []) ≡ unit_vector x y
-  unit_by_place x y b c =
-      elim (cases_eq x y) [
-        | inl e ↦ subst (λ z. unit_cochain (get_or here x []) (get_or here z []) ≡ unit_vector x z) e (unit_here (get_or here x []) ∙ sym (unit_one x x))
-        | inr m ↦ unit_away (get_or here x []) (get_or here y []) (λ f. m (all_here.once x y [] b c f)) ∙ sym (unit_other x y (λ e. m (sym e)))
-      ]
-
-  row_by_place : (row : List (ℕ × ℕ)) → Each (λ e. e.0 < length here) row → (x : ℕ) → x < length here
-      → cochain_of (terms_of here row) (get_or here x []) ≡ sum_over (λ e. e.1 * unit_vector e.0 x) row
-  row_by_place [] h x b = refl
-  row_by_place (e ∷ es) h x b = ap₂ (λ m n. e.1 * m + n) (unit_by_place e.0 x h.0 b) (row_by_place es h.1 x b)
 
   terms_here : (row : List (ℕ × ℕ)) → IsAscending (map (λ e. e.0) row) → Each (λ e. e.0 < length here) row → Each (λ e. (0 < e.1) × (e.1 < p)) row → AreTerms facets n p (terms_of here row)
   terms_here row a b c = record {
@@ -317,7 +285,7 @@ module _ (facets sub : List (List ℕ)) (n p : ℕ) (field : IsField p) (pair : 
       let have : AllZip Has kernel (map (terms_of here) rows) =
       zip_right (IsRowOf p (length here)) Has (terms_of here)
       (λ k row (r : IsRowOf p (length here) k row). agree_by_place facets n p here all_here (cochain_of (terms_of here row)) (cochain_at here k.vector)
-      (λ x b. Congruent_trans (Congruent_of (row_by_place row r.inside x b)) (Congruent_trans (r.same x b) (Congruent_of (sym (cochain_at-value facets n p here all_here k.vector x b))))))
+      (λ x b. Congruent_trans (Congruent_of (value_by_place facets n p here all_here row x b)) (Congruent_trans (r.same x b) (Congruent_of (sym (cochain_at-value facets n p here all_here k.vector x b))))))
       kernel rows are in
       record {
         canonical = record {

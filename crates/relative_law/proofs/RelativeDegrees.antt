@@ -3,23 +3,13 @@
 use Rattle.std.proofs.Common.{◌≡◌, ℕ, ◌+◌, ◌*◌, ◌<◌, inl, inr, Bool, true, false, cond, List, [], length, get_or, arith, refl, sym, ap, subst, ◌∙◌}
 use Rattle.std.specs.List.{AllZip}
 use Rattle.std.proofs.lemmas.Bool.{cases_Bool}
-use Rattle.linear_law.specs.Congruence.{Congruent}
-use Rattle.linear_law.specs.Elimination.{IsImage, IsInKernel, IsLinear}
-use Rattle.linear_law.specs.Listing.{ListsAll, row_combination}
-use Rattle.linear_law.proofs.CongruenceLemmas.{Congruent_of, Congruent_refl, Congruent_sym, Congruent_trans}
-use Rattle.linear_law.proofs.ListLemmas.{each_get_or, zip_change}
-use Rattle.linear_law.proofs.UnitSums.{unit_sum-past}
-use Rattle.signed_sum.proofs.ListLemmas.{is_same_list-true}
-use Rattle.simplicial_law.specs.Simplices.{IsSimplex}
-use Rattle.simplicial_law.specs.Cochains.{AgreesOnSimplices, Cochain, coboundary, is_same_list, unit_cochain}
-use Rattle.simplicial_law.specs.Places.{cochain_at}
-use Rattle.simplicial_law.proofs.Bases.{coboundary_plus, coboundary_same, coboundary_zero}
-use Rattle.simplicial_law.proofs.DegreeMaps.{IsLinearMap, by_place, combined_rows, linear_by_place}
-use Rattle.simplicial_law.proofs.SimplexPlaces.{agree_by_place, cochain_at-value, simplex_at}
-use Rattle.simplicial_law.proofs.UnitCochains.{unit_away, unit_here}
+use Rattle.linear_law.specs.Names.{Congruent, IsImage, IsInKernel, IsLinear, ListsAll, row_combination}
+use Rattle.linear_law.proofs.Names.{Congruent_of, Congruent_refl, Congruent_sym, Congruent_trans, each_get_or, zip_change, unit_sum-past}
+use Rattle.signed_sum.proofs.Names.{is_same_list-true}
+use Rattle.simplicial_law.specs.Names.{IsSimplex, AgreesOnSimplices, Cochain, coboundary, is_same_list, unit_cochain, cochain_at}
+use Rattle.simplicial_law.proofs.Names.{coboundary_plus, coboundary_same, coboundary_zero, IsLinearMap, by_place, combined_rows, linear_by_place, agree_by_place, cochain_at-value, simplex_at, unit_away, unit_here}
 use Rattle.relative_law.proofs.Covered.{covered_simplex, simplex_covered}
-use Rattle.relative_law.specs.Pairs.{IsRelativeCoboundary, IsRelativeCochain, IsRelativeCocycle, IsSubcomplex, is_covered}
-use Rattle.relative_law.specs.RelativeElimination.{IsRelativeCoboundaryRow}
+use Rattle.relative_law.specs.Names.{IsRelativeCoboundary, IsRelativeCochain, IsRelativeCocycle, IsSubcomplex, is_covered, IsRelativeCoboundaryRow}
 
 -- ---- cochains outside the subcomplex
 

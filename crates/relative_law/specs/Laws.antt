@@ -1,18 +1,8 @@
 -- The laws of relative cohomology.
 use Rattle.std.specs.Prelude.{ℕ, ◌+◌, ◌<◌, List, [], get_or, length, map, ◌↔◌}
 use Rattle.std.specs.List.{AllZip}
-use Rattle.linear_law.specs.Congruence.{Congruent, IsField}
-use Rattle.linear_law.specs.Elimination.{ImageVector, IsImage, KernelVector}
-use Rattle.linear_law.specs.Lists.{Among, Each}
-use Rattle.linear_law.specs.Listing.{ListsAll, row_combination}
-use Rattle.linear_law.specs.ReducedBases.{AgreesOn}
-use Rattle.linear_law.specs.Triangular.{Skips, Walked, image_place}
-use Rattle.linear_law.specs.Pivots.{IsCanonical}
-use Rattle.simplicial_law.specs.Simplices.{IsInOrder, IsSimplex}
-use Rattle.simplicial_law.specs.Cochains.{Chain, Cochain, HasCoordinates, IsCoboundary, IsCocycle, IsCohomologyBasis}
-use Rattle.simplicial_law.specs.Canonical.{AreDualCycles, IsCanonicalCoboundary, IsCanonicalPrimitive, IsCoboundaryPivot, IsCocyclePivot, pairings}
-use Rattle.simplicial_law.specs.CanonicalClasses.{IsCanonicalBasis}
-use Rattle.simplicial_law.specs.Places.{IsRowOf, cochain_at, terms_of}
+use Rattle.linear_law.specs.Names.{Congruent, IsField, ImageVector, IsImage, KernelVector, Among, Each, ListsAll, row_combination, AgreesOn, Skips, Walked, image_place, IsCanonical}
+use Rattle.simplicial_law.specs.Names.{IsInOrder, IsSimplex, Chain, Cochain, HasCoordinates, IsCoboundary, IsCocycle, IsCohomologyBasis, AreDualCycles, IsCanonicalCoboundary, IsCanonicalPrimitive, IsCoboundaryPivot, IsCocyclePivot, pairings, IsCanonicalBasis, IsRowOf, cochain_at, terms_of}
 use Rattle.relative_law.specs.Pairs.{HasRelativeCoordinates, IsRelativeBasis, IsRelativeCoboundary, IsRelativeCocycle, IsSubcomplex}
 use Rattle.relative_law.specs.RelativeClasses.{IsCanonicalRelativeBasis, IsCanonicalRelativeCoboundary, IsCanonicalRelativePrimitive, IsRelativeCoboundaryPivot, IsRelativeCocyclePivot}
 use Rattle.relative_law.specs.RelativeElimination.{AreRelativeBoundPlaces, AreSkippedPlaces, IsRelativeCoboundaryRow}

@@ -1,13 +1,9 @@
 -- Linear maps of cochains to cochains one degree up, by the places of the simplices.
 use Rattle.std.proofs.Common.{◌≡◌, ℕ, suc, ◌+◌, ◌*◌, ◌<◌, List, [], ◌∷◌, length, get_or, arith, refl, sym, ap, ◌∙◌, add_comm}
 use Rattle.std.specs.List.{AllZip}
-use Rattle.linear_law.specs.Congruence.{Congruent}
-use Rattle.linear_law.specs.Elimination.{IsLinear}
-use Rattle.linear_law.specs.Listing.{ListsAll, row_combination_from, unit_sum_from}
-use Rattle.linear_law.proofs.CongruenceLemmas.{Congruent_add, Congruent_from, Congruent_of, Congruent_scale, Congruent_sym, Congruent_trans}
-use Rattle.simplicial_law.specs.Simplices.{IsSimplex}
-use Rattle.simplicial_law.specs.Cochains.{AgreesOnSimplices, Cochain, unit_cochain}
-use Rattle.simplicial_law.specs.Places.{cochain_at}
+use Rattle.linear_law.specs.Names.{Congruent, IsLinear, ListsAll, row_combination_from, unit_sum_from}
+use Rattle.linear_law.proofs.Names.{Congruent_add, Congruent_from, Congruent_of, Congruent_scale, Congruent_sym, Congruent_trans}
+use Rattle.simplicial_law.specs.Names.{IsSimplex, AgreesOnSimplices, Cochain, unit_cochain, cochain_at}
 use Rattle.simplicial_law.proofs.SimplexPlaces.{agree_by_place, cochain_at-value, simplex_at}
 
 -- D keeps sums and multiples

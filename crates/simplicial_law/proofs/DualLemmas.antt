@@ -1,16 +1,9 @@
 -- The coordinates of a cocycle are its pairings with dual cycles.
 use Rattle.std.proofs.Common.{◌≡◌, ℕ, zero, suc, ◌+◌, ◌*◌, ◌-◌, ◌<◌, ◌≢◌, List, [], ◌∷◌, length, get_or, arith, refl, sym, ap₂, subst, ◌∙◌, inl, inr, mod-eq_of_lt}
 use Rattle.std.proofs.lemmas.Bool.{cases_eq}
-use Rattle.linear_law.specs.Congruence.{Congruent, negated}
-use Rattle.linear_law.specs.Lists.{Each}
-use Rattle.linear_law.specs.Listing.{unit_vector}
-use Rattle.linear_law.specs.ReducedBases.{combination}
-use Rattle.linear_law.proofs.CongruenceLemmas.{Congruent_add, Congruent_from, Congruent_of, Congruent_scale, Congruent_sym, Congruent_trans, add-negated}
-use Rattle.linear_law.proofs.ListLemmas.{each_get_or}
-use Rattle.linear_law.proofs.RowCombinations.{unit_one, unit_other}
-use Rattle.simplicial_law.specs.Cochains.{Chain, Cochain, HasCoordinates, IsCoboundary, pairing}
-use Rattle.simplicial_law.specs.Canonical.{AreDualCycles, no_cochain, pairings}
-use Rattle.simplicial_law.specs.Laws.{DualCyclesLaw}
+use Rattle.linear_law.specs.Names.{Congruent, negated, Each, unit_vector, combination}
+use Rattle.linear_law.proofs.Names.{Congruent_add, Congruent_from, Congruent_of, Congruent_scale, Congruent_sym, Congruent_trans, add-negated, each_get_or, unit_one, unit_other}
+use Rattle.simplicial_law.specs.Names.{Chain, Cochain, HasCoordinates, IsCoboundary, pairing, AreDualCycles, no_cochain, pairings, DualCyclesLaw}
 
 pub pairing_plus : (k : ℕ) (f g : Cochain) (y : Chain) → pairing (λ s. f s + k * g s) y ≡ pairing f y + k * pairing g y
 pairing_plus k f g [] = omega arith

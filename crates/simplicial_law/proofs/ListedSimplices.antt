@@ -8,13 +8,13 @@ use Rattle.std.specs.List.Sorted.{IsStrictlySortedBy}
 use Rattle.std.specs.Cmp.Lexicographic.{nat_list_cmp_total}
 use Rattle.std.specs.FinMap.{slice_cmp-IsAntisymmetric, nat_cmp-IsAntisymmetric}
 use Rattle.std.specs.BTreeSet.{insert_key}
-use Rattle.linear_law.specs.Lists.{Each, Among, IsAscending}
-use Rattle.linear_law.specs.Listing.{ListsAll}
-use Rattle.linear_law.proofs.ListLemmas.{each_among, each_map}
-use Rattle.simplicial_law.specs.Simplices.{IsInOrder, IsSimplex, Precedes}
-use Rattle.simplicial_law.specs.ListedSimplices.{IsClosed, ListedSimplicesLaw, of_degree, simplex_cmp, simplices, sublists, with_facet}
+use Rattle.linear_law.specs.Names.{Each, Among, IsAscending, ListsAll}
+use Rattle.linear_law.proofs.Names.{each_among, each_map}
+use Rattle.simplicial_law.specs.Names.{IsInOrder, IsSimplex, Precedes, IsClosed, ListedSimplicesLaw, of_degree, simplex_cmp, sublists}
+use Rattle.simplicial_law.specs.ListedSimplices.{simplices, with_facet}
 use Rattle.simplicial_law.proofs.OrderedKeys.{among_inserted, insert_keeps, insert_puts, sorted_inserted}
 use Rattle.simplicial_law.proofs.Order.{lists_strict}
+use Rattle.simplicial_law.proofs.SubsetLemmas.{without_first}
 use Rattle.simplicial_law.proofs.Sublists.{sublists_cases, sublist_first, sublist_with, sublist_of_rest, sublists_twice}
 
 pub exact : (s t : List ℕ) → simplex_cmp s t ≡ Equal → s ≡ t
@@ -74,10 +74,6 @@ sublists_some (v ∷ vs) t m = sublists_cases v vs t (0 < length t) m
     (λ e. subst (λ (u : List ℕ). 0 < length u) e (omega arith))
     (λ r n e. subst (λ (u : List ℕ). 0 < length u) e (omega arith))
     (λ n. sublists_some vs t n)
-
-without_first : (v : ℕ) (vs s : List ℕ) → Each (λ w. v < w) s → Each (λ w. Among w (v ∷ vs)) s → Each (λ w. Among w vs) s
-without_first v vs [] a h = tt
-without_first v vs (w ∷ s) a h = (elim h.0 [ inl e ↦ absurd (omega arith) | inr k ↦ k ], without_first v vs s a.1 h.1)
 
 sublists_whole : (vs : List ℕ) (w : ℕ) (s : List ℕ) → IsAscending vs → IsAscending (w ∷ s) → Each (λ x. Among x vs) (w ∷ s) → Among (w ∷ s) (sublists vs)
 sublists_whole [] w s a b h = elim h.0 [ ]

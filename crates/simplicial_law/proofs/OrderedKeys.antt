@@ -5,7 +5,7 @@ use Rattle.std.specs.Cmp.{IsTotalOrder}
 use Rattle.std.specs.BTreeSet.{insert_key}
 use Rattle.std.specs.List.{AllByRecursion, list_any}
 use Rattle.std.specs.List.Sorted.{IsStrictlySortedBy}
-use Rattle.linear_law.specs.Lists.{Among}
+use Rattle.linear_law.specs.Names.{Among}
 
 inserted_step : {K : Type 0} (o : Ordering) (t k x : K) (xs more : List K) → (Among t more → Among t xs ⊎ (k ≡ t)) → Among t (match_ordering o (k ∷ x ∷ xs) (x ∷ xs) (x ∷ more)) → Among t (x ∷ xs) ⊎ (k ≡ t)
 inserted_step Less t k x xs more h m = elim m [ inl e ↦ inr e | inr n ↦ inl n ]

@@ -1,18 +1,9 @@
 -- Between vectors by places and cochains: leads, pivots and canonical vectors, and simplices at ascending places.
 use Rattle.std.proofs.Common.{◌≡◌, ℕ, zero, suc, ◌%◌, ◌<◌, List, [], ◌∷◌, map, length, get_or, arith, sym, subst, ◌∙◌, ap}
 use Rattle.std.specs.Cmp.Lexicographic.{nat_list_cmp_total}
-use Rattle.linear_law.specs.Congruence.{Congruent}
-use Rattle.linear_law.specs.Lists.{Each, IsAscending}
-use Rattle.linear_law.specs.Listing.{ListsAll}
-use Rattle.linear_law.specs.Pivots.{IsCanonical, IsLead, IsPivot}
-use Rattle.linear_law.specs.Triangular.{LeadsAt}
-use Rattle.linear_law.proofs.CongruenceLemmas.{Congruent_of, Congruent_trans}
-use Rattle.linear_law.proofs.ListLemmas.{each_get_or}
-use Rattle.linear_law.proofs.CanonicalVectors.{unit_sum-lead}
-use Rattle.linear_law.proofs.UnitSums.{unit_sum-value}
-use Rattle.simplicial_law.specs.Simplices.{IsInOrder, IsSimplex, Precedes}
-use Rattle.simplicial_law.specs.Cochains.{AgreesOnSimplices, Cochain, unit_cochain}
-use Rattle.simplicial_law.specs.Places.{cochain_at}
+use Rattle.linear_law.specs.Names.{Congruent, Each, IsAscending, ListsAll, IsCanonical, IsLead, IsPivot, LeadsAt}
+use Rattle.linear_law.proofs.Names.{Congruent_of, Congruent_trans, each_get_or, unit_sum-lead, unit_sum-value}
+use Rattle.simplicial_law.specs.Names.{IsInOrder, IsSimplex, Precedes, AgreesOnSimplices, Cochain, unit_cochain, cochain_at}
 use Rattle.simplicial_law.proofs.Order.{lists_compare, lists_strict}
 use Rattle.simplicial_law.proofs.UnitCochains.{unit_away, unit_here}
 
@@ -73,7 +64,7 @@ module _ (facets : List (List ℕ)) (n p : ℕ) (here : List (List ℕ)) (all_he
 
 -- ---- lists in order
 
-in_order_more : (s : List ℕ) (ss : List (List ℕ)) → Each (Precedes s) ss → IsInOrder ss → IsInOrder (s ∷ ss)
+pub in_order_more : (s : List ℕ) (ss : List (List ℕ)) → Each (Precedes s) ss → IsInOrder ss → IsInOrder (s ∷ ss)
 in_order_more s ss h o zero zero b c = absurd (omega arith)
 in_order_more s ss h o zero (suc k) b c = each_get_or (Precedes s) ss k [] (omega arith) h
 in_order_more s ss h o (suc j) zero b c = absurd (omega arith)

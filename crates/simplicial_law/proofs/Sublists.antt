@@ -1,8 +1,8 @@
 -- The non-empty sublists of a list, and of the list without one element.
 use Rattle.std.proofs.Common.{◌≡◌, ℕ, zero, suc, ◌<◌, ◌⊎◌, inl, inr, arith, refl, sym, ◌∙◌, ap, subst, List, [], ◌∷◌, ◌++◌, map, length}
-use Rattle.linear_law.specs.Lists.{Among}
-use Rattle.linear_law.proofs.ListLemmas.{among_left, among_map, among_right}
-use Rattle.simplicial_law.specs.ListedSimplices.{sublists}
+use Rattle.linear_law.specs.Names.{Among}
+use Rattle.linear_law.proofs.Names.{among_left, among_map, among_right}
+use Rattle.simplicial_law.specs.Names.{sublists}
 
 -- the list without its i-th element
 abbrev pub without : ℕ → List ℕ → List ℕ

@@ -1,14 +1,8 @@
 -- What a walk of the coboundary tells of the cocycles of one degree and of the coboundaries of the next.
 use Rattle.std.proofs.Common.{ℕ, ◌+◌, ◌<◌, List, [], length, get_or, arith, refl, ap}
-use Rattle.linear_law.specs.Congruence.{Congruent}
-use Rattle.linear_law.specs.Elimination.{IsImage, IsInKernel, IsLinear}
-use Rattle.linear_law.specs.Listing.{ListsAll}
-use Rattle.linear_law.proofs.CongruenceLemmas.{Congruent_of, Congruent_sym, Congruent_trans}
-use Rattle.linear_law.proofs.ListLemmas.{each_get_or}
-use Rattle.linear_law.proofs.UnitSums.{unit_sum-past}
-use Rattle.simplicial_law.specs.Simplices.{IsSimplex}
-use Rattle.simplicial_law.specs.Cochains.{Cochain, IsCoboundary, IsCocycle, coboundary, unit_cochain}
-use Rattle.simplicial_law.specs.Places.{IsCoboundaryByPlace, cochain_at}
+use Rattle.linear_law.specs.Names.{Congruent, IsImage, IsInKernel, IsLinear, ListsAll}
+use Rattle.linear_law.proofs.Names.{Congruent_of, Congruent_sym, Congruent_trans, each_get_or, unit_sum-past}
+use Rattle.simplicial_law.specs.Names.{IsSimplex, Cochain, IsCoboundary, IsCocycle, coboundary, unit_cochain, IsCoboundaryByPlace, cochain_at}
 use Rattle.simplicial_law.proofs.Bases.{coboundary_plus, coboundary_same, coboundary_zero}
 use Rattle.simplicial_law.proofs.DegreeMaps.{IsLinearMap, by_place, linear_by_place}
 use Rattle.simplicial_law.proofs.SimplexPlaces.{agree_by_place, cochain_at-value, simplex_at}

@@ -1,9 +1,7 @@
 -- The canonical classes of a complex as they are printed, and the basis of cohomology that they are.
 use Rattle.std.specs.Prelude.{ℕ, ◌<◌, ◌*◌, List, [], map, length, get_or}
 use Rattle.std.specs.List.{AllZip}
-use Rattle.linear_law.specs.Congruence.{sum_over}
-use Rattle.linear_law.specs.Lists.{Among, Each}
-use Rattle.linear_law.specs.Pivots.{IsPivot}
+use Rattle.linear_law.specs.Names.{sum_over, Among, Each, IsPivot}
 use Rattle.simplicial_law.specs.Simplices.{IsInOrder, IsSimplex, Precedes}
 use Rattle.simplicial_law.specs.Cochains.{Chain, Cochain, IsBasisModulo, IsCoboundary, IsCocycle, unit_cochain}
 use Rattle.simplicial_law.specs.Canonical.{IsCanonicalModulo}

@@ -6,8 +6,7 @@ use Rattle.std.specs.Ordering.{nat_cmp}
 use Rattle.std.specs.Cmp.Lexicographic.{slice_cmp}
 use Rattle.std.specs.BTreeSet.{insert_key}
 use Rattle.std.specs.List.Sorted.{IsStrictlySortedBy}
-use Rattle.linear_law.specs.Lists.{Among, Each, IsAscending}
-use Rattle.linear_law.specs.Listing.{ListsAll}
+use Rattle.linear_law.specs.Names.{Among, Each, IsAscending, ListsAll}
 use Rattle.simplicial_law.specs.Simplices.{IsInOrder, IsSimplex}
 
 -- the order of simplices

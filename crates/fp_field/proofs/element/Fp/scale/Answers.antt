@@ -1,6 +1,6 @@
 use Rattle.std.proofs.Common.{◌+◌, ◌-◌, ◌*◌, ◌%◌, ◌^◌, ◌/◌, sym, ◌∙◌, ap, ap₂, arith}
 use native.Mathlib.Nat.{mod-mod}
-use Rattle.linear_law.specs.Congruence.{negated}
+use Rattle.linear_law.specs.Names.{negated}
 use Rattle.fp_field.specs.Element.{half, factorial}
 use Rattle.fp_field.proofs.ServedLemmas.{served_field, served_large}
 use Rattle.fp_field.proofs.ScaleLemmas.{power_nonzero, half_factorial, scale_product}
