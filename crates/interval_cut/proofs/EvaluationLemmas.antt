@@ -1,21 +1,13 @@
 -- The sum over the cuts of a walk, one cut after the other.
-use Rattle.std.proofs.Common.{◌≡◌, ℕ, ◌+◌, ◌%◌, List, [], ◌∷◌, ◌++◌, refl, sym, ◌∙◌, ap, ap₂, arith, subst}
-use Rattle.std.specs.Prelude.{ℤ, pos, ◌+ℤ◌, IsSome, is_some, Option, Some, pred}
+use Rattle.std.proofs.Common.{◌≡◌, ℕ, ◌+◌, ◌%◌, List, [], ◌∷◌, ◌++◌, refl, sym, ◌∙◌, ap, ap₂, arith, subst, ℤ, pos, ◌+ℤ◌, IsSome, is_some, Option, Some, pred}
 use Rattle.std.proofs.lemmas.Bool.{false≢true}
 use Rattle.std.proofs.lemmas.Int.{ints}
-use Rattle.signed_sum.specs.Signs.{signed}
-use Rattle.signed_sum.specs.Sums.{total}
-use Rattle.simplicial_law.specs.Integral.{CongruentInt}
-use Rattle.simplicial_law.proofs.IntegralCongruence.{CongruentInt-sum, CongruentInt_of, CongruentInt_refl, CongruentInt_trans}
-use Rattle.interval_cut_law.specs.Cuts.{cuts, sign_exponent}
-use Rattle.surjection_law.specs.Surjections.{arity}
-use Rattle.interval_cut.specs.Faces.{IsFaceTable}
-use Rattle.interval_cut.specs.Masks.{cut_term, product_from}
-use Rattle.interval_cut.specs.Stages.{OnAt, shown}
-use Rattle.interval_cut.specs.declared.stage.Stage.{Stage}
-use Rattle.interval_cut.specs.declared.stage.Stage.TheVariants.{At}
-use Rattle.interval_cut.specs.Walking.{CutWalk, cut_of, finish_of, next_walk, start_of}
-use Rattle.interval_cut.specs.Evaluation.{IsPartOfSum}
+use Rattle.signed_sum.specs.Names.{signed, total}
+use Rattle.simplicial_law.specs.Names.{CongruentInt}
+use Rattle.simplicial_law.proofs.Names.{CongruentInt-sum, CongruentInt_of, CongruentInt_refl, CongruentInt_trans}
+use Rattle.interval_cut_law.specs.Names.{cuts, sign_exponent}
+use Rattle.surjection_law.specs.Names.{arity}
+use Rattle.interval_cut.specs.Names.{IsFaceTable, signed_product, product_from, OnAt, shown, Stage, At, CutWalk, cut_of, finish_of, next_walk, start_of, IsPartOfSum}
 use Rattle.interval_cut.proofs.ProductLemmas.{remainder}
 use Rattle.interval_cut.proofs.WalkLemmas.{on_at, on_walk}
 
@@ -93,9 +85,9 @@ pub shown_term : (p x y mask r top : ℕ) (a c : List ℕ → ℕ) (values inner
     → shown values top s inner ≡ w → s ≡ At → r ≡ arity values → OnAt s (IsFaceTable values (inner ++ (top ∷ [])) r places starts)
     → ((u q : List ℕ) → IsFaceTable u q r places starts → CongruentInt p (pos x) (product_from 1 r mask (λ f. pos (a f)) (λ f. pos (c f)) u q simplex))
     → ((z : ℤ) → CongruentInt p (pos x) z → CongruentInt p (pos y) (signed (sign_exponent values 0 (inner ++ (top ∷ []))) z))
-    → CongruentInt p (pos y) (cut_term (arity w.values) mask (λ f. pos (a f)) (λ f. pos (c f)) w.values simplex (cut_of w))
+    → CongruentInt p (pos y) (signed_product (arity w.values) mask (λ f. pos (a f)) (λ f. pos (c f)) w.values simplex (cut_of w))
 shown_term p x y mask r top a c values inner simplex places starts s w e at most table h k =
     let q : List ℕ = inner ++ (top ∷ []) in
-    on_walk values top s inner w (λ (u q : List ℕ). CongruentInt p (pos y) (cut_term (arity u) mask (λ f. pos (a f)) (λ f. pos (c f)) u simplex q)) e at
+    on_walk values top s inner w (λ (u q : List ℕ). CongruentInt p (pos y) (signed_product (arity u) mask (λ f. pos (a f)) (λ f. pos (c f)) u simplex q)) e at
     (k (product_from 1 (arity values) mask (λ f. pos (a f)) (λ f. pos (c f)) values q simplex)
     (subst (λ (n : ℕ). CongruentInt p (pos x) (product_from 1 n mask (λ f. pos (a f)) (λ f. pos (c f)) values q simplex)) most (h values q (on_at s _ at table))))

@@ -1,24 +1,19 @@
 -- The exponent of a cut, walked from the right.
-use Rattle.std.proofs.Common.{Bool, ◌==◌, take_all, length-drop, length-set, ◌≡◌, ℕ, zero, suc, ◌+◌, ◌-◌, ◌*◌, ◌≤◌, ◌<◌, List, [], ◌∷◌, ◌++◌, drop, length, take, get_or, set, refl, sym, ◌∙◌, ap, ap₂, arith, subst, inl, inr, length-append, length-take-le, mul-le-mul}
+use Rattle.std.proofs.Common.{Bool, ◌==◌, take_all, length-drop, length-set, ◌≡◌, ℕ, zero, suc, ◌+◌, ◌-◌, ◌*◌, ◌≤◌, ◌<◌, List, [], ◌∷◌, ◌++◌, drop, length, take, get_or, set, refl, sym, ◌∙◌, ap, ap₂, arith, subst, inl, inr, length-append, length-take-le, mul-le-mul, slice_index, slice_set, sum}
 use mir.Val.{bool_byte}
-use Rattle.std.specs.Prelude.{slice_index, slice_set, sum}
 use Rattle.std.proofs.lemmas.Bool.{cases_lt}
 use Rattle.std.proofs.lemmas.List.{take-set-le}
 use Rattle.std.proofs.lemmas.List.Sums.{sum_by-set}
 use Rattle.std.proofs.Math.Seq.{drop-cons, take-set-lt}
-use Rattle.signed_sum.specs.Lists.{less, occurs}
-use Rattle.signed_sum.proofs.ListLemmas.{less-no, occurs-01}
-use Rattle.surjection_law.specs.Surjections.{arity}
-use Rattle.interval_cut_law.specs.Cuts.{IsCutFrom, lengths_below, sign_exponent}
-use Rattle.interval_cut.specs.Exponents.{IsPassed}
+use Rattle.signed_sum.specs.Names.{less, occurs}
+use Rattle.signed_sum.proofs.Names.{less-no, occurs-01}
+use Rattle.surjection_law.specs.Names.{arity}
+use Rattle.interval_cut_law.proofs.GapWords.{less-yes}
+use Rattle.interval_cut_law.specs.Names.{IsCutFrom, lengths_below, sign_exponent}
+use Rattle.interval_cut.specs.Names.{IsPassed}
 use Rattle.interval_cut.proofs.WalkLemmas.{length-cut}
 
 -- ---- sums of the first numbers of a list
-
-pub less-yes : (w v : ℕ) → w < v → less w v ≡ 1
-less-yes w zero h = absurd (omega arith)
-less-yes zero (suc v) h = refl
-less-yes (suc w) (suc v) h = less-yes w v (omega arith)
 
 get_or-take : (xs : List ℕ) (n i : ℕ) → i < n → get_or (take n xs) i 0 ≡ get_or xs i 0
 get_or-take [] zero i h = refl

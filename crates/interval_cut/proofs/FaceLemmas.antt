@@ -1,29 +1,15 @@
 -- The faces of a cut are written one after the other.
-use Rattle.std.proofs.Common.{true, false, ◌≡◌, ℕ, zero, suc, ◌+◌, ◌-◌, ◌≤◌, ◌<◌, ◌≢◌, List, [], ◌∷◌, ◌++◌, take, drop, length, get_or, refl, sym, ◌∙◌, ap, ap₂, arith, subst, length-drop, inl, inr, cond, eqb, length-append, set, get_or-set_same, get_or-set_other}
-use Rattle.std.specs.Prelude.{slice_index}
-use Rattle.std.proofs.lemmas.Bool.{cases_eq, eq-eqb, ne_eqb}
-use Rattle.std.proofs.lemmas.List.{append-nil, append_assoc, drop_more, drop_all, take_more_set, take-append-drop, length-take}
+use Rattle.std.proofs.Common.{true, false, ◌≡◌, ℕ, zero, suc, ◌+◌, ◌-◌, ◌≤◌, ◌<◌, ◌≢◌, List, [], ◌∷◌, ◌++◌, take, drop, length, get_or, refl, sym, ◌∙◌, ap, ap₂, arith, subst, length-drop, inl, inr, cond, eqb, length-append, set, get_or-set_same, get_or-set_other, slice_index, eq-eqb, ne_eqb, append-nil, append_assoc, take-append-drop, length-take}
+use Rattle.std.proofs.lemmas.Bool.{cases_eq}
+use Rattle.std.proofs.lemmas.List.{drop_more, drop_all, take_more_set}
 use Rattle.std.proofs.Math.Seq.{drop-append_seam, take-append_seam}
-use Rattle.linear_law.specs.Congruence.{sum_over}
-use Rattle.linear_law.specs.Lists.{Each}
-use Rattle.linear_law.proofs.ListLemmas.{each_append}
-use Rattle.signed_sum.specs.Lists.{IsDistinct, numbers_from, occurs}
-use Rattle.signed_sum.proofs.ListLemmas.{numbers_from-distinct}
-use Rattle.interval_cut_law.specs.Cuts.{IsCutFrom, cut_face}
-use Rattle.interval_cut.specs.Faces.{IsFaceTable, IsPartOfFace, IsPartOfTable, flat_faces}
-
-pub numbers_from-last : (a n : ℕ) → numbers_from a (n + 1) ≡ numbers_from a n ++ ((a + n) ∷ [])
-numbers_from-last a zero = ap (λ x. x ∷ []) (plain a)
-  where
-    plain : (x : ℕ) → x ≡ x + 0
-    plain x = omega arith
-numbers_from-last a (suc n) = ap (numbers_from a) (shift n) ∙ ap (λ r. a ∷ r) (numbers_from-last (suc a) n) ∙ ap (λ x. a ∷ (numbers_from (suc a) n ++ (x ∷ []))) (moved a n)
-  where
-    shift : (m : ℕ) → suc m + 1 ≡ suc (m + 1)
-    shift m = omega arith
-
-    moved : (x m : ℕ) → suc x + m ≡ x + suc m
-    moved x m = omega arith
+use Rattle.linear_law.specs.Names.{sum_over, Each}
+use Rattle.linear_law.proofs.Names.{each_append}
+use Rattle.signed_sum.specs.Names.{IsDistinct, numbers_from, occurs}
+use Rattle.signed_sum.proofs.Names.{numbers_from-distinct}
+use Rattle.interval_cut_law.proofs.GapWords.{numbers-append}
+use Rattle.interval_cut_law.specs.Names.{IsCutFrom, cut_face}
+use Rattle.interval_cut.specs.Names.{IsFaceTable, IsPartOfFace, IsPartOfTable, flat_faces}
 
 pub length-numbers_from : (a n : ℕ) → length (numbers_from a n) ≡ n
 length-numbers_from a zero = refl
@@ -38,7 +24,7 @@ flat_faces-append (k ∷ ks) ls u p =
 pub flat_faces-next : (k : ℕ) (u p : List ℕ) → flat_faces (numbers_from 1 (k + 1)) u p ≡ flat_faces (numbers_from 1 k) u p ++ cut_face (k + 1) u 0 p
 flat_faces-next k u p =
     let e : 1 + k ≡ k + 1 = omega arith in
-    ap (λ ks. flat_faces ks u p) (numbers_from-last 1 k ∙ ap (λ x. numbers_from 1 k ++ (x ∷ [])) e)
+    ap (λ ks. flat_faces ks u p) (numbers-append 1 k 1 ∙ ap (λ x. numbers_from 1 k ++ (x ∷ [])) e)
     ∙ flat_faces-append (numbers_from 1 k) ((k + 1) ∷ []) u p ∙ ap (λ r. flat_faces (numbers_from 1 k) u p ++ r) (append-nil (cut_face (k + 1) u 0 p))
 
 -- ---- room: the intervals have as many places as the edges and the intervals together
@@ -50,10 +36,10 @@ abbrev end_from : ℕ → List ℕ → ℕ
 end_from a [] = a
 end_from a (b ∷ p) = end_from b p
 
-face_here : (k v : ℕ) (u : List ℕ) (a b : ℕ) (p : List ℕ) → k ≡ v → cut_face k (v ∷ u) a (b ∷ p) ≡ numbers_from a (suc (b - a)) ++ cut_face k u b p
+pub face_here : (k v : ℕ) (u : List ℕ) (a b : ℕ) (p : List ℕ) → k ≡ v → cut_face k (v ∷ u) a (b ∷ p) ≡ numbers_from a (suc (b - a)) ++ cut_face k u b p
 face_here k v u a b p e = ap (λ t. cond t (numbers_from a (suc (b - a)) ++ cut_face k u b p) (cut_face k u b p)) (eq-eqb k v e)
 
-face_other : (k v : ℕ) (u : List ℕ) (a b : ℕ) (p : List ℕ) → k ≢ v → cut_face k (v ∷ u) a (b ∷ p) ≡ cut_face k u b p
+pub face_other : (k v : ℕ) (u : List ℕ) (a b : ℕ) (p : List ℕ) → k ≢ v → cut_face k (v ∷ u) a (b ∷ p) ≡ cut_face k u b p
 face_other k v u a b p n = ap (λ t. cond t (numbers_from a (suc (b - a)) ++ cut_face k u b p) (cut_face k u b p)) (ne_eqb k v n)
 
 size_here : (k v : ℕ) (u : List ℕ) (a b : ℕ) (p : List ℕ) → k ≡ v → length (cut_face k (v ∷ u) a (b ∷ p)) ≡ suc (b - a) + length (cut_face k u b p)
@@ -118,7 +104,7 @@ pub numbers_step : (places old : List ℕ) (at k first : ℕ) → at + k < lengt
 numbers_step places old at k first b h =
     let e : at + (k + 1) ≡ at + k + 1 = omega arith in
     ap (λ n. take n (set places (at + k) (first + k))) e ∙ take_more_set places (at + k) (first + k) b ∙ ap (λ r. r ++ ((first + k) ∷ [])) h
-    ∙ append_assoc (take at old) (numbers_from first k) ((first + k) ∷ []) ∙ ap (λ r. take at old ++ r) (sym (numbers_from-last first k))
+    ∙ append_assoc (take at old) (numbers_from first k) ((first + k) ∷ []) ∙ ap (λ r. take at old ++ r) (sym (numbers-append first k 1))
 
 pub face_start : (k : ℕ) (u p : List ℕ) (at : ℕ) (old : List ℕ) → IsCutFrom u 0 p → IsPartOfFace k u p at 0 0 at old old
 face_start k [] [] at old c = record { rest = c; long = refl; written = refl }

@@ -1,23 +1,16 @@
 -- The gaps of a cut are written one after the other, and their inversions counted.
-use Rattle.std.proofs.Common.{◌≡◌, ℕ, zero, suc, ◌+◌, ◌-◌, ◌≤◌, ◌<◌, ◌≢◌, true, false, List, [], ◌∷◌, ◌++◌, take, drop, length, get_or, refl, sym, ◌∙◌, ap, ap₂, arith, subst, inl, inr, cond, eqb, length-append, length-drop}
-use Rattle.std.specs.Prelude.{count_by, nat_lt, pos}
-use Rattle.std.proofs.lemmas.Bool.{cases_lt, eq-eqb, le-ltb, lt-ltb, ne_eqb}
-use Rattle.std.proofs.lemmas.List.{append-nil, append_assoc, drop_more, drop_all}
+use Rattle.std.proofs.Common.{◌≡◌, ℕ, zero, suc, ◌+◌, ◌-◌, ◌≤◌, ◌<◌, ◌≢◌, true, false, List, [], ◌∷◌, ◌++◌, take, drop, length, get_or, refl, sym, ◌∙◌, ap, ap₂, arith, subst, inl, inr, cond, eqb, length-append, length-drop, count_by, nat_lt, pos, eq-eqb, le-ltb, lt-ltb, ne_eqb, append-nil, append_assoc}
+use Rattle.std.proofs.lemmas.Bool.{cases_lt}
+use Rattle.std.proofs.lemmas.List.{drop_more, drop_all}
 use Rattle.std.proofs.lemmas.List.Sums.{sum_by-cons}
-use Rattle.signed_sum.specs.Inversions.{count_before, inversion_count}
-use Rattle.signed_sum.specs.Lists.{less, numbers_from, occurs}
-use Rattle.signed_sum.proofs.ListLemmas.{less-no, occurs-01}
+use Rattle.signed_sum.specs.Names.{count_before, inversion_count, rearrangement_sign, less, numbers_from, occurs, signed}
+use Rattle.signed_sum.proofs.Names.{less-no, occurs-01, signed-parity}
 use Rattle.operad_law.proofs.WordLemmas.{drop_rest}
-use Rattle.surjection_law.specs.Boundary.{caesura_count}
-use Rattle.interval_cut_law.specs.Cuts.{IsCutFrom, cut_face, gap_symbols, gap_word, sign_exponent}
-use Rattle.interval_cut_law.proofs.GapWords.{sign_forms_agree}
-use Rattle.surjection_law.specs.Surjections.{IsOnto}
-use Rattle.signed_sum.specs.Signs.{signed}
-use Rattle.signed_sum.proofs.SignLemmas.{signed-parity}
-use Rattle.interval_cut.specs.Faces.{flat_faces}
-use Rattle.interval_cut.specs.Gaps.{IsPartOfGaps}
-use Rattle.interval_cut.proofs.ExponentLemmas.{less-yes}
-use Rattle.interval_cut.proofs.FaceLemmas.{faces_room, length-numbers_from, numbers_from-last}
+use Rattle.surjection_law.specs.Names.{caesura_count, IsOnto}
+use Rattle.interval_cut_law.specs.Names.{IsCutFrom, cut_face, gap_symbols, gap_word, sign_exponent, starting_word}
+use Rattle.interval_cut_law.proofs.GapWords.{less-yes, numbers-append, sign-parity, sign_forms_agree}
+use Rattle.interval_cut.specs.Names.{flat_faces, IsPartOfGaps}
+use Rattle.interval_cut.proofs.FaceLemmas.{faces_room, length-numbers_from}
 
 -- ---- room: no face has more gaps than places
 
@@ -75,7 +68,7 @@ gap_word-append (k ∷ ks) ls u p =
 pub word_next : (k : ℕ) (u p : List ℕ) → gap_word (numbers_from 1 (k + 1)) u p ≡ gap_word (numbers_from 1 k) u p ++ gap_symbols (k + 1) (caesura_count u) 1 u 0 p
 word_next k u p =
     let e : 1 + k ≡ k + 1 = omega arith in
-    ap (λ ks. gap_word ks u p) (numbers_from-last 1 k ∙ ap (λ x. numbers_from 1 k ++ (x ∷ [])) e)
+    ap (λ ks. gap_word ks u p) (numbers-append 1 k 1 ∙ ap (λ x. numbers_from 1 k ++ (x ∷ [])) e)
     ∙ gap_word-append (numbers_from 1 k) ((k + 1) ∷ []) u p ∙ ap (λ r. gap_word (numbers_from 1 k) u p ++ r) (append-nil (gap_symbols (k + 1) (caesura_count u) 1 u 0 p))
 
 pub word_room : (k : ℕ) (u inner : List ℕ) (top : ℕ) → IsCutFrom u 0 (inner ++ (top ∷ [])) → length u ≤ 255 → top ≤ 255 → length (gap_word (numbers_from 1 k) u (inner ++ (top ∷ []))) ≤ 510
@@ -229,4 +222,10 @@ step_room k u inner top next size c short low room e =
 
 -- both forms of the sign
 pub signs_agree : (r : ℕ) (u p : List ℕ) → IsOnto r u → IsCutFrom u 0 p → signed (inversion_count less (gap_word (numbers_from 1 r) u p)) (pos 1) ≡ signed (sign_exponent u 0 p) (pos 1)
-signs_agree r u p onto c = sym (signed-parity (sign_exponent u 0 p) (inversion_count less (gap_word (numbers_from 1 r) u p)) (pos 1) (sign_forms_agree r u p onto c))
+signs_agree r u p onto c = sym (signed-parity (sign_exponent u 0 p) (inversion_count less (gap_word (numbers_from 1 r) u p)) (pos 1) (sign-parity r u p onto c))
+
+pub word_rearranged : (r : ℕ) (u inner : List ℕ) (top n : ℕ) → top ≡ n → IsOnto r u → IsCutFrom u 0 (inner ++ (top ∷ []))
+    → signed (sign_exponent u 0 (inner ++ (top ∷ []))) (pos 1) ≡ rearrangement_sign (gap_word (numbers_from 1 r) u (inner ++ (top ∷ []))) (starting_word u n)
+word_rearranged r u inner top n e onto c =
+    sign_forms_agree.sign r top u (inner ++ (top ∷ [])) onto (record { rising = c; inner = inner; last = refl })
+    ∙ ap (λ m. rearrangement_sign (gap_word (numbers_from 1 r) u (inner ++ (top ∷ []))) (starting_word u m)) e

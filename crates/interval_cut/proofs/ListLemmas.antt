@@ -1,36 +1,12 @@
 -- The walk over rising lists.
-use Rattle.std.proofs.Common.{◌≡◌, ℕ, ◌+◌, ◌-◌, ◌≤◌, ◌<◌, true, false, cond, List, [], ◌∷◌, ◌++◌, map, take, drop, take_all, length-take-le, length-drop, length, get_or, refl, sym, ◌∙◌, ap, ap₂, arith, inl, inr, ◌⊎◌, if◌then◌else◌, unwrap_or, is_some, Option, Some, None, ltb}
-use Rattle.std.specs.Prelude.{zero, suc, replicate}
-use Rattle.std.proofs.lemmas.Bool.{lt-ltb, le-ltb, cases_lt, false≢true}
-use Rattle.std.proofs.lemmas.List.{append-nil, length-replicate}
+use Rattle.std.proofs.Common.{◌≡◌, ℕ, ◌+◌, ◌-◌, ◌≤◌, ◌<◌, true, false, List, [], ◌∷◌, ◌++◌, map, take, drop, take_all, length-take-le, length-drop, length-append, length, get_or, refl, sym, ◌∙◌, ap, ap₂, arith, subst, Bool, if◌then◌else◌, ltb, zero, suc, replicate, lt-ltb, le-ltb, append-nil}
+use Rattle.std.proofs.lemmas.List.{length-replicate}
 use Rattle.std.proofs.lemmas.Slice.{take-put_mid}
 use borrow.Rule.Slice.PartMut.{put_mid, mid_of, same_len_mid}
-use Rattle.interval_cut_law.specs.Cuts.{rising_lists}
-use Rattle.interval_cut_law.specs.LiveCuts.{next_after, next_rising}
-use Rattle.interval_cut.specs.Walking.{lists_after}
-use Rattle.interval_cut.specs.Ends.{IsFullFrom, IsLastBelow}
-
--- a full list has none after it
-pub next_rising-full : (n : ℕ) (p : List ℕ) → IsFullFrom n p 0 → next_rising n p ≡ None
-next_rising-full n [] h = refl
-next_rising-full n (b ∷ p) h =
-    ap (next_after n b p) (next_rising-full n p (record { each = λ k c d. h.each (suc k) (omega arith) (omega arith) }))
-    ∙ ap (λ t. cond t (Some (replicate (suc (length p)) (suc b))) None) (le-ltb b n (h.each 0 (omega arith) (omega arith)))
-
--- the next list is raised by one at the last place below the top, and from there on
-pub next_rising-raised : (n : ℕ) (p : List ℕ) (i : ℕ) → IsLastBelow n p i → next_rising n p ≡ Some (take i p ++ replicate (length p - i) (suc (get_or p i 0)))
-next_rising-raised n [] i h = absurd (let b = h.inside in omega arith)
-next_rising-raised n (b ∷ p) zero h =
-    ap (next_after n b p) (next_rising-full n p (record { each = λ k c d. h.rest.each (suc k) (omega arith) (omega arith) }))
-    ∙ ap (λ t. cond t (Some (replicate (suc (length p)) (suc b))) None) (lt-ltb b n h.below)
-    ∙ ap (λ m. Some (replicate m (suc b))) (whole (length p))
-  where
-    whole : (m : ℕ) → suc m ≡ suc m - 0
-    whole m = omega arith
-next_rising-raised n (b ∷ p) (suc i) h =
-    let q : length (b ∷ p) - suc i ≡ length p - i = omega arith in
-    ap (next_after n b p) (next_rising-raised n p i (record { inside = let c = h.inside in omega arith; below = h.below; rest = record { each = λ k c d. h.rest.each (suc k) (omega arith) (omega arith) } }))
-    ∙ ap (λ m. Some (b ∷ (take i p ++ replicate m (suc (get_or p i 0))))) (sym q)
+use Rattle.linear_law.specs.Names.{Each}
+use Rattle.linear_law.proofs.Names.{each_append, each_map, each_of_map}
+use Rattle.interval_cut_law.specs.Names.{rising_lists}
+use Rattle.interval_cut.specs.Names.{lists_after, IsFullFrom, IsLastBelow}
 
 -- the first list, and those after it
 pub lists_after-first : (k e a : ℕ) → rising_lists a e k ≡ replicate k a ∷ lists_after (a + e) (replicate k a)
@@ -50,70 +26,72 @@ lists_after-first (suc k) (suc e) a =
     ∙ ap (λ r. (a ∷ replicate k a) ∷ (rest ++ r)) (ap₂ (λ m j. rising_lists (suc a) m (suc j)) left (sym (length-replicate k a)))
     ∙ ap (λ t. (a ∷ replicate k a) ∷ (rest ++ (if t then more else []))) (sym on)
 
--- how the list after b and p comes about
-pub next_tells : (n b : ℕ) (p q : List ℕ) → next_rising n (b ∷ p) ≡ Some q
-    → ((r : List ℕ) × (next_rising n p ≡ Some r) × (b ∷ r ≡ q)) ⊎ ((next_rising n p ≡ None) × (b < n) × (replicate (suc (length p)) (suc b) ≡ q))
-next_tells n b p q e = go (next_rising n p) refl e
+-- all have the same length
+pub rising-long : (k e a : ℕ) → Each (λ q. length q ≡ k) (rising_lists a e k)
+rising-long zero e a = (refl, tt)
+rising-long (suc k) zero a = each_of_map (λ q. length q ≡ suc k) (λ q. a ∷ q) (rising_lists a zero k) (each_map (λ q l. ap suc l) (rising_lists a zero k) (rising-long k zero a))
+rising-long (suc k) (suc e) a =
+    each_append (λ q. length q ≡ suc k) (map (λ q. a ∷ q) (rising_lists a (suc e) k)) (rising_lists (suc a) e (suc k))
+    (each_of_map (λ q. length q ≡ suc k) (λ q. a ∷ q) (rising_lists a (suc e) k) (each_map (λ q l. ap suc l) (rising_lists a (suc e) k) (rising-long k (suc e) a))) (rising-long (suc k) e (suc a))
+
+pub lists_after-long : (n : ℕ) (p : List ℕ) → Each (λ q. length q ≡ length p) (lists_after n p)
+lists_after-long n [] = tt
+lists_after-long n (b ∷ p) =
+    each_append (λ q. length q ≡ suc (length p)) (map (λ q. b ∷ q) (lists_after n p)) (if ltb b n then rising_lists (suc b) (n - suc b) (suc (length p)) else [])
+    (each_of_map (λ q. length q ≡ suc (length p)) (λ q. b ∷ q) (lists_after n p) (each_map (λ q l. ap suc l) (lists_after n p) (lists_after-long n p))) (above (ltb b n))
   where
-    go : (o : Option (List ℕ)) → next_rising n p ≡ o → next_after n b p o ≡ Some q
-        → ((r : List ℕ) × (next_rising n p ≡ Some r) × (b ∷ r ≡ q)) ⊎ ((next_rising n p ≡ None) × (b < n) × (replicate (suc (length p)) (suc b) ≡ q))
-    go (Some r) f g = inl (r, f, ap (λ o. unwrap_or o q) g)
-    go None f g = elim (cases_lt b n) [
-      | inl l ↦ inr (f, l, ap (λ o. unwrap_or o q) (ap (λ t. cond t (Some (replicate (suc (length p)) (suc b))) None) (sym (lt-ltb b n l)) ∙ g))
-      | inr m ↦ absurd (false≢true (ap is_some (ap (λ t. cond t (Some (replicate (suc (length p)) (suc b))) None) (sym (le-ltb b n m)) ∙ g)))
-    ]
+    above : (t : Bool) → Each (λ q. length q ≡ suc (length p)) (if t then rising_lists (suc b) (n - suc b) (suc (length p)) else [])
+    above true = rising-long (suc (length p)) (n - suc b) (suc b)
+    above false = tt
 
-none_tells : (n b : ℕ) (p : List ℕ) → next_rising n (b ∷ p) ≡ None → (next_rising n p ≡ None) × (n ≤ b)
-none_tells n b p e = go (next_rising n p) refl e
-  where
-    go : (o : Option (List ℕ)) → next_rising n p ≡ o → next_after n b p o ≡ None → (next_rising n p ≡ None) × (n ≤ b)
-    go (Some r) f g = absurd (false≢true (ap is_some (sym g)))
-    go None f g = elim (cases_lt b n) [
-      | inl l ↦ absurd (false≢true (ap is_some (sym g ∙ ap (λ t. cond t (Some (replicate (suc (length p)) (suc b))) None) (lt-ltb b n l))))
-      | inr m ↦ (f, m)
-    ]
+pub length-next : (n : ℕ) (p q : List ℕ) → lists_after n p ≡ q ∷ lists_after n q → length q ≡ length p
+length-next n p q e = (subst (Each (λ r. length r ≡ length p)) e (lists_after-long n p)).0
 
-pub length-next : (n : ℕ) (p q : List ℕ) → next_rising n p ≡ Some q → length q ≡ length p
-length-next n [] q e = absurd (false≢true (ap is_some e))
-length-next n (b ∷ p) q e = elim (next_tells n b p q e) [
-  | inl s ↦ sym (ap length s.2) ∙ ap suc (length-next n p s.0 s.1)
-  | inr s ↦ sym (ap length s.2) ∙ length-replicate (suc (length p)) (suc b)
-]
-
-pub lists_after-none : (n : ℕ) (p : List ℕ) → next_rising n p ≡ None → lists_after n p ≡ []
-lists_after-none n [] e = refl
-lists_after-none n (b ∷ p) e =
-    let t = none_tells n b p e in
+-- after a full list there is none
+pub lists_after-full : (n : ℕ) (p : List ℕ) → IsFullFrom n p 0 → lists_after n p ≡ []
+lists_after-full n [] h = refl
+lists_after-full n (b ∷ p) h =
     let more : List (List ℕ) = rising_lists (suc b) (n - suc b) (suc (length p)) in
-    ap₂ (λ r t. map (λ q. b ∷ q) r ++ (if t then more else [])) (lists_after-none n p t.0) (le-ltb b n t.1)
+    ap₂ (λ r t. map (λ q. b ∷ q) r ++ (if t then more else []))
+    (lists_after-full n p (record { each = λ k c d. h.each (suc k) (omega arith) (omega arith) })) (le-ltb b n (h.each 0 (omega arith) (omega arith)))
 
--- after p come the next list and those after it
-pub lists_after-next : (n : ℕ) (p q : List ℕ) → next_rising n p ≡ Some q → lists_after n p ≡ q ∷ lists_after n q
-lists_after-next n [] q e = absurd (false≢true (ap is_some e))
-lists_after-next n (b ∷ p) q e = elim (next_tells n b p q e) [
-  | inl s ↦
-      let r : List ℕ = s.0 in
-      let more : ℕ → List (List ℕ) = λ j. if ltb b n then rising_lists (suc b) (n - suc b) (suc j) else [] in
-      ap (λ x. map (λ y. b ∷ y) x ++ more (length p)) (lists_after-next n p r s.1)
-      ∙ ap (λ j. (b ∷ r) ∷ (map (λ y. b ∷ y) (lists_after n r) ++ more j)) (sym (length-next n p r s.1))
-      ∙ ap (λ (x : List ℕ). x ∷ lists_after n x) s.2
-  | inr s ↦
-      let more : List (List ℕ) = rising_lists (suc b) (n - suc b) (suc (length p)) in
-      let top : suc b + (n - suc b) ≡ n = let c = s.1 in omega arith in
-      ap₂ (λ r t. map (λ y. b ∷ y) r ++ (if t then more else [])) (lists_after-none n p s.0) (lt-ltb b n s.1)
-      ∙ lists_after-first (suc (length p)) (n - suc b) (suc b)
-      ∙ ap (λ m. replicate (suc (length p)) (suc b) ∷ lists_after m (replicate (suc (length p)) (suc b))) top
-      ∙ ap (λ (x : List ℕ). x ∷ lists_after n x) s.2
-]
+-- the list that is raised by one at place i and has that number from there on
+abbrev raised : List ℕ → ℕ → List ℕ
+raised p i = take i p ++ replicate (length p - i) (suc (get_or p i 0))
+
+-- where i is the last place below the top, it is the next list
+lists_after-raised : (n : ℕ) (p : List ℕ) (i : ℕ) → IsLastBelow n p i → lists_after n p ≡ raised p i ∷ lists_after n (raised p i)
+lists_after-raised n [] i h = absurd (let b = h.inside in omega arith)
+lists_after-raised n (b ∷ p) zero h =
+    let more : List (List ℕ) = rising_lists (suc b) (n - suc b) (suc (length p)) in
+    let top : suc b + (n - suc b) ≡ n = let c = h.below in omega arith in
+    let size : suc (length p) ≡ suc (length p) - 0 = omega arith in
+    ap₂ (λ r t. map (λ q. b ∷ q) r ++ (if t then more else [])) (lists_after-full n p (record { each = λ k c d. h.rest.each (suc k) (omega arith) (omega arith) })) (lt-ltb b n h.below)
+    ∙ lists_after-first (suc (length p)) (n - suc b) (suc b)
+    ∙ ap₂ (λ m j. replicate j (suc b) ∷ lists_after m (replicate j (suc b))) top size
+lists_after-raised n (b ∷ p) (suc i) h =
+    let more : ℕ → List (List ℕ) = λ j. if ltb b n then rising_lists (suc b) (n - suc b) (suc j) else [] in
+    let inside = h.inside in
+    let size : length p - i ≡ suc (length p) - suc i = omega arith in
+    let long : length p ≡ length (raised p i) =
+    (let a = length-append (take i p) (replicate (length p - i) (suc (get_or p i 0))) in
+    let c = length-take-le i p (omega arith) in
+    let d = length-replicate (length p - i) (suc (get_or p i 0)) in
+    omega arith) in
+    ap (λ x. map (λ y. b ∷ y) x ++ more (length p))
+    (lists_after-raised n p i (record { inside = omega arith; below = h.below; rest = record { each = λ k c d. h.rest.each (suc k) (omega arith) (omega arith) } }))
+    ∙ ap (λ j. (b ∷ raised p i) ∷ (map (λ y. b ∷ y) (lists_after n (raised p i)) ++ more j)) long
+    ∙ ap (λ m. let q : List ℕ = b ∷ (take i p ++ replicate m (suc (get_or p i 0))) in q ∷ lists_after n q) size
 
 -- what is written from the last place below the top on
-pub next_rising-written : (n : ℕ) (p ys : List ℕ) (i m next : ℕ) → IsLastBelow n p i → m ≡ length p - i → ys ≡ replicate m next → next ≡ suc (get_or p i 0)
-    → next_rising n p ≡ Some (put_mid i (length p - i) p ys)
-next_rising-written n p ys i m next h e w s =
+pub next_written : (n : ℕ) (p ys : List ℕ) (i m next : ℕ) → IsLastBelow n p i → m ≡ length p - i → ys ≡ replicate m next → next ≡ suc (get_or p i 0)
+    → lists_after n p ≡ put_mid i (length p - i) p ys ∷ lists_after n (put_mid i (length p - i) p ys)
+next_written n p ys i m next h e w s =
     let inside : i < length p = h.inside in
     let long : length ys ≡ length p - i = ap length w ∙ length-replicate m next ∙ e in
     let mid : length ys ≡ length (mid_of i (length p - i) p) = omega (arith, long, length-take-le (length p - i) (drop i p) (omega (arith, length-drop i p))) in
     let same : length (put_mid i (length p - i) p ys) ≡ length p = same_len_mid i (length p - i) p ys mid in
     let whole : put_mid i (length p - i) p ys ≡ take i p ++ ys =
     sym (take_all (length p) (put_mid i (length p - i) p ys) (omega (arith, same))) ∙ take-put_mid i (length p - i) p ys (length p) (omega (arith, long)) (omega arith) in
-    next_rising-raised n p i h ∙ ap Some (ap₂ (λ j x. take i p ++ replicate j x) (sym e) (sym s) ∙ ap (λ r. take i p ++ r) (sym w) ∙ sym whole)
+    lists_after-raised n p i h
+    ∙ ap (λ (q : List ℕ). q ∷ lists_after n q) (ap₂ (λ j x. take i p ++ replicate j x) (sym e) (sym s) ∙ ap (λ r. take i p ++ r) (sym w) ∙ sym whole)

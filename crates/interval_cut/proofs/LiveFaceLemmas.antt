@@ -1,18 +1,15 @@
 -- The faces of the first intervals of a cut, and when no live cut begins so.
-use Rattle.std.proofs.Common.{◌≡◌, ◌≢◌, ℕ, zero, suc, ◌+◌, ◌-◌, ◌≤◌, ◌<◌, Bool, true, false, ◌||◌, cond, eqb, List, [], ◌∷◌, ◌++◌, take, drop, length, get_or, set, refl, sym, ◌∙◌, ap, arith, subst, inl, inr, ◌⊎◌, length-append, length-drop, take_all, append_assoc, get_or-set_same, get_or-set_other}
-use Rattle.std.specs.Prelude.{◌&&◌, ◌==◌, not, replicate}
-use Rattle.std.proofs.lemmas.Bool.{cases_eq, eq-eqb, ne_eqb, or_right, or_from, or_parts, and_from, and_left, and_right}
-use Rattle.std.proofs.lemmas.List.{append-nil, drop_more, drop_all, take_more, take-append-drop}
+use Rattle.std.proofs.Common.{◌≡◌, ◌≢◌, ℕ, zero, suc, ◌+◌, ◌-◌, ◌≤◌, ◌<◌, Bool, true, false, ◌||◌, cond, eqb, List, [], ◌∷◌, ◌++◌, take, drop, length, get_or, set, refl, sym, ◌∙◌, ap, arith, subst, inl, inr, ◌⊎◌, length-append, length-drop, take_all, append_assoc, get_or-set_same, get_or-set_other, ◌&&◌, ◌==◌, not, replicate, eq-eqb, ne_eqb, append-nil, take-append-drop}
+use Rattle.std.proofs.lemmas.Bool.{cases_eq, or_right, or_from, or_parts, and_from, and_left, and_right}
+use Rattle.std.proofs.lemmas.List.{drop_more, drop_all, take_more}
 use Rattle.std.proofs.lemmas.List.Sums.{count_by-le-length, sum_by-cons}
-use Rattle.signed_sum.specs.Lists.{is_degenerate, numbers_from, occurs}
-use Rattle.signed_sum.proofs.ListLemmas.{occurs-cons, occurs-later, occurs-mid}
-use Rattle.surjection_law.specs.Surjections.{IsSurjection, arity}
+use Rattle.signed_sum.specs.Names.{is_degenerate, numbers_from, occurs}
+use Rattle.signed_sum.proofs.Names.{occurs-cons, occurs-later, occurs-mid}
+use Rattle.surjection_law.specs.Names.{IsSurjection, arity}
 use Rattle.surjection.proofs.WalkLemmas.{value_within}
-use Rattle.interval_cut_law.specs.Cuts.{IsCutFrom, cut_face, cut_faces}
-use Rattle.interval_cut_law.specs.LiveCuts.{is_live}
-use Rattle.interval_cut.specs.LiveWalking.{is_live_cut}
-use Rattle.interval_cut.specs.LiveSearch.{IsBegun, IsDeadEnd, IsFitting, IsTaken, IsUnfit, later_times, place_after, times}
-use Rattle.interval_cut.proofs.FaceLemmas.{length-numbers_from}
+use Rattle.interval_cut_law.specs.Names.{IsCutFrom, cut_face, cut_faces, is_live}
+use Rattle.interval_cut.specs.Names.{is_live_cut, IsBegun, IsDeadEnd, IsFitting, IsTaken, IsUnfit, later_times, place_after, times}
+use Rattle.interval_cut.proofs.FaceLemmas.{face_here, face_other, length-numbers_from}
 
 -- ---- how often a value comes
 
@@ -48,12 +45,6 @@ length-later (v ∷ u) = ap suc (length-later u)
 
 -- ---- one interval more
 
-face-here : (k v : ℕ) (u : List ℕ) (a b : ℕ) (p : List ℕ) → k ≡ v → cut_face k (v ∷ u) a (b ∷ p) ≡ numbers_from a (suc (b - a)) ++ cut_face k u b p
-face-here k v u a b p e = ap (λ t. cond t (numbers_from a (suc (b - a)) ++ cut_face k u b p) (cut_face k u b p)) (eq-eqb k v e)
-
-face-other : (k v : ℕ) (u : List ℕ) (a b : ℕ) (p : List ℕ) → k ≢ v → cut_face k (v ∷ u) a (b ∷ p) ≡ cut_face k u b p
-face-other k v u a b p n = ap (λ t. cond t (numbers_from a (suc (b - a)) ++ cut_face k u b p) (cut_face k u b p)) (ne_eqb k v n)
-
 face-first : (k v : ℕ) (u : List ℕ) (a b : ℕ) (p : List ℕ) → cut_face k (v ∷ u) a (b ∷ p) ≡ cut_face k (v ∷ []) a (b ∷ []) ++ cut_face k u b p
 face-first k v u a b p = go (k == v)
   where
@@ -63,7 +54,7 @@ face-first k v u a b p = go (k == v)
 
 size-here : (v : ℕ) (u : List ℕ) (a b : ℕ) (p : List ℕ) → length (cut_face v (v ∷ u) a (b ∷ p)) ≡ suc (b - a) + length (cut_face v u b p)
 size-here v u a b p =
-    ap length (face-here v v u a b p refl) ∙ length-append (numbers_from a (suc (b - a))) (cut_face v u b p) ∙ ap (λ n. n + length (cut_face v u b p)) (length-numbers_from a (suc (b - a)))
+    ap length (face_here v v u a b p refl) ∙ length-append (numbers_from a (suc (b - a))) (cut_face v u b p) ∙ ap (λ n. n + length (cut_face v u b p)) (length-numbers_from a (suc (b - a)))
 
 -- each interval has a place
 size-least : (v : ℕ) (u : List ℕ) (a : ℕ) (p : List ℕ) → length p ≡ length u → times v u ≤ length (cut_face v u a p)
@@ -76,7 +67,7 @@ size-least v (w ∷ u) a (b ∷ p) l = elim (cases_eq v w) [
       omega (arith, times-here v w u (sym e), more, h)
   | inr n ↦
       let h = size-least v u b p (omega arith) in
-      omega (arith, times-other v w u (λ e. n (sym e)), ap length (face-other v w u a b p n), h)
+      omega (arith, times-other v w u (λ e. n (sym e)), ap length (face_other v w u a b p n), h)
 ]
 
 face-none : (v : ℕ) (u : List ℕ) (a : ℕ) (p : List ℕ) → times v u ≡ 0 → cut_face v u a p ≡ []
@@ -84,7 +75,7 @@ face-none v [] a p h = refl
 face-none v (w ∷ u) a [] h = refl
 face-none v (w ∷ u) a (b ∷ p) h = elim (cases_eq v w) [
   | inl e ↦ absurd (let s = times-here v w u (sym e) in omega arith)
-  | inr n ↦ face-other v w u a b p n ∙ face-none v u b p (sym (times-other v w u (λ e. n (sym e))) ∙ h)
+  | inr n ↦ face_other v w u a b p n ∙ face-none v u b p (sym (times-other v w u (λ e. n (sym e))) ∙ h)
 ]
 
 -- ---- the place after a face
@@ -212,7 +203,7 @@ module _ (q : ℕ) (u p : List ℕ) (i a : ℕ) (counts nexts : List ℕ) (t : I
           let g = t.begun k taken-value in
           let more : List ℕ = cut_face k (drop (i + 1) u) c s in
           let all : List ℕ = cut_face k u 0 (take i p ++ (c ∷ s)) in
-          let whole : all ≡ f ++ (numbers_from a (suc (c - a)) ++ more) = whole-at k c s ∙ ap (λ r. f ++ r) (face-here k k (drop (i + 1) u) a c s refl) in
+          let whole : all ≡ f ++ (numbers_from a (suc (c - a)) ++ more) = whole-at k c s ∙ ap (λ r. f ++ r) (face_here k k (drop (i + 1) u) a c s refl) in
           let size : length all ≡ length f + (suc (c - a) + length more) =
           ap length whole ∙ length-append f (numbers_from a (suc (c - a)) ++ more)
           ∙ ap (λ n. length f + n) (length-append (numbers_from a (suc (c - a))) more ∙ ap (λ n. n + length more) (length-numbers_from a (suc (c - a)))) in
@@ -260,7 +251,7 @@ module _ (q : ℕ) (u p : List ℕ) (i a : ℕ) (counts nexts : List ℕ) (t : I
         let f : List ℕ = t.face k in
         let g = t.begun k taken-value in
         let new : List ℕ = numbers_from a (suc (e - a)) in
-        let one : piece k ≡ new = face-here k k [] a e [] refl ∙ append-nil new in
+        let one : piece k ≡ new = face_here k k [] a e [] refl ∙ append-nil new in
         let size : length (f ++ new) ≡ length f + suc (e - a) = length-append f new ∙ ap (λ n. length f + n) (length-numbers_from a (suc (e - a))) in
         let up : suc (a + (e - a)) ≡ e + 1 = omega (arith, taken-order) in
         let sum : count + (e - a + 1) ≡ length (f ++ new) = omega (arith, size, count_is, g.long) in
@@ -276,7 +267,7 @@ module _ (q : ℕ) (u p : List ℕ) (i a : ℕ) (counts nexts : List ℕ) (t : I
     begun-other : (k : ℕ) → occurs k u ≡ 1 → k ≢ get_or u i 0 → Begun k (t.face k ++ piece k)
     begun-other k o n =
         let g = t.begun k o in
-        let none : t.face k ++ piece k ≡ t.face k = ap (λ r. t.face k ++ r) (face-other k (get_or u i 0) [] a (get_or p i 0) [] n) ∙ append-nil (t.face k) in
+        let none : t.face k ++ piece k ≡ t.face k = ap (λ r. t.face k ++ r) (face_other k (get_or u i 0) [] a (get_or p i 0) [] n) ∙ append-nil (t.face k) in
         subst (λ (r : List ℕ). Begun k r) (sym none) (record {
           long = get_or-set_other counts (get_or u i 0) k (count + (get_or p i 0 - a + 1)) 0 n ∙ g.long;
           after = get_or-set_other nexts (get_or u i 0) k (get_or p i 0 + 1) 0 n ∙ g.after;

@@ -1,22 +1,18 @@
 -- Lists of right ends that are passed over, since none of them is live.
-use Rattle.std.proofs.Common.{◌≡◌, ℕ, ◌+◌, ◌-◌, ◌≤◌, ◌<◌, Bool, true, false, cond, List, [], ◌∷◌, ◌++◌, map, take, drop, take_all, length-take-le, length-drop, length, get_or, set, length-set, refl, sym, ◌∙◌, ap, ap₂, arith, inl, inr, if◌then◌else◌, ltb, subst, length-append, append_assoc, zero-add, MatchBool, Some, None}
-use Rattle.std.specs.Prelude.{zero, suc, replicate}
+use Rattle.std.proofs.Common.{◌≡◌, ℕ, ◌+◌, ◌-◌, ◌≤◌, ◌<◌, Bool, true, false, cond, List, [], ◌∷◌, ◌++◌, map, take, drop, take_all, length-take-le, length-drop, length, get_or, set, length-set, refl, sym, ◌∙◌, ap, ap₂, arith, inl, inr, if◌then◌else◌, ltb, subst, length-append, append_assoc, zero-add, zero, suc, replicate, lt-ltb, le-ltb, take-append-drop}
 use Rattle.std.specs.List.{filter}
-use Rattle.std.proofs.lemmas.Bool.{lt-ltb, le-ltb, cases_lt}
-use Rattle.std.proofs.lemmas.List.{length-replicate, length-map, take-append-le, take-append-drop, take_more_set, drop_more}
+use Rattle.std.proofs.lemmas.Bool.{cases_lt}
+use Rattle.std.proofs.lemmas.List.{length-replicate, length-map, take-append-le, take_more_set, drop_more}
 use Rattle.std.proofs.lemmas.List.Elements.{filter-append}
 use Rattle.std.proofs.Math.ListN.{get_or-append}
 use Rattle.std.proofs.lemmas.Slice.{take-put_mid}
 use borrow.Rule.Slice.PartMut.{put_mid, mid_of, same_len_mid}
-use Rattle.interval_cut_law.specs.Cuts.{IsCutFrom, rising_lists}
-use Rattle.interval_cut_law.specs.LiveCuts.{next_rising}
-use Rattle.interval_cut.specs.Walking.{lists_after}
-use Rattle.interval_cut.specs.LiveWalking.{is_live_cut}
-use Rattle.interval_cut.specs.LiveSearch.{IsDeadEnd, KeepsLive, is_live_list, lists_from, lists_left, passed_list}
-use Rattle.interval_cut.specs.declared.stage.Stage.{Stage}
-use Rattle.interval_cut.specs.declared.stage.Stage.TheVariants.{Before, At}
-use Rattle.interval_cut.proofs.ListLemmas.{lists_after-first, lists_after-next, lists_after-none}
-use Rattle.interval_cut.proofs.WalkLemmas.{cut-first, cut-next}
+use Rattle.linear_law.specs.Names.{Each}
+use Rattle.linear_law.proofs.Names.{each_map}
+use Rattle.interval_cut_law.specs.Names.{IsCutFrom, rising_lists}
+use Rattle.interval_cut.specs.Names.{IsNextList, lists_after, is_live_cut, IsDeadEnd, KeepsLive, is_live_list, lists_from, lists_left, passed_list, Stage, Before, At}
+use Rattle.interval_cut.proofs.ListLemmas.{lists_after-first, lists_after-long, rising-long}
+use Rattle.interval_cut.proofs.WalkLemmas.{cut-first, cut-next, cut-replicate}
 
 pub filter-map : (live : List ℕ → Bool) (f : List ℕ → List ℕ) (xs : List (List ℕ)) → filter live (map f xs) ≡ map f (filter (λ x. live (f x)) xs)
 filter-map live f [] = refl
@@ -30,24 +26,15 @@ filter-map live f (x ∷ xs) = go (live (f x)) (filter-map live f xs)
 dead_map : (live : List ℕ → Bool) (b : ℕ) (xs : List (List ℕ)) → filter (λ s. live (b ∷ s)) xs ≡ [] → filter live (map (λ p. b ∷ p) xs) ≡ []
 dead_map live b xs h = filter-map live (λ p. b ∷ p) xs ∙ ap (map (λ p. b ∷ p)) h
 
-dead_rising : (live : List ℕ → Bool) (k a e : ℕ) → ((s : List ℕ) → length s ≡ k → live s ≡ false) → filter live (rising_lists a e k) ≡ []
-dead_rising live zero a e h = ap (λ t. cond t ([] ∷ []) []) (h [] refl)
-dead_rising live (suc k) a zero h = dead_map live a (rising_lists a zero k) (dead_rising (λ s. live (a ∷ s)) k a zero (λ s l. h (a ∷ s) (ap suc l)))
-dead_rising live (suc k) a (suc e) h =
-    filter-append live (map (λ p. a ∷ p) (rising_lists a (suc e) k)) (rising_lists (suc a) e (suc k))
-    ∙ ap₂ (λ x y. x ++ y) (dead_map live a (rising_lists a (suc e) k) (dead_rising (λ s. live (a ∷ s)) k a (suc e) (λ s l. h (a ∷ s) (ap suc l)))) (dead_rising live (suc k) (suc a) e h)
+filter-none : (live : List ℕ → Bool) (xs : List (List ℕ)) → Each (λ s. live s ≡ false) xs → filter live xs ≡ []
+filter-none live [] h = refl
+filter-none live (x ∷ xs) h = ap (λ t. cond t (x ∷ filter live xs) (filter live xs)) h.0 ∙ filter-none live xs h.1
 
-nothing : (live : List ℕ → Bool) (t : Bool) (xs : List (List ℕ)) → filter live xs ≡ [] → filter live (if t then xs else []) ≡ []
-nothing live true xs h = h
-nothing live false xs h = refl
+dead_rising : (live : List ℕ → Bool) (k a e : ℕ) → ((s : List ℕ) → length s ≡ k → live s ≡ false) → filter live (rising_lists a e k) ≡ []
+dead_rising live k a e h = filter-none live (rising_lists a e k) (each_map h (rising_lists a e k) (rising-long k e a))
 
 dead_after : (live : List ℕ → Bool) (n : ℕ) (p : List ℕ) → ((s : List ℕ) → length s ≡ length p → live s ≡ false) → filter live (lists_after n p) ≡ []
-dead_after live n [] h = refl
-dead_after live n (b ∷ p) h =
-    let more : List (List ℕ) = rising_lists (suc b) (n - suc b) (suc (length p)) in
-    filter-append live (map (λ q. b ∷ q) (lists_after n p)) (if ltb b n then more else [])
-    ∙ ap₂ (λ x y. x ++ y) (dead_map live b (lists_after n p) (dead_after (λ s. live (b ∷ s)) n p (λ s l. h (b ∷ s) (ap suc l))))
-    (nothing live (ltb b n) more (dead_rising live (suc (length p)) (suc b) (n - suc b) h))
+dead_after live n p h = filter-none live (lists_after n p) (each_map h (lists_after n p) (lists_after-long n p))
 
 keeps-dead : (live : List ℕ → Bool) (xs ys : List (List ℕ)) → filter live xs ≡ [] → KeepsLive live (xs ++ ys) ys
 keeps-dead live xs ys h = record { same = filter-append live xs ys ∙ ap (λ r. r ++ filter live ys) h; shorter = omega (arith, length-append xs ys) }
@@ -175,20 +162,14 @@ passed-written n p ys i x m inside e w =
     sym (take_all (length q) (put_mid (i + 1) k q ys) (omega (arith, all))) ∙ take-put_mid (i + 1) k q ys (length q) (omega (arith, long, same)) (omega (arith, same))
     ∙ ap₂ (λ y z. y ++ z) (take_more_set p i x inside) (w ∙ ap (λ j. replicate j n) (e ∙ ap (λ j. j - (i + 1)) same)) ∙ append_assoc (take i p) (x ∷ []) (replicate (length p - (i + 1)) n)
 
-pub left-next : (t : Bool) (top : ℕ) (p q : List ℕ) → MatchBool t (next_rising top p ≡ Some q) ((next_rising top p ≡ None) × (q ≡ p)) → lists_from t top q ≡ lists_after top p
-left-next true top p q h = sym (lists_after-next top p q h)
-left-next false top p q h = sym (lists_after-none top p h.0)
+pub left-next : (t : Bool) (top : ℕ) (p q : List ℕ) → IsNextList t top p q → lists_from t top q ≡ lists_after top p
+left-next true top p q h = sym h
+left-next false top p q h = sym h.0
 
-pub cut-moved : (t : Bool) (u : List ℕ) (top : ℕ) (p q : List ℕ) → MatchBool t (next_rising top p ≡ Some q) ((next_rising top p ≡ None) × (q ≡ p)) → IsCutFrom u 0 (p ++ (top ∷ []))
+pub cut-moved : (t : Bool) (u : List ℕ) (top : ℕ) (p q : List ℕ) → IsNextList t top p q → IsCutFrom u 0 (p ++ (top ∷ []))
     → IsCutFrom u 0 (q ++ (top ∷ []))
 cut-moved true u top p q h c = cut-next u 0 top p q c h
 cut-moved false u top p q h c = subst (λ (r : List ℕ). IsCutFrom u 0 (r ++ (top ∷ []))) (sym h.1) c
-
-cut-full : (u : List ℕ) (a m top : ℕ) → length u ≡ suc m → a ≤ top → IsCutFrom u a (replicate m top ++ (top ∷ []))
-cut-full [] a m top l b = absurd (omega arith)
-cut-full (v ∷ []) a zero top l b = (b, tt)
-cut-full (v ∷ w ∷ u) a zero top l b = absurd (omega arith)
-cut-full (v ∷ u) a (suc m) top l b = let own : top ≤ top = omega arith in (b, cut-full u top m top (omega arith) own)
 
 pub cut-passed : (u : List ℕ) (a top : ℕ) (p : List ℕ) (i x : ℕ) → length u ≡ length p + 1 → i < length p → get_or p i 0 ≤ x → x ≤ top → IsCutFrom u a (p ++ (top ∷ []))
     → IsCutFrom u a (passed_list top p i x ++ (top ∷ []))
@@ -198,7 +179,7 @@ cut-passed (v ∷ u) a top (b ∷ p) zero x l inside up low c =
     let m : length p ≡ length (b ∷ p) - (0 + 1) = omega arith in
     let o = c.0 in
     let on : a ≤ x = omega arith in
-    subst (λ j. IsCutFrom (v ∷ u) a ((x ∷ replicate j top) ++ (top ∷ []))) m (on, cut-full u x (length p) top (omega arith) low)
+    subst (λ j. IsCutFrom (v ∷ u) a ((x ∷ replicate j top) ++ (top ∷ []))) m (on, cut-replicate u x top (length p) top (omega arith) low (omega arith))
 cut-passed (v ∷ u) a top (b ∷ p) (suc i) x l inside up low c =
     let m : length p - (i + 1) ≡ length (b ∷ p) - (suc i + 1) = omega arith in
     subst (λ j. IsCutFrom (v ∷ u) a ((b ∷ (take i p ++ (x ∷ replicate j top))) ++ (top ∷ []))) m (c.0, cut-passed u b top p i x (omega arith) (omega arith) up low c.1)
@@ -237,7 +218,7 @@ left-first s top p r e w =
     ap (λ (x : List ℕ). x ∷ lists_after top x) w ∙ sym (lists_after-first (length p) top 0 ∙ ap (λ n. replicate (length p) 0 ∷ lists_after n (replicate (length p) 0)) (zero-add top))
     ∙ ap (λ t. lists_left t top p) (sym e)
 
-pub left-at : (s : Stage) (t : Bool) (top : ℕ) (p q : List ℕ) → s ≡ At → MatchBool t (next_rising top p ≡ Some q) ((next_rising top p ≡ None) × (q ≡ p)) → lists_from t top q ≡ lists_left s top p
+pub left-at : (s : Stage) (t : Bool) (top : ℕ) (p q : List ℕ) → s ≡ At → IsNextList t top p q → lists_from t top q ≡ lists_left s top p
 left-at s t top p q e h = left-next t top p q h ∙ ap (λ x. lists_left x top p) (sym e)
 
 pub cut-zeros : (u : List ℕ) (top : ℕ) (p r : List ℕ) → r ≡ replicate (length p) 0 → IsCutFrom u 0 (p ++ (top ∷ [])) → IsCutFrom u 0 (r ++ (top ∷ []))
@@ -246,7 +227,7 @@ cut-zeros u top p r e c = subst (λ (x : List ℕ). IsCutFrom u 0 (x ++ (top ∷
 -- ---- from a dead end to the next list
 
 module _ (t : Bool) (q : ℕ) (u : List ℕ) (top : ℕ) (p r s : List ℕ) (i x : ℕ) (long : length u ≡ length p + 1) (d : IsDeadEnd q u top (p ++ (top ∷ [])) i x)
-    (next : MatchBool t (next_rising top r ≡ Some s) ((next_rising top r ≡ None) × (s ≡ r))) where
+    (next : IsNextList t top r s) where
   pub leave-passed : i < length p → r ≡ passed_list top p i x → KeepsLive (is_live_list q u top) (lists_after top p) (lists_from t top s)
   leave-passed b e =
       keeps-as (is_live_list q u top) (lists_after top p) (lists_from t top s) (lists_after top p) (lists_after top (passed_list top p i x)) refl

@@ -1,24 +1,17 @@
 -- Cuts that are not live give 0 on cochains of the degree.
-use Rattle.std.proofs.Common.{◌≡◌, ℕ, zero, suc, ◌%◌, ◌/◌, ◌<◌, Bool, true, false, cond, eqb, ◌==◌, List, [], ◌∷◌, map, length, refl, sym, ◌∙◌, ap, arith, inl, inr, eqb-true, eq-eqb}
-use Rattle.std.specs.Prelude.{ℤ, pos, ◌+ℤ◌, ◌*ℤ◌, ◌&&◌, not}
+use Rattle.std.proofs.Common.{◌≡◌, ℕ, zero, suc, ◌%◌, ◌/◌, ◌<◌, Bool, true, false, cond, eqb, ◌==◌, List, [], ◌∷◌, map, length, refl, sym, ◌∙◌, ap, arith, inl, inr, eqb-true, eq-eqb, ℤ, pos, ◌+ℤ◌, ◌*ℤ◌, ◌&&◌, not}
 use Rattle.std.specs.List.{filter}
 use Rattle.std.proofs.Math.IntN.{zero-*ℤ, *ℤ-zero}
 use Rattle.std.proofs.lemmas.Bool.{and_cases, false≢true, or_cases, or_left, or_right}
 use Rattle.std.proofs.lemmas.Int.{ints}
 use Rattle.std.proofs.lemmas.List.{length-map}
-use Rattle.linear_law.specs.Lists.{IsAscending}
-use Rattle.signed_sum.specs.Lists.{is_degenerate, numbers_from}
-use Rattle.signed_sum.specs.Signs.{signed}
-use Rattle.signed_sum.specs.Sums.{total}
-use Rattle.signed_sum.proofs.SignLemmas.{signed-zero}
-use Rattle.simplicial_law.proofs.IntegralCongruence.{CongruentInt-sum, CongruentInt_of, CongruentInt_refl, CongruentInt_trans}
-use Rattle.surjection_law.specs.Surjections.{arity}
-use Rattle.interval_cut_law.specs.Cuts.{cut_face, cut_faces, cuts, sign_exponent, vertex_at}
-use Rattle.interval_cut_law.specs.LiveCuts.{is_live}
-use Rattle.interval_cut_law.specs.Operations.{value_product}
-use Rattle.interval_cut.specs.Evaluation.{IsOfDegree, IsPartOfSum}
-use Rattle.interval_cut.specs.LiveWalking.{LiveWalk, is_live_cut, live_start, live_top}
-use Rattle.interval_cut.specs.Masks.{by_mask, cut_term}
+use Rattle.linear_law.specs.Names.{IsAscending}
+use Rattle.signed_sum.specs.Names.{is_degenerate, numbers_from, signed, total}
+use Rattle.signed_sum.proofs.Names.{signed-zero}
+use Rattle.simplicial_law.proofs.Names.{CongruentInt-sum, CongruentInt_of, CongruentInt_refl, CongruentInt_trans}
+use Rattle.surjection_law.specs.Names.{arity}
+use Rattle.interval_cut_law.specs.Names.{cut_face, cut_faces, cuts, sign_exponent, vertex_at, is_live, value_product}
+use Rattle.interval_cut.specs.Names.{IsOfDegree, IsPartOfSum, LiveWalk, is_live_cut, live_start, live_top, by_mask, signed_product}
 use Rattle.interval_cut.proofs.ProductLemmas.{remainder}
 
 degenerate-map : (g : ℕ → ℕ) (f : List ℕ) → is_degenerate f ≡ true → is_degenerate (map g f) ≡ true
@@ -82,9 +75,9 @@ total-live live term (p ∷ ps) h = go (live p) refl (total-live live term ps h)
 
 -- the sum before the first live cut
 pub live_part-start : (p x q mask : ℕ) (a c : List ℕ → ℕ) (u s : List ℕ) (w : LiveWalk) → w ≡ live_start q u → x ≡ 0 % p → IsOfDegree q a → IsOfDegree q c
-    → IsPartOfSum p (cut_term (arity u) mask (λ f. pos (a f)) (λ f. pos (c f)) u s) u (live_top q u) x w.walk
+    → IsPartOfSum p (signed_product (arity u) mask (λ f. pos (a f)) (λ f. pos (c f)) u s) u (live_top q u) x w.walk
 live_part-start p x q mask a c u s w e f h i =
-    let term : List ℕ → ℤ = cut_term (arity u) mask (λ g. pos (a g)) (λ g. pos (c g)) u s in
+    let term : List ℕ → ℤ = signed_product (arity u) mask (λ g. pos (a g)) (λ g. pos (c g)) u s in
     record {
       values = ap (λ (v : LiveWalk). v.walk.values) e;
       top = ap (λ (v : LiveWalk). v.walk.top) e;

@@ -2,15 +2,9 @@
 use Rattle.std.proofs.Common.{◌≡◌, ℕ, ◌+◌, ◌-◌, ◌≤◌, Bool, true, false, cond, List, [], ◌∷◌, ◌++◌, map, take, length, replicate, refl, sym, ◌∙◌, ap, ap₂, subst, arith, Option, Some}
 use Rattle.std.specs.List.{filter}
 use Rattle.std.proofs.lemmas.List.{length-map, length-replicate, take-replicate}
-use Rattle.surjection_law.specs.Surjections.{arity}
-use Rattle.interval_cut_law.specs.Cuts.{cuts, rising_lists}
-use Rattle.interval_cut_law.specs.LiveCuts.{live_count_among, live_cut_count}
-use Rattle.interval_cut.specs.Walking.{CutWalk, lists_after, next_walk}
-use Rattle.interval_cut.specs.Stages.{here_of, left_of, shown}
-use Rattle.interval_cut.specs.LiveWalking.{LiveWalk, is_live_cut, live_top, live_walk, next_live}
-use Rattle.interval_cut.specs.LiveSearch.{FindsLive, IsListFor, is_live_list, lists_left}
-use Rattle.interval_cut.specs.declared.stage.Stage.{Stage}
-use Rattle.interval_cut.specs.declared.stage.Stage.TheVariants.{Before, At, Done}
+use Rattle.surjection_law.specs.Names.{arity}
+use Rattle.interval_cut_law.specs.Names.{cuts, rising_lists, live_count_among, live_cut_count}
+use Rattle.interval_cut.specs.Names.{CutWalk, lists_after, next_walk, here_of, left_of, shown, LiveWalk, is_live_cut, live_top, live_walk, next_live, FindsLive, IsListFor, is_live_list, lists_left, Stage, Before, At, Done}
 use Rattle.interval_cut.proofs.LiveListLemmas.{filter-map}
 use Rattle.interval_cut.proofs.WalkLemmas.{cut-start}
 

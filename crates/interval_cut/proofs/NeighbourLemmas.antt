@@ -1,11 +1,8 @@
 -- The search for two equal neighbours.
-use Rattle.std.proofs.Common.{◌≡◌, ◌≢◌, ℕ, ◌+◌, ◌<◌, ◌≤◌, true, false, ◌||◌, List, [], ◌∷◌, drop, length, length-drop, get_or, refl, sym, ◌∙◌, ap, arith}
-use Rattle.std.specs.Prelude.{suc, ◌-◌, ◌&&◌, ◌==◌, not}
-use Rattle.std.proofs.lemmas.Bool.{eq-eqb, ne_eqb}
+use Rattle.std.proofs.Common.{◌≡◌, ◌≢◌, ℕ, ◌+◌, ◌<◌, ◌≤◌, true, false, ◌||◌, List, [], ◌∷◌, drop, length, length-drop, get_or, refl, sym, ◌∙◌, ap, arith, suc, ◌-◌, ◌&&◌, ◌==◌, not, eq-eqb, ne_eqb}
 use Rattle.std.proofs.lemmas.List.{drop_more}
-use Rattle.signed_sum.specs.Lists.{is_degenerate, numbers_from}
-use Rattle.interval_cut_law.specs.Cuts.{cut_face, cut_faces}
-use Rattle.interval_cut_law.specs.LiveCuts.{is_live}
+use Rattle.signed_sum.specs.Names.{is_degenerate, numbers_from}
+use Rattle.interval_cut_law.specs.Names.{cut_face, cut_faces, is_live}
 
 both : (xs : List ℕ) (i : ℕ) → i + 1 < length xs → drop i xs ≡ get_or xs i 0 ∷ (get_or xs (i + 1) 0 ∷ drop (i + 1 + 1) xs)
 both xs i b = drop_more xs i 0 (omega arith) ∙ ap (λ r. get_or xs i 0 ∷ r) (drop_more xs (i + 1) 0 b)

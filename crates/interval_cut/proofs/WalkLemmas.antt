@@ -1,18 +1,12 @@
 -- The steps of the walk over cuts.
-use Rattle.std.proofs.Common.{◌≡◌, ℕ, ◌+◌, List, [], ◌∷◌, ◌++◌, map, length, refl, sym, ◌∙◌, ap, ap₂, arith, subst, zero-add, ◌<◌, ◌≤◌, inl, inr, length-append}
-use Rattle.std.specs.Prelude.{zero, suc, replicate, Some, None}
-use Rattle.std.specs.Prelude.{IsSome, is_some}
+use Rattle.std.proofs.Common.{◌≡◌, ℕ, ◌+◌, List, [], ◌∷◌, ◌++◌, map, length, refl, sym, ◌∙◌, ap, ap₂, arith, subst, zero-add, ◌<◌, ◌≤◌, ◌-◌, Bool, true, false, if◌then◌else◌, ltb, length-append, zero, suc, replicate, Some, None, IsSome, is_some, ltb-true}
 use Rattle.std.proofs.lemmas.Bool.{false≢true}
-use Rattle.std.proofs.lemmas.Option.{none-some}
-use Rattle.interval_cut_law.specs.Cuts.{IsCutFrom, rising_lists}
-use Rattle.interval_cut_law.specs.LiveCuts.{next_rising}
-use Rattle.interval_cut.specs.Walking.{CutWalk, cut_of, lists_after, next_walk}
-use Rattle.linear_law.specs.Lists.{Each}
-use Rattle.interval_cut.specs.Faces.{HasFaces, IsFaceTable}
-use Rattle.interval_cut.specs.Stages.{OnAt, shown}
-use Rattle.interval_cut.specs.declared.stage.Stage.{Stage}
-use Rattle.interval_cut.specs.declared.stage.Stage.TheVariants.{Before, At, Done}
-use Rattle.interval_cut.proofs.ListLemmas.{lists_after-first, lists_after-next, lists_after-none, next_tells}
+use Rattle.interval_cut_law.specs.Names.{IsCutFrom, rising_lists}
+use Rattle.interval_cut.specs.Names.{CutWalk, cut_of, lists_after, next_walk, HasFaces, IsFaceTable, OnAt, shown, Stage, Before, At, Done}
+use Rattle.linear_law.specs.Names.{Each}
+use Rattle.interval_cut_law.proofs.CutOrder.{cut-earlier, rising-cuts}
+use Rattle.linear_law.proofs.Names.{each_append, each_map, each_of_map}
+use Rattle.interval_cut.proofs.ListLemmas.{lists_after-first}
 
 -- from before the first cut
 pub walk-first : (values inner new : List ℕ) (top : ℕ) (s : Stage) (w : CutWalk) → shown values top s inner ≡ w → s ≡ Before → length inner + 1 ≡ length values → new ≡ replicate (length inner) 0
@@ -26,17 +20,17 @@ walk-first (v ∷ u) inner new top s w is st l e =
     ∙ ap (λ t. next_walk (shown (v ∷ u) top t inner)) (sym st) ∙ ap next_walk is
 
 -- from a cut to the next one
-pub walk-next : (values inner new : List ℕ) (top : ℕ) (s : Stage) (w : CutWalk) → shown values top s inner ≡ w → s ≡ At → next_rising top inner ≡ Some new
+pub walk-next : (values inner new : List ℕ) (top : ℕ) (s : Stage) (w : CutWalk) → shown values top s inner ≡ w → s ≡ At → lists_after top inner ≡ new ∷ lists_after top new
     → shown values top At new ≡ next_walk w
 walk-next values inner new top s w is st e =
-    ap (λ (r : List (List ℕ)). next_walk (record { values = values; top = top; here = Some (inner ++ (top ∷ [])); left = map (λ p. p ++ (top ∷ [])) r })) (sym (lists_after-next top inner new e))
+    ap (λ (r : List (List ℕ)). next_walk (record { values = values; top = top; here = Some (inner ++ (top ∷ [])); left = map (λ p. p ++ (top ∷ [])) r })) (sym e)
     ∙ ap (λ t. next_walk (shown values top t inner)) (sym st) ∙ ap next_walk is
 
 -- past the last
-pub walk-last : (values inner new : List ℕ) (top : ℕ) (s : Stage) (w : CutWalk) → shown values top s inner ≡ w → s ≡ At → next_rising top inner ≡ None
+pub walk-last : (values inner new : List ℕ) (top : ℕ) (s : Stage) (w : CutWalk) → shown values top s inner ≡ w → s ≡ At → lists_after top inner ≡ []
     → shown values top Done new ≡ next_walk w
 walk-last values inner new top s w is st e =
-    ap (λ (r : List (List ℕ)). next_walk (record { values = values; top = top; here = Some (inner ++ (top ∷ [])); left = map (λ p. p ++ (top ∷ [])) r })) (sym (lists_after-none top inner e))
+    ap (λ (r : List (List ℕ)). next_walk (record { values = values; top = top; here = Some (inner ++ (top ∷ [])); left = map (λ p. p ++ (top ∷ [])) r })) (sym e)
     ∙ ap (λ t. next_walk (shown values top t inner)) (sym st) ∙ ap next_walk is
 
 -- ---- the ends stay those of a cut
@@ -47,36 +41,43 @@ length-cut [] a (b ∷ p) c = absurd c
 length-cut (v ∷ u) a [] c = absurd c
 length-cut (v ∷ u) a (b ∷ p) c = ap suc (length-cut u b p c.1)
 
-cut-constant : (u : List ℕ) (a m top : ℕ) → length u ≡ suc m → a ≤ top → IsCutFrom u a (replicate m a ++ (top ∷ []))
-cut-constant [] a m top l b = absurd (omega arith)
-cut-constant (v ∷ []) a zero top l b = (b, tt)
-cut-constant (v ∷ w ∷ u) a zero top l b = absurd (omega arith)
-cut-constant (v ∷ u) a (suc m) top l b = let own : a ≤ a = omega arith in (own, cut-constant u a m top (omega arith) b)
+pub cut-replicate : (u : List ℕ) (a b m top : ℕ) → length u ≡ suc m → a ≤ b → b ≤ top → IsCutFrom u a (replicate m b ++ (top ∷ []))
+cut-replicate [] a b m top l c d = absurd (omega arith)
+cut-replicate (v ∷ []) a b zero top l c d = (omega arith, tt)
+cut-replicate (v ∷ w ∷ u) a b zero top l c d = absurd (omega arith)
+cut-replicate (v ∷ u) a b (suc m) top l c d = (c, cut-replicate u b b m top (omega arith) (omega arith) d)
 
-pub cut-next : (u : List ℕ) (a top : ℕ) (p q : List ℕ) → IsCutFrom u a (p ++ (top ∷ [])) → next_rising top p ≡ Some q → IsCutFrom u a (q ++ (top ∷ []))
-cut-next [] a top [] q c e = absurd c
-cut-next [] a top (b ∷ p) q c e = absurd c
-cut-next (v ∷ u) a top [] q c e = absurd (none-some q e)
-cut-next (v ∷ u) a top (b ∷ p) q c e = elim (next_tells top b p q e) [
-  | inl s ↦ subst (λ (x : List ℕ). IsCutFrom (v ∷ u) a (x ++ (top ∷ []))) s.2 (c.0, cut-next u b top p s.0 c.1 s.1)
-  | inr s ↦
-      let long : length u ≡ suc (length p) = length-cut u b (p ++ (top ∷ [])) c.1 ∙ length-append p (top ∷ []) ∙ plus (length p) in
-      let low = c.0 in
-      let up : a ≤ suc b = omega arith in
-      subst (λ (x : List ℕ). IsCutFrom (v ∷ u) a (x ++ (top ∷ []))) s.2 (up, cut-constant u (suc b) (length p) top long s.1)
-]
+-- the lists after that of a cut are those of cuts
+cuts-after : (u : List ℕ) (a top : ℕ) (p : List ℕ) → IsCutFrom u a (p ++ (top ∷ [])) → Each (λ q. IsCutFrom u a (q ++ (top ∷ []))) (lists_after top p)
+cuts-after [] a top [] c = absurd c
+cuts-after [] a top (b ∷ p) c = absurd c
+cuts-after (v ∷ u) a top [] c = tt
+cuts-after (v ∷ u) a top (b ∷ p) c =
+    let P : List ℕ → Type 0 = λ q. IsCutFrom (v ∷ u) a (q ++ (top ∷ [])) in
+    let long : length u ≡ suc (length p) = let l = length-cut u b (p ++ (top ∷ [])) c.1 in let m = length-append p (top ∷ []) in omega arith in
+    let low = c.0 in
+    each_append P (map (λ q. b ∷ q) (lists_after top p)) (if ltb b top then rising_lists (suc b) (top - suc b) (suc (length p)) else [])
+    (each_of_map P (λ q. b ∷ q) (lists_after top p) (each_map (λ q h. (low, h)) (lists_after top p) (cuts-after u b top p c.1)))
+    (subst (λ (k : ℕ). Each P (if ltb b top then rising_lists (suc b) (top - suc b) k else [])) long (above (ltb b top) (λ e. ltb-true b top e)))
   where
-    plus : (n : ℕ) → n + 1 ≡ suc n
-    plus n = omega arith
+    above : (t : Bool) → (t ≡ true → b < top) → Each (λ q. IsCutFrom (v ∷ u) a (q ++ (top ∷ []))) (if t then rising_lists (suc b) (top - suc b) (length u) else [])
+    above false h = tt
+    above true h =
+        let up = h refl in
+        let low = c.0 in
+        each_map (λ q k. cut-earlier (v ∷ u) a (suc b) (q ++ (top ∷ [])) (omega arith) k) (rising_lists (suc b) (top - suc b) (length u)) (rising-cuts top u v (suc b) (top - suc b) (omega arith))
+
+pub cut-next : (u : List ℕ) (a top : ℕ) (p q : List ℕ) → IsCutFrom u a (p ++ (top ∷ [])) → lists_after top p ≡ q ∷ lists_after top q → IsCutFrom u a (q ++ (top ∷ []))
+cut-next u a top p q c e = (subst (Each (λ q. IsCutFrom u a (q ++ (top ∷ [])))) e (cuts-after u a top p c)).0
 
 pub cut-first : (u : List ℕ) (a top : ℕ) (p : List ℕ) → IsCutFrom u a (p ++ (top ∷ [])) → IsCutFrom u 0 (replicate (length p) 0 ++ (top ∷ []))
-cut-first u a top p c = cut-constant u 0 (length p) top (length-cut u a (p ++ (top ∷ [])) c ∙ length-append p (top ∷ []) ∙ plus (length p)) (omega arith)
+cut-first u a top p c = cut-replicate u 0 0 (length p) top (length-cut u a (p ++ (top ∷ [])) c ∙ length-append p (top ∷ []) ∙ plus (length p)) (omega arith) (omega arith)
   where
     plus : (n : ℕ) → n + 1 ≡ suc n
     plus n = omega arith
 
 pub cut-start : (u : List ℕ) (m top : ℕ) → length u ≡ m + 1 → IsCutFrom u 0 (replicate m 0 ++ (top ∷ []))
-cut-start u m top l = cut-constant u 0 m top (omega arith) (omega arith)
+cut-start u m top l = cut-replicate u 0 0 m top (omega arith) (omega arith) (omega arith)
 
 -- where a cut is shown, the walk is at one
 pub is_at : (values : List ℕ) (top : ℕ) (s : Stage) (inner : List ℕ) (w : CutWalk) → shown values top s inner ≡ w → IsSome w.here → s ≡ At

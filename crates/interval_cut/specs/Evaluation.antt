@@ -1,9 +1,9 @@
 -- The values of cochains of one degree, and the sum over the cuts of a walk.
 use Rattle.std.specs.Prelude.{◌≡◌, ℕ, suc, List, length, ℤ, pos, ◌+ℤ◌}
-use Rattle.linear_law.specs.Lists.{IsAscending}
-use Rattle.signed_sum.specs.Sums.{total}
-use Rattle.simplicial_law.specs.Integral.{CongruentInt}
-use Rattle.interval_cut_law.specs.Cuts.{cuts}
+use Rattle.linear_law.specs.Names.{IsAscending}
+use Rattle.signed_sum.specs.Names.{total}
+use Rattle.simplicial_law.specs.Names.{CongruentInt}
+use Rattle.interval_cut_law.specs.Names.{cuts}
 use Rattle.interval_cut.specs.Walking.{CutWalk}
 
 -- what a cochain of degree q is on lists that are no simplices of that degree

@@ -1,6 +1,6 @@
 -- The walk over the intervals of a cut from the right.
 use Rattle.std.specs.Prelude.{◌≡◌, ℕ, ◌≤◌, List, ◌∷◌, drop, length, slice_index, sum, take}
-use Rattle.interval_cut_law.specs.Cuts.{lengths_below, sign_exponent}
+use Rattle.interval_cut_law.specs.Names.{lengths_below, sign_exponent}
 
 -- The intervals from the i-th on are passed: `sizes` has the sum of their lengths for each value up to 32,
 -- and `done` is their exponent.

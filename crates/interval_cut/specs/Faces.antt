@@ -1,8 +1,8 @@
 -- The faces of a cut, written one after the other.
 use Rattle.std.specs.Prelude.{◌≡◌, ℕ, ◌+◌, ◌<◌, ◌≤◌, List, [], ◌∷◌, ◌++◌, drop, length, slice_index, take}
-use Rattle.signed_sum.specs.Lists.{numbers_from}
-use Rattle.linear_law.specs.Lists.{Each}
-use Rattle.interval_cut_law.specs.Cuts.{IsCutFrom, cut_face}
+use Rattle.signed_sum.specs.Names.{numbers_from}
+use Rattle.linear_law.specs.Names.{Each}
+use Rattle.interval_cut_law.specs.Names.{IsCutFrom, cut_face}
 
 -- the places of the faces of the values ks, one after the other
 abbrev pub flat_faces : List ℕ → List ℕ → List ℕ → List ℕ

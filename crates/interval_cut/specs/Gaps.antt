@@ -1,7 +1,7 @@
 -- The word of the gaps of a face, in parts.
 use Rattle.std.specs.Prelude.{◌≡◌, ℕ, ◌+◌, List, ◌++◌, drop, length}
-use Rattle.surjection_law.specs.Boundary.{caesura_count}
-use Rattle.interval_cut_law.specs.Cuts.{IsCutFrom, gap_symbols}
+use Rattle.surjection_law.specs.Names.{caesura_count}
+use Rattle.interval_cut_law.specs.Names.{IsCutFrom, gap_symbols}
 
 -- The gaps of face k are written up to its i-th interval, which begins at a, and j is the next caesura:
 -- `done` is what stands before the place `next`.

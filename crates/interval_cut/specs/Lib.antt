@@ -11,3 +11,4 @@ pub mod Masks
 pub mod Evaluation
 pub mod Gaps
 pub mod Samples
+pub mod Names

@@ -1,9 +1,9 @@
 -- The search for live cuts among the lists of their right ends.
 use Rattle.std.specs.Prelude.{MatchBool, ◌≡◌, ◌≢◌, ◌⊎◌, ℕ, ◌+◌, ◌-◌, ◌≤◌, ◌<◌, suc, Bool, true, false, ◌==◌, List, [], ◌∷◌, ◌++◌, drop, length, replicate, slice_index, take}
 use Rattle.std.specs.List.{count_by, filter}
-use Rattle.signed_sum.specs.Lists.{is_degenerate, occurs}
-use Rattle.surjection_law.specs.Surjections.{IsSurjection, arity}
-use Rattle.interval_cut_law.specs.Cuts.{IsCutFrom, cut_face, rising_lists}
+use Rattle.signed_sum.specs.Names.{is_degenerate, occurs}
+use Rattle.surjection_law.specs.Names.{IsSurjection, arity}
+use Rattle.interval_cut_law.specs.Names.{IsCutFrom, cut_face, rising_lists}
 use Rattle.interval_cut.specs.Walking.{lists_after}
 use Rattle.interval_cut.specs.LiveWalking.{is_live_cut}
 use Rattle.interval_cut.specs.declared.live_search.Search.{Search}
@@ -76,7 +76,7 @@ pub record IsDeadEnd (q : ℕ) (u : List ℕ) (top : ℕ) (p : List ℕ) (i x : 
   pub dead : (b : ℕ) (s : List ℕ) → slice_index p i ≤ b → b ≤ x → length s + (i + 1) ≡ length u → is_live_cut q u (take i p ++ b ∷ s) ≡ false
 
 -- what the search for the cuts live for q keeps is that of the values
-pub record IsReady (q : ℕ) (u later counts nexts : List ℕ) : Type 0 where
+pub record IsSearchReady (q : ℕ) (u later counts nexts : List ℕ) : Type 0 where
   pub surjection : IsSurjection u
   pub small : q ≤ 15
   pub later_is : later ≡ later_times u
@@ -85,7 +85,7 @@ pub record IsReady (q : ℕ) (u later counts nexts : List ℕ) : Type 0 where
 
 -- the same, of a search
 abbrev pub IsReadyFor : List ℕ → Search → Type 0
-IsReadyFor u s = IsReady s.degree u (take (length u) s.later) s.counts s.nexts
+IsReadyFor u s = IsSearchReady s.degree u (take (length u) s.later) s.counts s.nexts
 
 -- the list has all right ends but the last of a cut of 0 to `top`
 pub record IsListFor (u : List ℕ) (top : ℕ) (inner : List ℕ) : Type 0 where

@@ -1,11 +1,9 @@
 -- A walk over the live cuts, in their order.
 use Rattle.std.specs.Prelude.{ℕ, ◌*◌, ◌-◌, ◌^◌, min, Bool, ◌||◌, nat_lt, if◌then◌else◌, List, None}
 use Rattle.std.specs.List.{filter}
-use Rattle.signed_sum.specs.Lists.{numbers_from}
-use Rattle.surjection_law.specs.Boundary.{caesura_count}
-use Rattle.surjection_law.specs.Surjections.{arity}
-use Rattle.interval_cut_law.specs.Cuts.{cut_faces, cuts}
-use Rattle.interval_cut_law.specs.LiveCuts.{is_live, live_cut_count}
+use Rattle.signed_sum.specs.Names.{numbers_from}
+use Rattle.surjection_law.specs.Names.{caesura_count, arity}
+use Rattle.interval_cut_law.specs.Names.{cut_faces, cuts, is_live, live_cut_count}
 use Rattle.interval_cut.specs.Walking.{CutWalk, finish_of, next_walk}
 
 -- whether each face of the cut p is a simplex of degree q

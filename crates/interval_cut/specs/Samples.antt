@@ -2,7 +2,7 @@
 use Rattle.std.specs.Prelude.{◌≡◌, ℕ, ◌*◌, ◌-◌, ◌%◌, ◌<◌, List, [], ◌∷◌, length, refl}
 use Rattle.std.proofs.Common.{inl, inr, arith, ap, ◌∙◌}
 use Rattle.std.proofs.lemmas.Bool.{cases_lt}
-use Rattle.linear_law.specs.Lists.{IsAscending}
+use Rattle.linear_law.specs.Names.{IsAscending}
 
 -- c times the length of an edge, modulo 3; 0 where the second vertex is not above the first
 abbrev pub edge_value : ℕ → List ℕ → ℕ

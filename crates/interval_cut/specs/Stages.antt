@@ -1,6 +1,6 @@
 -- What a walk over cuts shows at each of its stages, where `inner` has all right ends but the last.
 use Rattle.std.specs.Prelude.{ℕ, List, [], ◌∷◌, ◌++◌, map, Option, Some, None}
-use Rattle.interval_cut_law.specs.Cuts.{cuts}
+use Rattle.interval_cut_law.specs.Names.{cuts}
 use Rattle.interval_cut.specs.Walking.{CutWalk, lists_after}
 use Rattle.interval_cut.specs.declared.stage.Stage.{Stage}
 use Rattle.interval_cut.specs.declared.stage.Stage.TheVariants.{Before, At, Done}

@@ -1,7 +1,7 @@
 -- What a walk over cuts shows of its fields.
 use Rattle.std.specs.Prelude.{◌≡◌, ◌+◌, ◌≤◌, [], ◌∷◌, ◌++◌, length, vec_len}
-use Rattle.surjection_law.specs.Surjections.{IsSurjection, arity}
-use Rattle.interval_cut_law.specs.Cuts.{IsCutFrom}
+use Rattle.surjection_law.specs.Names.{IsSurjection, arity}
+use Rattle.interval_cut_law.specs.Names.{IsCutFrom}
 use Rattle.interval_cut.specs.Faces.{IsFaceTable}
 use Rattle.interval_cut.specs.Walking.{CutWalk}
 use Rattle.interval_cut.specs.Stages.{shown, OnAt}

@@ -1,12 +1,16 @@
 -- A walk over all cuts, in their order.
-use Rattle.std.specs.Prelude.{ℕ, ◌-◌, nat_lt, if◌then◌else◌, suc, List, [], ◌∷◌, ◌++◌, map, length, Option, Some, None, unwrap_or}
-use Rattle.interval_cut_law.specs.Cuts.{cuts, rising_lists}
+use Rattle.std.specs.Prelude.{◌≡◌, MatchBool, Bool, ℕ, ◌-◌, nat_lt, if◌then◌else◌, suc, List, [], ◌∷◌, ◌++◌, map, length, Option, Some, None, unwrap_or}
+use Rattle.interval_cut_law.specs.Names.{cuts, rising_lists}
 
 -- the lists after p, in order, among the lists of numbers up to n in which no number is below the one before it
 abbrev pub lists_after : ℕ → List ℕ → List (List ℕ)
 lists_after n [] = []
 lists_after n (b ∷ p) =
     map (λ q. b ∷ q) (lists_after n p) ++ (if nat_lt b n then rising_lists (suc b) (n - suc b) (suc (length p)) else [])
+
+-- q is the first list after p where there is one, and else p
+abbrev pub IsNextList : Bool → ℕ → List ℕ → List ℕ → Type 0
+IsNextList more n p q = MatchBool more (lists_after n p ≡ q ∷ lists_after n q) ((lists_after n p ≡ []) × (q ≡ p))
 
 -- The cuts of 0 to `top` for the values: the one that the walk is at, and those that are to come
 pub record CutWalk : Type 0 where

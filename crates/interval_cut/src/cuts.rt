@@ -1,14 +1,9 @@
 ghost use Rattle.std.specs.Prelude.{◌≡◌, ◌↔◌, ℕ, ◌+◌, ◌≤◌, ◌∷◌, IfOk, IsSome, IsTrue, length, pos, slice_index};
-ghost use Rattle.signed_sum.specs.Inversions.{inversion_count};
-ghost use Rattle.signed_sum.specs.Lists.{less, numbers_from};
-ghost use Rattle.signed_sum.specs.Signs.{signed};
-ghost use Rattle.surjection_law.specs.Surjections.{IsSurjection, arity};
-ghost use Rattle.interval_cut_law.specs.Cuts.{cut_face, cut_faces, gap_word, sign_exponent};
-ghost use Rattle.interval_cut_law.specs.LiveCuts.{is_live};
-ghost use Rattle.interval_cut.specs.Walking.{cut_of, finish_of, next_walk, start_of};
-ghost use Rattle.interval_cut.specs.Masks.{by_mask, cut_term};
-ghost use Rattle.interval_cut_law.specs.Operations.{operation_value};
-ghost use Rattle.simplicial_law.specs.Integral.{CongruentInt};
+ghost use Rattle.signed_sum.specs.Names.{rearrangement_sign, numbers_from, signed};
+ghost use Rattle.surjection_law.specs.Names.{IsSurjection, arity};
+ghost use Rattle.interval_cut_law.specs.Names.{cut_face, cut_faces, gap_word, sign_exponent, starting_word, is_live, operation_value};
+ghost use Rattle.interval_cut.specs.Names.{cut_of, finish_of, next_walk, start_of, by_mask, signed_product};
+ghost use Rattle.simplicial_law.specs.Names.{CongruentInt};
 ghost use Rattle.fp_field.specs.Served.{served};
 
 use crate::faces::{Faces, is_simplex, point_of};
@@ -127,10 +122,11 @@ impl Cuts {
         cut_sign(self.values.as_slice(), self.inner.as_slice(), self.top)
     }
 
-    /// The sign of the cut by the word of its gaps. Both signs are the same.
+    /// The sign of the cut by the word of its gaps: that of its rearrangement into the word of the caesuras and then the
+    /// edges, in order. Both signs are the same.
     pub fn word_sign(&self) -> i8
         requires { IsSome self.now.here }
-        ensures word { result ≡ signed (inversion_count less (gap_word (numbers_from 1 (arity self.now.values)) self.now.values (cut_of self.now))) (pos 1) }
+        ensures word { result ≡ rearrangement_sign (gap_word (numbers_from 1 (arity self.now.values)) self.now.values (cut_of self.now)) (starting_word self.now.values self.now.top) }
         ensures same { result ≡ signed (sign_exponent self.now.values 0 (cut_of self.now)) (pos 1) }
     {
         cut_word_sign(
@@ -167,7 +163,7 @@ impl Cuts {
         requires at { IsSome self.old.here }
         requires simplex { length simplex.now ≡ self.old.top + 1 }
         ensures value { CongruentInt P (pos result)
-            (cut_term (arity self.old.values) mask (λ f. pos (V.value_of alpha.now f)) (λ f. pos (V.value_of gamma.now f)) self.old.values simplex.now (cut_of self.old)) }
+            (signed_product (arity self.old.values) mask (λ f. pos (V.value_of alpha.now f)) (λ f. pos (V.value_of gamma.now f)) self.old.values simplex.now (cut_of self.old)) }
         ensures same { self.new ≡ self.old }
     {
         let product = product(

@@ -1,10 +1,10 @@
 //! The faces of a cut, written one after the other into memory that is there.
 ghost use Rattle.std.specs.Prelude.{◌≡◌, ◌==◌, ◌&&◌, not, ℕ, ◌+◌, ◌-◌, ◌<◌, ◌≤◌, ◌^◌, suc, List, [], ◌∷◌, ◌++◌, drop, length, slice_index, take, vec_len};
-ghost use Rattle.linear_law.specs.Lists.{Each};
-ghost use Rattle.signed_sum.specs.Lists.{is_degenerate, numbers_from};
-ghost use Rattle.surjection_law.specs.Surjections.{arity};
-ghost use Rattle.interval_cut_law.specs.Cuts.{IsCutFrom, cut_face};
-ghost use Rattle.interval_cut.specs.Faces.{HasFaces, IsFaceTable};
+ghost use Rattle.linear_law.specs.Names.{Each};
+ghost use Rattle.signed_sum.specs.Names.{is_degenerate, numbers_from};
+ghost use Rattle.surjection_law.specs.Names.{arity};
+ghost use Rattle.interval_cut_law.specs.Names.{IsCutFrom, cut_face};
+ghost use Rattle.interval_cut.specs.Names.{HasFaces, IsFaceTable};
 
 /// The places of the faces 1, 2, .. and where each face begins.
 #[derive(Drop)]

@@ -1,16 +1,11 @@
 ghost use Rattle.std.specs.Prelude.{◌≡◌, ◌↔◌, ℕ, ◌+◌, ◌*◌, ◌-◌, ◌^◌, ◌≤◌, ◌∷◌, IfOk, IsSome, IsTrue, length, min, pos, slice_index};
-ghost use Rattle.signed_sum.specs.Signs.{signed};
-ghost use Rattle.surjection_law.specs.Boundary.{caesura_count};
-ghost use Rattle.surjection_law.specs.Surjections.{arity};
-ghost use Rattle.interval_cut_law.specs.Cuts.{cut_face, rising_lists, sign_exponent};
+ghost use Rattle.signed_sum.specs.Names.{signed};
+ghost use Rattle.surjection_law.specs.Names.{caesura_count, arity};
+ghost use Rattle.interval_cut_law.specs.Names.{cut_face, rising_lists, sign_exponent, operation_value};
 ghost use Rattle.std.specs.List.{filter};
-ghost use Rattle.interval_cut_law.specs.Operations.{operation_value};
-ghost use Rattle.simplicial_law.specs.Integral.{CongruentInt};
+ghost use Rattle.simplicial_law.specs.Names.{CongruentInt};
 ghost use Rattle.fp_field.specs.Served.{served};
-ghost use Rattle.interval_cut.specs.Masks.{by_mask, cut_term};
-ghost use Rattle.interval_cut.specs.Walking.{cut_of};
-ghost use Rattle.interval_cut.specs.LiveSearch.{IsListFor, IsReadyFor, is_live_list};
-ghost use Rattle.interval_cut.specs.LiveWalking.{capped_count, counted_live, live_finish, live_start, live_top, live_walk, next_live};
+ghost use Rattle.interval_cut.specs.Names.{by_mask, signed_product, cut_of, IsListFor, IsReadyFor, is_live_list, capped_count, counted_live, live_finish, live_start, live_top, live_walk, next_live};
 
 use crate::cuts::{Cuts, greatest};
 use crate::live_lists::reached;
@@ -179,7 +174,7 @@ impl LiveCuts {
         requires at { IsSome self.old.walk.here }
         requires simplex { length simplex.now ≡ self.old.walk.top + 1 }
         ensures value { CongruentInt P (pos result)
-            (cut_term (arity self.old.walk.values) mask (λ f. pos (V.value_of alpha.now f)) (λ f. pos (V.value_of gamma.now f)) self.old.walk.values simplex.now (cut_of self.old.walk)) }
+            (signed_product (arity self.old.walk.values) mask (λ f. pos (V.value_of alpha.now f)) (λ f. pos (V.value_of gamma.now f)) self.old.walk.values simplex.now (cut_of self.old.walk)) }
         ensures same { self.new ≡ self.old }
     {
         self.cuts.term(alpha, gamma, mask, simplex)

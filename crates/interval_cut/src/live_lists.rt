@@ -1,8 +1,7 @@
 //! From one list of right ends to the next, past lists that are known not to be live.
 ghost use Rattle.std.specs.Prelude.{◌≡◌, ℕ, ◌+◌, ◌≤◌, ◌<◌, List, [], ◌∷◌, ◌++◌, length, slice_index};
-ghost use Rattle.interval_cut_law.specs.Cuts.{IsCutFrom};
-ghost use Rattle.interval_cut.specs.Walking.{lists_after};
-ghost use Rattle.interval_cut.specs.LiveSearch.{IsDeadEnd, KeepsLive, is_live_list, lists_from, lists_left, passed_list, stage_after};
+ghost use Rattle.interval_cut_law.specs.Names.{IsCutFrom};
+ghost use Rattle.interval_cut.specs.Names.{lists_after, IsDeadEnd, KeepsLive, is_live_list, lists_from, lists_left, passed_list, stage_after};
 
 use crate::lists::next_list;
 use crate::stage::Stage;

@@ -1,7 +1,7 @@
 //! The search for live cuts, from one list of right ends to the next.
 ghost use Rattle.std.specs.Prelude.{◌≡◌, ℕ, ◌+◌, ◌≤◌, [], ◌∷◌, ◌++◌, MatchOption, length, take, true};
-ghost use Rattle.surjection_law.specs.Surjections.{IsSurjection};
-ghost use Rattle.interval_cut.specs.LiveSearch.{FindsLive, IsDeadEnd, IsFitting, IsListFor, IsReady, IsReadyFor, IsUnfit, is_live_list, later_times, lists_left, times};
+ghost use Rattle.surjection_law.specs.Names.{IsSurjection};
+ghost use Rattle.interval_cut.specs.Names.{FindsLive, IsDeadEnd, IsFitting, IsListFor, IsSearchReady, IsReadyFor, IsUnfit, is_live_list, later_times, lists_left, times};
 
 use crate::faces::end_of;
 use crate::live_lists::{DeadEnd, first_left, leave};
@@ -83,7 +83,7 @@ fn dead_end(
     counts: &mut [u32],
     nexts: &mut [u32],
 ) -> Option<DeadEnd>
-    requires ready { IsReady degree values.now later.now counts.old nexts.old }
+    requires ready { IsSearchReady degree values.now later.now counts.old nexts.old }
     requires list { IsListFor values.now top inner.now }
     ensures dead { MatchOption result (is_live_list degree values.now top inner.now ≡ true) (λ d. IsDeadEnd degree values.now top (inner.now ++ top ∷ []) d.interval d.last) }
     ensures counts { length counts.new ≡ length counts.old }

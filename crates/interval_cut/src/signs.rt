@@ -1,11 +1,8 @@
 //! The sign of a cut, in both forms.
 ghost use Rattle.std.specs.Prelude.{◌≡◌, ℕ, ◌+◌, ◌-◌, ◌<◌, ◌≤◌, ◌^◌, [], ◌∷◌, ◌++◌, drop, length, pos, slice_index, slice_set, sum, take};
-ghost use Rattle.signed_sum.specs.Inversions.{count_before, inversion_count};
-ghost use Rattle.signed_sum.specs.Lists.{less, numbers_from, occurs};
-ghost use Rattle.signed_sum.specs.Signs.{signed};
-ghost use Rattle.surjection_law.specs.Boundary.{caesura_count};
-ghost use Rattle.surjection_law.specs.Surjections.{arity};
-ghost use Rattle.interval_cut_law.specs.Cuts.{IsCutFrom, gap_symbols, gap_word, sign_exponent};
+ghost use Rattle.signed_sum.specs.Names.{count_before, inversion_count, less, numbers_from, occurs, signed};
+ghost use Rattle.surjection_law.specs.Names.{caesura_count, arity};
+ghost use Rattle.interval_cut_law.specs.Names.{IsCutFrom, gap_symbols, gap_word, sign_exponent};
 
 use crate::faces::{end_of, point_of, write_numbers};
 

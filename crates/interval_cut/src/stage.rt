@@ -1,8 +1,7 @@
 //! The stages of a walk over cuts.
 ghost use Rattle.std.specs.Prelude.{◌≡◌, ℕ, ◌+◌, List, [], ◌∷◌, ◌++◌, length};
-ghost use Rattle.interval_cut_law.specs.Cuts.{IsCutFrom};
-ghost use Rattle.interval_cut.specs.Walking.{next_walk};
-ghost use Rattle.interval_cut.specs.Stages.{shown};
+ghost use Rattle.interval_cut_law.specs.Names.{IsCutFrom};
+ghost use Rattle.interval_cut.specs.Names.{next_walk, shown};
 
 use crate::lists::next_list;
 

@@ -1,5 +1,5 @@
 ghost use Rattle.std.specs.Prelude.{◌+◌, ◌≤◌, IsSome, length};
-ghost use Rattle.interval_cut.specs.Samples.{edge_ascending, edge_long, edge_small, edge_value};
+ghost use Rattle.interval_cut.specs.Names.{edge_ascending, edge_long, edge_small, edge_value};
 
 use crate::cuts::{Cuts, evaluate, greatest};
 use crate::live::{LiveCuts, evaluate_live};

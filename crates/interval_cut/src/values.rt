@@ -1,12 +1,11 @@
 //! Cochains by their values, and their products on the faces of a cut.
 ghost use Rattle.std.specs.Prelude.{◌≡◌, ◌==◌, ◌%◌, ℕ, ◌<◌, ◌≤◌, cond, IsTrue, List, length, map, pos, suc, take, vec_len};
-ghost use Rattle.linear_law.specs.Lists.{Each, IsAscending};
-ghost use Rattle.signed_sum.specs.Signs.{signed};
-ghost use Rattle.simplicial_law.specs.Integral.{CongruentInt};
-ghost use Rattle.interval_cut_law.specs.Cuts.{vertex_at};
+ghost use Rattle.linear_law.specs.Names.{Each, IsAscending};
+ghost use Rattle.signed_sum.specs.Names.{signed};
+ghost use Rattle.simplicial_law.specs.Names.{CongruentInt};
+ghost use Rattle.interval_cut_law.specs.Names.{vertex_at};
 ghost use Rattle.fp_field.specs.Served.{served};
-ghost use Rattle.interval_cut.specs.Faces.{HasFaces, IsFaceTable};
-ghost use Rattle.interval_cut.specs.Masks.{product_from};
+ghost use Rattle.interval_cut.specs.Names.{HasFaces, IsFaceTable, product_from};
 
 use crate::faces::Faces;
 use fp_field::Fp;

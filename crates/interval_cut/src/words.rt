@@ -1,10 +1,8 @@
 //! The word of the gaps of a cut, and its inversions.
 ghost use Rattle.std.specs.Prelude.{◌≡◌, ℕ, ◌+◌, ◌≤◌, ◌^◌, [], ◌∷◌, ◌++◌, count_by, length, nat_lt, pos, take};
-ghost use Rattle.signed_sum.specs.Inversions.{inversion_count};
-ghost use Rattle.signed_sum.specs.Lists.{less, numbers_from};
-ghost use Rattle.signed_sum.specs.Signs.{signed};
-ghost use Rattle.surjection_law.specs.Boundary.{caesura_count};
-ghost use Rattle.interval_cut_law.specs.Cuts.{IsCutFrom, gap_symbols, gap_word};
+ghost use Rattle.signed_sum.specs.Names.{inversion_count, less, numbers_from, signed};
+ghost use Rattle.surjection_law.specs.Names.{caesura_count};
+ghost use Rattle.interval_cut_law.specs.Names.{IsCutFrom, gap_symbols, gap_word};
 
 use crate::faces::{end_of, write_numbers};
 use crate::signs::{comes_again, sign_of};

@@ -1,14 +1,12 @@
-use Rattle.std.proofs.Common.{length}
-use Rattle.std.specs.Prelude.{pos}
-use Rattle.surjection_law.specs.Surjections.{arity}
-use Rattle.interval_cut.specs.Evaluation.{IsPartOfSum}
-use Rattle.interval_cut.specs.Masks.{cut_term}
+use Rattle.std.proofs.Common.{length, pos}
+use Rattle.surjection_law.specs.Names.{arity}
+use Rattle.interval_cut.specs.Names.{IsPartOfSum, signed_product}
 use Rattle.interval_cut.proofs.cuts.evaluate.Given as goal
 
 abbrev pub invariant-loop-cuts : goal.invariant-loop-cuts
 invariant-loop-cuts g l =
     IsPartOfSum g.row.P
-    (cut_term (arity l.fn.cuts.values) l.mask (λ f. pos (g.V.Values.value_of l.alpha f)) (λ f. pos (g.V.Values.value_of l.gamma f)) l.fn.cuts.values l.simplex)
+    (signed_product (arity l.fn.cuts.values) l.mask (λ f. pos (g.V.Values.value_of l.alpha f)) (λ f. pos (g.V.Values.value_of l.gamma f)) l.fn.cuts.values l.simplex)
     l.fn.cuts.values l.fn.cuts.top l.sum l.cuts
 
 abbrev pub decreases-loop-cuts : goal.decreases-loop-cuts

@@ -1,5 +1,5 @@
 use Rattle.std.proofs.Common.{◌≡◌, ◌≤◌, ◌-◌, drop, length}
-use Rattle.signed_sum.specs.Lists.{is_degenerate}
+use Rattle.signed_sum.specs.Names.{is_degenerate}
 use Rattle.interval_cut.proofs.faces.has_equal_neighbours.Given as goal
 
 abbrev pub invariant-loop-i : goal.invariant-loop-i

@@ -1,5 +1,5 @@
 use Rattle.std.proofs.Common.{[], ◌∷◌, ◌++◌, take}
-use Rattle.interval_cut.specs.Faces.{IsPartOfFace}
+use Rattle.interval_cut.specs.Names.{IsPartOfFace}
 use Rattle.interval_cut.proofs.faces.write_face.Given as goal
 
 abbrev pub invariant-loop-i : goal.invariant-loop-i

@@ -1,5 +1,5 @@
 use Rattle.std.proofs.Common.{[], ◌∷◌, ◌++◌}
-use Rattle.interval_cut.specs.Faces.{IsPartOfTable}
+use Rattle.interval_cut.specs.Names.{IsPartOfTable}
 use Rattle.interval_cut.proofs.faces.write_faces.Given as goal
 
 abbrev pub invariant-loop-k : goal.invariant-loop-k

@@ -1,5 +1,5 @@
 use Rattle.std.proofs.Common.{◌≡◌, ◌+◌, ◌++◌, take}
-use Rattle.signed_sum.specs.Lists.{numbers_from}
+use Rattle.signed_sum.specs.Names.{numbers_from}
 use Rattle.interval_cut.proofs.faces.write_numbers.Given as goal
 
 abbrev pub invariant-loop-k : goal.invariant-loop-k

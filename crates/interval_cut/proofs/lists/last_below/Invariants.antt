@@ -1,5 +1,5 @@
 use Rattle.std.proofs.Common.{◌≤◌, length}
-use Rattle.interval_cut.specs.Ends.{IsFullFrom}
+use Rattle.interval_cut.specs.Names.{IsFullFrom}
 use Rattle.interval_cut.proofs.lists.last_below.Given as goal
 
 abbrev pub invariant-loop-i : goal.invariant-loop-i

@@ -1,7 +1,7 @@
 use Rattle.std.proofs.Common.{◌≡◌, ◌+◌, length}
 use Rattle.std.specs.List.{filter}
-use Rattle.interval_cut_law.specs.Cuts.{rising_lists}
-use Rattle.interval_cut.specs.LiveSearch.{IsListFor, IsReadyFor, is_live_list, lists_left}
+use Rattle.interval_cut_law.specs.Names.{rising_lists}
+use Rattle.interval_cut.specs.Names.{IsListFor, IsReadyFor, is_live_list, lists_left}
 use Rattle.interval_cut.proofs.live.count_lists.Given as goal
 
 abbrev pub invariant-loop-count : goal.invariant-loop-count

@@ -1,11 +1,7 @@
-use Rattle.std.proofs.Common.{◌∙◌, List, ℕ, ap, length, subst, suc, sym}
-use Rattle.std.specs.Prelude.{ℤ, pos}
+use Rattle.std.proofs.Common.{◌∙◌, List, ℕ, ap, length, subst, suc, sym, ℤ, pos}
 use Rattle.std.proofs.lemmas.Bool.{false≢true}
-use Rattle.surjection_law.specs.Surjections.{arity}
-use Rattle.interval_cut.specs.Evaluation.{IsPartOfSum}
-use Rattle.interval_cut.specs.LiveWalking.{LiveWalk, live_top}
-use Rattle.interval_cut.specs.Masks.{cut_term}
-use Rattle.interval_cut.specs.Walking.{CutWalk, finish_of}
+use Rattle.surjection_law.specs.Names.{arity}
+use Rattle.interval_cut.specs.Names.{IsPartOfSum, LiveWalk, live_top, signed_product, CutWalk, finish_of}
 use Rattle.interval_cut.proofs.EvaluationLemmas.{part_end, part_step, whole_sum}
 use Rattle.interval_cut.proofs.LiveValueLemmas.{live_part-start}
 use Rattle.interval_cut.proofs.live.evaluate_live.Goals as goal
@@ -21,7 +17,7 @@ loop-cuts-init g c = (
 
 pub loop-cuts-preserved : goal.loop-cuts-preserved
 loop-cuts-preserved g c =
-    let term : List ℕ → List ℕ → ℤ = λ (u q : List ℕ). cut_term (arity u) c.args.mask (λ f. pos (g.V.Values.value_of c.args.alpha.now f)) (λ f. pos (g.V.Values.value_of c.args.gamma.now f)) u c.args.simplex.now q in
+    let term : List ℕ → List ℕ → ℤ = λ (u q : List ℕ). signed_product (arity u) c.args.mask (λ f. pos (g.V.Values.value_of c.args.alpha.now f)) (λ f. pos (g.V.Values.value_of c.args.gamma.now f)) u c.args.simplex.now q in
     let u : List ℕ = c.args.cuts.now.walk.values in
     let n : ℕ = live_top c.args.cuts.now.degree u in (
       subst (λ (w : LiveWalk). IsPartOfSum g.row.P (term u) u n c.add-sum.result w.walk) (sym c.term.ensures.same)
@@ -34,7 +30,7 @@ pub returns-clause-value : goal.returns-clause-value
 returns-clause-value g c =
     let u : List ℕ = c.args.cuts.now.walk.values in
     let n : ℕ = live_top c.args.cuts.now.degree u in
-    let term : List ℕ → ℤ = cut_term (arity u) c.args.mask (λ f. pos (g.V.Values.value_of c.args.alpha.now f)) (λ f. pos (g.V.Values.value_of c.args.gamma.now f)) u c.args.simplex.now in
+    let term : List ℕ → ℤ = signed_product (arity u) c.args.mask (λ f. pos (g.V.Values.value_of c.args.alpha.now f)) (λ f. pos (g.V.Values.value_of c.args.gamma.now f)) u c.args.simplex.now in
     whole_sum g.row.P c.loop-cuts.sum term u n (length c.args.simplex.now) c.requires.simplex
     (part_end g.row.P c.loop-cuts.sum term u n c.loop-cuts.cuts.walk c.advance.new.self.walk c.loop-cuts.invariant.0 (ap (λ (w : LiveWalk). w.walk) c.advance.ensures.walk)
     (λ h. false≢true (sym c.loop-cuts-test.false ∙ c.advance.ensures.moved.1 h))).0
@@ -43,7 +39,7 @@ pub returns-clause-walk : goal.returns-clause-walk
 returns-clause-walk g c =
     let u : List ℕ = c.args.cuts.now.walk.values in
     let n : ℕ = live_top c.args.cuts.now.degree u in
-    let term : List ℕ → ℤ = cut_term (arity u) c.args.mask (λ f. pos (g.V.Values.value_of c.args.alpha.now f)) (λ f. pos (g.V.Values.value_of c.args.gamma.now f)) u c.args.simplex.now in
+    let term : List ℕ → ℤ = signed_product (arity u) c.args.mask (λ f. pos (g.V.Values.value_of c.args.alpha.now f)) (λ f. pos (g.V.Values.value_of c.args.gamma.now f)) u c.args.simplex.now in
     let walk : CutWalk → ℕ → LiveWalk = λ w q. record { degree = q; walk = w } in
     ap (λ (w : CutWalk). walk w c.advance.new.self.degree)
     (part_end g.row.P c.loop-cuts.sum term u n c.loop-cuts.cuts.walk c.advance.new.self.walk c.loop-cuts.invariant.0 (ap (λ (w : LiveWalk). w.walk) c.advance.ensures.walk)

@@ -1,5 +1,5 @@
 use Rattle.std.proofs.Common.{◌+◌, ◌-◌, ℕ, [], ◌∷◌, ◌++◌, get_or, set, length, length-append, arith, sym, ap, ◌∙◌, refl, subst}
-use Rattle.interval_cut.specs.LiveSearch.{IsFitting, IsTaken, IsUnfit}
+use Rattle.interval_cut.specs.Names.{IsFitting, IsTaken, IsUnfit}
 use Rattle.interval_cut.proofs.LiveFaceLemmas.{end-below, later-at, later-few, length-later, taken-end, taken-more, taken-short, taken-start, taken-unfit, value-room}
 use Rattle.interval_cut.proofs.live_search.dead_end.Goals as goal
 

@@ -1,5 +1,5 @@
 use Rattle.std.proofs.Common.{[], ◌∷◌, ◌++◌}
-use Rattle.interval_cut.specs.LiveSearch.{IsTaken}
+use Rattle.interval_cut.specs.Names.{IsTaken}
 use Rattle.interval_cut.proofs.live_search.dead_end.Given as goal
 
 abbrev pub invariant-loop-i : goal.invariant-loop-i

@@ -1,5 +1,5 @@
 use Rattle.std.proofs.Common.{◌≡◌, ◌++◌, drop, length, take}
-use Rattle.interval_cut.specs.LiveSearch.{later_times}
+use Rattle.interval_cut.specs.Names.{later_times}
 use Rattle.interval_cut.proofs.live_search.later_counts.Given as goal
 
 abbrev pub invariant-loop-i : goal.invariant-loop-i

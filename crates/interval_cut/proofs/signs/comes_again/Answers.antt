@@ -1,6 +1,6 @@
 use Rattle.std.proofs.Common.{◌==◌, ◌+◌, ◌∙◌, ap, drop, get_or}
 use Rattle.operad_law.proofs.WordLemmas.{any-occurs, drop_rest}
-use Rattle.signed_sum.specs.Lists.{occurs}
+use Rattle.signed_sum.specs.Names.{occurs}
 use Rattle.interval_cut.proofs.ExponentLemmas.{as_number}
 use Rattle.interval_cut.proofs.signs.comes_again.Goals as goal
 

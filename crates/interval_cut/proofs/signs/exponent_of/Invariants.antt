@@ -1,5 +1,5 @@
 use Rattle.std.proofs.Common.{[], ◌∷◌, ◌++◌}
-use Rattle.interval_cut.specs.Exponents.{IsPassed}
+use Rattle.interval_cut.specs.Names.{IsPassed}
 use Rattle.interval_cut.proofs.signs.exponent_of.Given as goal
 
 abbrev pub invariant-loop-i : goal.invariant-loop-i

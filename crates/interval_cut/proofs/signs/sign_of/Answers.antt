@@ -1,6 +1,5 @@
-use Rattle.std.proofs.Common.{sym, arith}
-use Rattle.signed_sum.proofs.SignLemmas.{signed-parity}
-use Rattle.std.specs.Prelude.{pos}
+use Rattle.std.proofs.Common.{sym, arith, pos}
+use Rattle.signed_sum.proofs.Names.{signed-parity}
 use Rattle.interval_cut.proofs.signs.sign_of.Goals as goal
 
 pub returns-then-exponent-eq0 : goal.returns-then-exponent-eq0

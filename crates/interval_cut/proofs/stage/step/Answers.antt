@@ -1,11 +1,15 @@
-use Rattle.std.proofs.Common.{◌≡◌, List, ℕ, [], ◌∷◌, ◌++◌, ◌∙◌, ap, refl, sym, length, replicate, Some, subst}
+use Rattle.std.proofs.Common.{◌≡◌, List, ℕ, Vec, Global, [], ◌∷◌, ◌++◌, ◌∙◌, ap, refl, sym, length, replicate, subst}
 use Rattle.std.proofs.lemmas.List.{with_items_is}
 use Rattle.std.specs.Vec.{with_items}
-use Rattle.interval_cut_law.specs.Cuts.{IsCutFrom}
-use Rattle.interval_cut_law.specs.LiveCuts.{next_rising}
+use Rattle.interval_cut_law.specs.Names.{IsCutFrom}
+use Rattle.interval_cut.specs.Names.{lists_after}
 use Rattle.interval_cut.proofs.ListLemmas.{length-next}
 use Rattle.interval_cut.proofs.WalkLemmas.{walk-first, walk-next, walk-last, cut-first, cut-next}
 use Rattle.interval_cut.proofs.stage.step.Goals as goal
+
+moved : (top : ℕ) (v : Vec ℕ Global) (p q : List ℕ) → p ≡ v.items → length p ≡ v.len → lists_after top p ≡ q ∷ lists_after top q → lists_after top v.items ≡ (with_items v q).items ∷ lists_after top (with_items v q).items
+moved top v p q value len next =
+    ap (lists_after top) (sym value) ∙ next ∙ ap (λ (r : List ℕ). r ∷ lists_after top r) (sym (with_items_is v q (length-next top p q next ∙ len)))
 
 pub returns-in-Before-clause-walk : goal.returns-in-Before-clause-walk
 returns-in-Before-clause-walk c u l =
@@ -20,19 +24,15 @@ returns-in-Before-clause-cut c u h =
 
 pub returns-then-next_list-clause-walk : goal.returns-then-next_list-clause-walk
 returns-then-next_list-clause-walk c u l =
-    let next : next_rising c.args.top c.as_mut_slice-in-At.result.now ≡ Some c.next_list.new.list = c.if-next_list.ensures in
-    let long : length c.next_list.new.list ≡ c.args.inner.now.len = length-next c.args.top c.as_mut_slice-in-At.result.now c.next_list.new.list next ∙ c.as_mut_slice-in-At.ensures.len in
     walk-next u c.args.inner.now.items (with_items c.args.inner.now c.next_list.new.list).items c.args.top c.args.stage _ refl c.in-At.is
-    (ap (next_rising c.args.top) (sym c.as_mut_slice-in-At.ensures.value) ∙ next ∙ ap (λ r. Some r) (sym (with_items_is c.args.inner.now c.next_list.new.list long)))
+    (moved c.args.top c.args.inner.now c.as_mut_slice-in-At.result.now c.next_list.new.list c.as_mut_slice-in-At.ensures.value c.as_mut_slice-in-At.ensures.len c.if-next_list.ensures)
 
 pub returns-then-next_list-clause-cut : goal.returns-then-next_list-clause-cut
 returns-then-next_list-clause-cut c u h =
-    let next : next_rising c.args.top c.as_mut_slice-in-At.result.now ≡ Some c.next_list.new.list = c.if-next_list.ensures in
-    let long : length c.next_list.new.list ≡ c.args.inner.now.len = length-next c.args.top c.as_mut_slice-in-At.result.now c.next_list.new.list next ∙ c.as_mut_slice-in-At.ensures.len in
     cut-next u 0 c.args.top c.args.inner.now.items (with_items c.args.inner.now c.next_list.new.list).items h
-    (ap (next_rising c.args.top) (sym c.as_mut_slice-in-At.ensures.value) ∙ next ∙ ap (λ r. Some r) (sym (with_items_is c.args.inner.now c.next_list.new.list long)))
+    (moved c.args.top c.args.inner.now c.as_mut_slice-in-At.result.now c.next_list.new.list c.as_mut_slice-in-At.ensures.value c.as_mut_slice-in-At.ensures.len c.if-next_list.ensures)
 
 pub returns-else-next_list-clause-walk : goal.returns-else-next_list-clause-walk
 returns-else-next_list-clause-walk c u l =
     walk-last u c.args.inner.now.items (with_items c.args.inner.now c.next_list.new.list).items c.args.top c.args.stage _ refl c.in-At.is
-    (ap (next_rising c.args.top) (sym c.as_mut_slice-in-At.ensures.value) ∙ c.if-next_list.ensures.0)
+    (ap (lists_after c.args.top) (sym c.as_mut_slice-in-At.ensures.value) ∙ c.if-next_list.ensures.0)

@@ -1,5 +1,5 @@
 use Rattle.std.proofs.Common.{◌≡◌}
-use Rattle.interval_cut.specs.LiveWalking.{live_top}
+use Rattle.interval_cut.specs.Names.{live_top}
 use Rattle.interval_cut.proofs.tests.evaluates_by_live_cuts.Given as goal
 
 abbrev pub invariant-loop-mask : goal.invariant-loop-mask

@@ -1,8 +1,6 @@
-use Rattle.std.proofs.Common.{◌+◌, ◌-◌, ℕ, List}
-use Rattle.std.specs.Prelude.{pos, ◌*ℤ◌}
-use Rattle.simplicial_law.specs.Integral.{CongruentInt}
-use Rattle.interval_cut.specs.Faces.{IsFaceTable}
-use Rattle.interval_cut.specs.Masks.{product_from}
+use Rattle.std.proofs.Common.{◌+◌, ◌-◌, ℕ, List, pos, ◌*ℤ◌}
+use Rattle.simplicial_law.specs.Names.{CongruentInt}
+use Rattle.interval_cut.specs.Names.{IsFaceTable, product_from}
 use Rattle.interval_cut.proofs.values.product.Given as goal
 
 abbrev pub invariant-loop-k : goal.invariant-loop-k

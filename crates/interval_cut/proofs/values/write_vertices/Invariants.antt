@@ -1,5 +1,5 @@
 use Rattle.std.proofs.Common.{◌≡◌, map, take}
-use Rattle.interval_cut_law.specs.Cuts.{vertex_at}
+use Rattle.interval_cut_law.specs.Names.{vertex_at}
 use Rattle.interval_cut.proofs.values.write_vertices.Given as goal
 
 abbrev pub invariant-loop-i : goal.invariant-loop-i

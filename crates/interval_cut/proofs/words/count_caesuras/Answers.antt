@@ -1,5 +1,4 @@
-use Rattle.std.proofs.Common.{◌+◌, arith, drop}
-use Rattle.std.specs.Prelude.{slice_index}
+use Rattle.std.proofs.Common.{◌+◌, arith, drop, slice_index}
 use Rattle.interval_cut.proofs.GapLemmas.{caesuras_step, occurs_once}
 use Rattle.interval_cut.proofs.words.count_caesuras.Goals as goal
 

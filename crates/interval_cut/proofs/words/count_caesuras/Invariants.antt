@@ -1,5 +1,5 @@
 use Rattle.std.proofs.Common.{◌≡◌, ◌+◌, ◌≤◌, drop}
-use Rattle.surjection_law.specs.Boundary.{caesura_count}
+use Rattle.surjection_law.specs.Names.{caesura_count}
 use Rattle.interval_cut.proofs.words.count_caesuras.Given as goal
 
 abbrev pub invariant-loop-i : goal.invariant-loop-i

@@ -1,6 +1,5 @@
 use Rattle.std.proofs.Common.{◌≡◌, ◌+◌, ◌*◌, ◌≤◌, drop}
-use Rattle.signed_sum.specs.Inversions.{inversion_count}
-use Rattle.signed_sum.specs.Lists.{less}
+use Rattle.signed_sum.specs.Names.{inversion_count, less}
 use Rattle.interval_cut.proofs.words.count_inversions.Given as goal
 
 abbrev pub invariant-loop-i : goal.invariant-loop-i

@@ -1,5 +1,5 @@
 use Rattle.std.proofs.Common.{◌+◌, ◌-◌, ◌<◌, ℕ, List, [], ◌∷◌, ◌++◌, take, length, arith, ap, ◌∙◌}
-use Rattle.signed_sum.specs.Lists.{numbers_from}
+use Rattle.signed_sum.specs.Names.{numbers_from}
 use Rattle.interval_cut.proofs.ExponentLemmas.{interval}
 use Rattle.interval_cut.proofs.GapLemmas.{gaps_order, gaps_room, gaps_skip, gaps_write, part_of_gaps_moved}
 use Rattle.interval_cut.proofs.WalkLemmas.{length-cut}

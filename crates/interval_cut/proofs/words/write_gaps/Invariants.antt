@@ -1,5 +1,5 @@
 use Rattle.std.proofs.Common.{[], ◌∷◌, ◌++◌, take}
-use Rattle.interval_cut.specs.Gaps.{IsPartOfGaps}
+use Rattle.interval_cut.specs.Names.{IsPartOfGaps}
 use Rattle.interval_cut.proofs.words.write_gaps.Given as goal
 
 abbrev pub invariant-loop-i : goal.invariant-loop-i

@@ -1,6 +1,6 @@
 use Rattle.std.proofs.Common.{◌≡◌, [], ◌∷◌, ◌++◌, length, take}
-use Rattle.signed_sum.specs.Lists.{numbers_from}
-use Rattle.interval_cut_law.specs.Cuts.{gap_word}
+use Rattle.signed_sum.specs.Names.{numbers_from}
+use Rattle.interval_cut_law.specs.Names.{gap_word}
 use Rattle.interval_cut.proofs.words.write_word.Given as goal
 
 abbrev pub invariant-loop-k : goal.invariant-loop-k

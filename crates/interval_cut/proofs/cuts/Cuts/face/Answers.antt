@@ -1,5 +1,5 @@
 use Rattle.std.proofs.Common.{◌≡◌, ◌+◌, ◌-◌, ◌∙◌, List, ℕ, [], ◌∷◌, ◌++◌, arith, ap}
-use Rattle.interval_cut_law.specs.Cuts.{cut_face}
+use Rattle.interval_cut_law.specs.Names.{cut_face}
 use Rattle.interval_cut.proofs.WalkLemmas.{has_faces, is_at, on_at, on_walk}
 use Rattle.interval_cut.proofs.cuts.Cuts.face.Goals as goal
 

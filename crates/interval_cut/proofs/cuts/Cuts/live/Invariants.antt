@@ -1,9 +1,8 @@
 use Rattle.std.proofs.Common.{◌≡◌, ◌+◌, ◌-◌}
-use Rattle.signed_sum.specs.Lists.{numbers_from}
-use Rattle.surjection_law.specs.Surjections.{arity}
-use Rattle.interval_cut_law.specs.Cuts.{cut_faces}
-use Rattle.interval_cut_law.specs.LiveCuts.{is_live}
-use Rattle.interval_cut.specs.Walking.{cut_of}
+use Rattle.signed_sum.specs.Names.{numbers_from}
+use Rattle.surjection_law.specs.Names.{arity}
+use Rattle.interval_cut_law.specs.Names.{cut_faces, is_live}
+use Rattle.interval_cut.specs.Names.{cut_of}
 use Rattle.interval_cut.proofs.cuts.Cuts.live.Given as goal
 
 abbrev pub invariant-loop-k : goal.invariant-loop-k

@@ -1,7 +1,7 @@
 use Rattle.std.proofs.Common.{◌≡◌, ◌-◌, ℕ, List, [], ◌∷◌, ◌++◌, length, replicate, arith, sym, ap, ◌∙◌, subst}
 use Rattle.std.proofs.lemmas.List.{length-replicate}
-use Rattle.surjection_law.specs.Surjections.{IsSurjection, arity}
-use Rattle.interval_cut_law.specs.Cuts.{IsCutFrom}
+use Rattle.surjection_law.specs.Names.{IsSurjection, arity}
+use Rattle.interval_cut_law.specs.Names.{IsCutFrom}
 use Rattle.interval_cut.proofs.WalkLemmas.{cut-start}
 use Rattle.interval_cut.proofs.cuts.Cuts.of.Goals as goal
 

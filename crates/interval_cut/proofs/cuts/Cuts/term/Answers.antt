@@ -1,7 +1,6 @@
-use Rattle.std.proofs.Common.{◌≡◌, ◌∙◌, ℕ, [], ◌∷◌, ◌++◌, arith, ap, ap₂, length}
-use Rattle.std.specs.Prelude.{pos}
-use Rattle.signed_sum.specs.Signs.{signed}
-use Rattle.interval_cut_law.specs.Cuts.{sign_exponent}
+use Rattle.std.proofs.Common.{◌≡◌, ◌∙◌, ℕ, [], ◌∷◌, ◌++◌, arith, ap, ap₂, length, pos}
+use Rattle.signed_sum.specs.Names.{signed}
+use Rattle.interval_cut_law.specs.Names.{sign_exponent}
 use Rattle.interval_cut.proofs.EvaluationLemmas.{shown_term}
 use Rattle.interval_cut.proofs.ProductLemmas.{signed_term, small_sign, zero_term}
 use Rattle.interval_cut.proofs.WalkLemmas.{has_faces, is_at, on_at}

@@ -1,6 +1,5 @@
-use Rattle.std.proofs.Common.{◌+◌, ◌-◌, ◌<◌, arith, subst, sym, ap, ◌∙◌, length}
-use Rattle.std.specs.Prelude.{slice_index}
-use Rattle.linear_law.specs.Lists.{Each}
+use Rattle.std.proofs.Common.{◌+◌, ◌-◌, ◌<◌, arith, subst, sym, ap, ◌∙◌, length, slice_index}
+use Rattle.linear_law.specs.Names.{Each}
 use Rattle.interval_cut.proofs.FaceLemmas.{face_at, part_short, places_below}
 use Rattle.interval_cut.proofs.faces.Faces.face.Goals as goal
 

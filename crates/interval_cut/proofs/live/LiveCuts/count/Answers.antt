@@ -1,9 +1,7 @@
 use Rattle.std.proofs.Common.{◌≡◌, ℕ, ◌-◌, ◌^◌, ◌∙◌, ap, arith, length, min, replicate, take}
 use Rattle.std.specs.List.{filter}
-use Rattle.interval_cut_law.specs.Cuts.{rising_lists}
-use Rattle.interval_cut.specs.LiveSearch.{is_live_list}
-use Rattle.interval_cut.specs.LiveWalking.{LiveWalk, capped_count}
-use Rattle.interval_cut.specs.declared.live.LiveCuts.TheInside.{Inside}
+use Rattle.interval_cut_law.specs.Names.{rising_lists}
+use Rattle.interval_cut.specs.Names.{is_live_list, LiveWalk, capped_count, Inside}
 use Rattle.interval_cut.proofs.LiveWalkLemmas.{length-zeros, listed-count, zeros-list}
 use Rattle.interval_cut.proofs.live.LiveCuts.count.Goals as goal
 

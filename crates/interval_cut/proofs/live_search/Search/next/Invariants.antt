@@ -1,5 +1,5 @@
 use Rattle.std.proofs.Common.{◌≡◌, length}
-use Rattle.interval_cut.specs.LiveSearch.{IsReadyFor, IsSearching, is_live_list, lists_from}
+use Rattle.interval_cut.specs.Names.{IsReadyFor, IsSearching, is_live_list, lists_from}
 use Rattle.interval_cut.proofs.live_search.Search.next.Given as goal
 
 abbrev pub invariant-loop-more : goal.invariant-loop-more
