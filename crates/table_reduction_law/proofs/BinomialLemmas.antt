@@ -1,6 +1,6 @@
 -- Binomial coefficients.
 use Rattle.std.proofs.Common.{◌≡◌, ℕ, zero, suc, ◌*◌, refl, arith}
-use Rattle.table_reduction_law.specs.Counts.{binomial}
+use Rattle.table_reduction_law.specs.Names.{binomial}
 
 pub absorb : (n k : ℕ) → suc k * binomial (suc n) (suc k) ≡ suc n * binomial n k
 absorb zero zero = refl

@@ -1,19 +1,12 @@
 -- The laws on formal sums, from the laws on sums tested by functions.
-use Rattle.std.proofs.Common.{◌≡◌, ℕ, zero, suc, ◌+◌, ◌≤◌, Bool, cond, ◌==◌, ◌&&◌, ◌||◌, List, [], ◌∷◌, ◌++◌, map, refl, sym, ◌∙◌, ap, eq-eqb, arith, inl, inr}
-use Rattle.std.specs.Prelude.{ℤ, pos, ◌+ℤ◌, neg_ℤ}
+use Rattle.std.proofs.Common.{◌≡◌, ℕ, zero, suc, ◌+◌, ◌≤◌, Bool, cond, ◌==◌, ◌&&◌, ◌||◌, List, [], ◌∷◌, ◌++◌, map, refl, sym, ◌∙◌, ap, eq-eqb, arith, inl, inr, ℤ, pos, ◌+ℤ◌, neg_ℤ, flat_map}
 use Rattle.std.proofs.lemmas.Int.{ints}
 use Rattle.std.proofs.lemmas.Bool.{cases_Bool}
 use native.Mathlib.Decide.{ℕ_discrete}
-use Rattle.std.specs.Prelude.{flat_map}
-use Rattle.signed_sum.proofs.LawProofs.{without_one-terms, without_one-without_one}
-use Rattle.signed_sum.proofs.ListLemmas.{occurs-self, occurs-tail}
-use Rattle.signed_sum.proofs.SumLemmas.{fun_ext, restricted-gone, restricted-there, total-append, total-map, value_at-kept_terms, value_at-unit_terms}
-use Rattle.signed_sum.specs.Lists.{is_degenerate, is_same_list, numbers_from, occurs, unless_empty}
-use Rattle.signed_sum.specs.Sums.{IsNormalized, alternating_terms, kept_terms, normalized, restricted, total, unit_terms, value_at, without_each, without_one}
+use Rattle.signed_sum.proofs.Names.{without_one-terms, without_one-without_one, occurs-self, occurs-tail, fun_ext, restricted-gone, restricted-there, total-append, total-map, value_at-kept_terms, value_at-unit_terms}
+use Rattle.signed_sum.specs.Names.{is_degenerate, is_same_list, numbers_from, occurs, unless_empty, IsNormalized, alternating_terms, kept_terms, normalized, restricted, total, unit_terms, value_at, without_each, without_one}
 use Rattle.surjection_law.proofs.BoundaryPlaces.{normalized-is, value_at-degenerate, value_at-surjection_boundary_places}
-use Rattle.surjection_law.specs.Boundary.{surjection_boundary}
-use Rattle.surjection_law.specs.Places.{without_place}
-use Rattle.surjection_law.specs.Surjections.{IsOnto, IsRelabelling}
+use Rattle.surjection_law.specs.Names.{surjection_boundary, without_place, IsOnto, IsRelabelling}
 use Rattle.table_reduction_law.proofs.DegenerateTuples.{reduced-degenerate}
 use Rattle.table_reduction_law.proofs.MayBoundary.{boundary, even-lists, may-cong, odd-lists}
 use Rattle.table_reduction_law.proofs.Permutations.{Within, apart-test, map-within, moves-cycle, perm-within, place, reduced-moved, relabels, tuple-moved, uncycle, within-tail}
@@ -21,10 +14,7 @@ use Rattle.table_reduction_law.proofs.PowerPairs.{may_sum, may_tuple_sum, pair_s
 use Rattle.table_reduction_law.proofs.ReductionBoundary.{boundary-cong, chain-law, face_sum, reduced-walked, reduction_sum, tuple_good, walked}
 use Rattle.table_reduction_law.proofs.ReductionWalks.{walk-cong}
 use Rattle.table_reduction_law.proofs.TupleActions.{face_sum-degenerate, face_sum-map, vanishes}
-use Rattle.table_reduction_law.specs.Laws.{DegenerateTupleLaw, MayRelations, ReductionActionLaw, ReductionBoundaryLaw, TupleActionLaw, TupleBoundaryLaw}
-use Rattle.table_reduction_law.specs.MayElements.{cycle, cycle_power, pair_count, leading_entries, may_candidates, may_element, may_tuples, power_pairs, turned}
-use Rattle.table_reduction_law.specs.Reduction.{reduced_lists, table_reduction}
-use Rattle.table_reduction_law.specs.Tuples.{IsTuple, entry_at, is_degenerate_tuple, is_zero_tuple, permuted_tuple, tuple_boundary}
+use Rattle.table_reduction_law.specs.Names.{DegenerateTupleLaw, MayRelations, ReductionActionLaw, ReductionBoundaryLaw, TupleActionLaw, TupleBoundaryLaw, cycle, cycle_power, pair_count, leading_entries, may_candidates, may_element, may_tuples, power_pairs, turned, reduced_lists, table_reduction, IsTuple, entry_at, is_degenerate_tuple, is_zero_tuple, permuted_tuple, tuple_boundary}
 
 -- values of formal sums
 

@@ -1,20 +1,13 @@
 -- Permutations as maps of values, and table reduction of a moved tuple.
-use Rattle.std.proofs.Common.{◌≡◌, ℕ, zero, suc, ◌+◌, ◌<◌, ◌≤◌, Bool, true, false, cond, List, [], ◌∷◌, ◌++◌, map, refl, sym, ◌∙◌, ap, arith, ◌==◌, inl, inr, subst, eqb-true, eq-eqb}
-use Rattle.std.specs.Prelude.{take}
-use Rattle.std.specs.Prelude.{ℤ}
+use Rattle.std.proofs.Common.{◌≡◌, ℕ, zero, suc, ◌+◌, ◌<◌, ◌≤◌, Bool, true, false, cond, List, [], ◌∷◌, ◌++◌, map, refl, sym, ◌∙◌, ap, arith, ◌==◌, inl, inr, subst, eqb-true, eq-eqb, take, ℤ, length, pred}
 use native.Mathlib.Decide.{ℕ_discrete}
 use Rattle.std.proofs.lemmas.List.{length-map, map-append, take-map}
-use Rattle.std.specs.Prelude.{length, pred}
-use Rattle.signed_sum.proofs.ListLemmas.{occurs-01, occurs-apart, occurs-self, occurs-tail}
-use Rattle.signed_sum.proofs.SumLemmas.{total-map}
-use Rattle.signed_sum.specs.Lists.{IsDistinct, numbers_from, occurs}
-use Rattle.signed_sum.specs.Sums.{total}
-use Rattle.surjection_law.specs.Surjections.{IsRelabelling}
+use Rattle.signed_sum.proofs.Names.{occurs-01, occurs-apart, occurs-self, occurs-tail, total-map}
+use Rattle.signed_sum.specs.Names.{IsDistinct, numbers_from, occurs, total}
+use Rattle.surjection_law.specs.Names.{IsRelabelling}
 use Rattle.table_reduction_law.proofs.ReductionBoundary.{permutation-length, reduction_sum}
 use Rattle.table_reduction_law.proofs.UnusedEntries.{unused-in, unused-out}
-use Rattle.table_reduction_law.specs.MayElements.{cycle}
-use Rattle.table_reduction_law.specs.Reduction.{cons_if_zero, row_lengths, rows, unused}
-use Rattle.table_reduction_law.specs.Tuples.{IsPermutationOf, IsTuple, entry_at}
+use Rattle.table_reduction_law.specs.Names.{cycle, cons_if_zero, row_lengths, rows, unused, IsPermutationOf, IsTuple, entry_at}
 
 pub range-in : (v a m : ℕ) → a ≤ v → v < a + m → occurs v (numbers_from a m) ≡ 1
 range-in v a zero h g = absurd (omega (arith, h, g))

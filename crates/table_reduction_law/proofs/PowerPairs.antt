@@ -1,15 +1,12 @@
 -- May elements in tuples.
-use Rattle.std.proofs.Common.{◌≡◌, ℕ, zero, suc, ◌+◌, ◌%◌, ◌≤◌, List, [], ◌∷◌, ◌++◌, map, refl, sym, ◌∙◌, ap, arith, append_assoc}
-use Rattle.std.specs.Prelude.{ℤ, pos, ◌+ℤ◌, neg_ℤ}
+use Rattle.std.proofs.Common.{◌≡◌, ℕ, zero, suc, ◌+◌, ◌%◌, ◌≤◌, List, [], ◌∷◌, ◌++◌, map, refl, sym, ◌∙◌, ap, arith, append_assoc, ℤ, pos, ◌+ℤ◌, neg_ℤ}
 use Rattle.std.proofs.lemmas.Int.{ints}
 use Rattle.std.proofs.lemmas.List.{map-append}
-use Rattle.signed_sum.proofs.ListLemmas.{numbers_from-distinct}
-use Rattle.signed_sum.specs.Lists.{numbers_from, unless_empty}
-use Rattle.signed_sum.specs.Sums.{without_one}
+use Rattle.signed_sum.proofs.Names.{numbers_from-distinct}
+use Rattle.signed_sum.specs.Names.{numbers_from, unless_empty, without_one}
 use Rattle.table_reduction_law.proofs.Permutations.{moves-cycle, perm-moved, pick-apart, pick-eq}
 use Rattle.table_reduction_law.proofs.ReductionBoundary.{face_sum, reduction_sum}
-use Rattle.table_reduction_law.specs.MayElements.{cycle, cycle_power, pair_count, leading_entries}
-use Rattle.table_reduction_law.specs.Tuples.{IsPermutationOf, IsTuple}
+use Rattle.table_reduction_law.specs.Names.{cycle, cycle_power, pair_count, leading_entries, IsPermutationOf, IsTuple}
 
 -- the sum of f below n
 abbrev pub sum_below : ℕ → (ℕ → ℤ) → ℤ

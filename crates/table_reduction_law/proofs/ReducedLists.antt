@@ -1,16 +1,13 @@
 -- The lists of a table reduction take each value, and have r + d entries.
-use Rattle.std.proofs.Common.{◌≡◌, ℕ, zero, suc, ◌+◌, ◌≤◌, List, [], ◌∷◌, ◌++◌, map, refl, sym, ◌∙◌, ap, arith, subst}
-use Rattle.std.specs.Prelude.{take}
+use Rattle.std.proofs.Common.{◌≡◌, ℕ, zero, suc, ◌+◌, ◌≤◌, List, [], ◌∷◌, ◌++◌, map, refl, sym, ◌∙◌, ap, arith, subst, take, All, length}
 use Rattle.std.proofs.lemmas.List.Elements.{All-cons, All-nil}
-use Rattle.std.specs.Prelude.{All, length}
-use Rattle.signed_sum.proofs.ListLemmas.{Alike, Alike-cons, occurs-again, occurs-self}
-use Rattle.surjection_law.specs.Surjections.{IsOnto}
+use Rattle.signed_sum.proofs.Names.{Alike, Alike-cons, occurs-again, occurs-self}
+use Rattle.surjection_law.specs.Names.{IsOnto}
 use Rattle.table_reduction_law.proofs.ReductionBoundary.{permutation-length, tuple_good}
 use Rattle.table_reduction_law.proofs.ReductionWalks.{Good, good-distinct, good-end, good-use, left}
 use Rattle.table_reduction_law.proofs.RowsAsWalks.{count-alike, lengths-few, lengths-one, rows-from, rows-longer, rows_from, take-all}
 use Rattle.table_reduction_law.proofs.UnusedEntries.{unused-distinct, unused-none}
-use Rattle.table_reduction_law.specs.Reduction.{reduced_lists, row_lengths, rows, unused, with_longer_first}
-use Rattle.table_reduction_law.specs.Tuples.{IsTuple}
+use Rattle.table_reduction_law.specs.Names.{reduced_lists, row_lengths, rows, unused, with_longer_first, IsTuple}
 
 abbrev Every : (List ℕ → Type 0) → List (List ℕ) → Type 0
 Every P [] = Unit {0}

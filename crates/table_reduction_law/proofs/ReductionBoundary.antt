@@ -1,20 +1,15 @@
 -- Table reduction is a chain map.
-use Rattle.std.proofs.Common.{◌≡◌, ℕ, zero, suc, ◌+◌, ◌≤◌, List, [], ◌∷◌, map, refl, sym, ◌∙◌, ap, arith}
-use Rattle.std.specs.Prelude.{ℤ, pos}
+use Rattle.std.proofs.Common.{◌≡◌, ℕ, zero, suc, ◌+◌, ◌≤◌, List, [], ◌∷◌, map, refl, sym, ◌∙◌, ap, arith, ℤ, pos, length}
 use Rattle.std.proofs.lemmas.Int.{ints}
-use Rattle.std.specs.Prelude.{length}
-use Rattle.signed_sum.proofs.ListLemmas.{numbers_from-distinct}
-use Rattle.signed_sum.proofs.SumLemmas.{total-map}
-use Rattle.signed_sum.specs.Lists.{numbers_from, unless_empty}
-use Rattle.signed_sum.specs.Sums.{total, without_one}
-use Rattle.surjection_law.specs.Places.{without_place}
+use Rattle.signed_sum.proofs.Names.{numbers_from-distinct, total-map}
+use Rattle.signed_sum.specs.Names.{numbers_from, unless_empty, total, without_one}
+use Rattle.surjection_law.specs.Names.{without_place}
 use Rattle.table_reduction_law.proofs.Pairing.{pairing, removals-last}
 use Rattle.table_reduction_law.proofs.ReductionWalks.{Good, walk}
 use Rattle.table_reduction_law.proofs.RowsAsWalks.{bridge, count-alike, rows-from, rows_from}
 use Rattle.table_reduction_law.proofs.UnusedEntries.{unused-none}
 use Rattle.table_reduction_law.proofs.WalkBoundary.{places}
-use Rattle.table_reduction_law.specs.Reduction.{reduced_lists, row_lengths, rows}
-use Rattle.table_reduction_law.specs.Tuples.{IsPermutationOf, IsTuple}
+use Rattle.table_reduction_law.specs.Names.{reduced_lists, row_lengths, rows, IsPermutationOf, IsTuple}
 
 pub numbers_from-length : (a m : ℕ) → length (numbers_from a m) ≡ m
 numbers_from-length a zero = refl

@@ -1,14 +1,11 @@
 -- Table reduction entry by entry, and all removals from its lists.
-use Rattle.std.proofs.Common.{◌≡◌, ℕ, zero, suc, ◌+◌, cond, List, [], ◌∷◌, refl, sym, ◌∙◌, ap, arith, ◌==◌, ◌⊎◌, inl, inr, subst, eq-eqb, eqb-true, Bool, true, false}
-use Rattle.std.specs.Prelude.{ℤ, pos, ◌+ℤ◌, neg_ℤ}
+use Rattle.std.proofs.Common.{◌≡◌, ℕ, zero, suc, ◌+◌, cond, List, [], ◌∷◌, refl, sym, ◌∙◌, ap, arith, ◌==◌, ◌⊎◌, inl, inr, subst, eq-eqb, eqb-true, Bool, true, false, ℤ, pos, ◌+ℤ◌, neg_ℤ}
 use native.Mathlib.Decide.{ℕ_discrete}
 use Rattle.std.proofs.lemmas.Int.{ints}
-use Rattle.signed_sum.proofs.ListLemmas.{Alike, Alike-cons, occurs-01, occurs-again, occurs-apart, occurs-head, occurs-self, occurs-swap, occurs-tail}
-use Rattle.signed_sum.proofs.SignLemmas.{signed-+}
-use Rattle.signed_sum.specs.Lists.{IsDistinct, occurs, unless_zero}
-use Rattle.signed_sum.specs.Signs.{signed}
+use Rattle.signed_sum.proofs.Names.{Alike, Alike-cons, occurs-01, occurs-again, occurs-apart, occurs-head, occurs-self, occurs-swap, occurs-tail, signed-+}
+use Rattle.signed_sum.specs.Names.{IsDistinct, occurs, unless_zero, signed}
 use Rattle.table_reduction_law.proofs.UnusedEntries.{unused-absent, unused-cong, unused-cons, unused-distinct, unused-in, unused-out}
-use Rattle.table_reduction_law.specs.Reduction.{cons_if_zero, unused}
+use Rattle.table_reduction_law.specs.Names.{cons_if_zero, unused}
 
 -- the sum of h over what may stand from here on. `xs` is what is left of the row at hand, `a` are the entries that are used, and `ws` are the permutations of the later rows. An entry ends its row, or it is used
 abbrev pub walk : List (List ℕ) → List ℕ → List ℕ → (List ℕ → ℤ) → ℤ

@@ -1,19 +1,14 @@
 -- The lists of row lengths.
-use Rattle.std.proofs.Common.{◌≡◌, ℕ, zero, suc, ◌+◌, ◌&&◌, cond, ◌==◌, List, [], ◌∷◌, map, refl, sym, ◌∙◌, ap, arith, eq-eqb}
-use Rattle.std.specs.Prelude.{ℤ, pos}
+use Rattle.std.proofs.Common.{◌≡◌, ℕ, zero, suc, ◌+◌, ◌&&◌, cond, ◌==◌, List, [], ◌∷◌, map, refl, sym, ◌∙◌, ap, arith, eq-eqb, ℤ, pos, All, length, sum}
 use Rattle.std.proofs.lemmas.List.Elements.{All-append, All-cons, All-map, All-nil, All-weaker}
 use Rattle.std.proofs.lemmas.List.Sums.{sum_by-cons}
 use native.Mathlib.Decide.{ℕ_discrete}
 use Rattle.std.proofs.lemmas.Int.{ints}
-use Rattle.std.specs.Prelude.{All, length, sum}
-use Rattle.signed_sum.proofs.SumLemmas.{total-append, total-map, total-zero}
-use Rattle.signed_sum.specs.Lists.{is_same_list}
-use Rattle.signed_sum.specs.Sums.{total}
+use Rattle.signed_sum.proofs.Names.{total-append, total-map, total-zero}
+use Rattle.signed_sum.specs.Names.{is_same_list, total}
 use Rattle.table_reduction_law.proofs.Permutations.{apart-test}
 use Rattle.table_reduction_law.proofs.RowsAsWalks.{total-positive}
-use Rattle.table_reduction_law.specs.Counts.{ArePositive}
-use Rattle.table_reduction_law.specs.Laws.{RowLengthsLaw}
-use Rattle.table_reduction_law.specs.Reduction.{row_lengths, with_longer_first}
+use Rattle.table_reduction_law.specs.Names.{ArePositive, RowLengthsLaw, row_lengths, with_longer_first}
 
 sum-cons : (n : ℕ) (ls : List ℕ) → sum (n ∷ ls) ≡ n + sum ls
 sum-cons n ls = sum_by-cons (λ x. x) n ls

@@ -1,17 +1,12 @@
 -- The sum over the lists of row lengths is the sum entry by entry.
-use Rattle.std.proofs.Common.{◌≡◌, ℕ, zero, suc, ◌+◌, ◌<◌, cond, List, [], ◌∷◌, ◌++◌, map, refl, sym, ◌∙◌, ap, arith, ◌==◌, subst}
-use Rattle.std.specs.Prelude.{take}
-use Rattle.std.specs.Prelude.{ℤ, pos, ◌+ℤ◌}
+use Rattle.std.proofs.Common.{◌≡◌, ℕ, zero, suc, ◌+◌, ◌<◌, cond, List, [], ◌∷◌, ◌++◌, map, refl, sym, ◌∙◌, ap, arith, ◌==◌, subst, take, ℤ, pos, ◌+ℤ◌, length, pred}
 use native.Mathlib.Decide.{ℕ_discrete}
 use Rattle.std.proofs.lemmas.Int.{ints}
-use Rattle.std.specs.Prelude.{length, pred}
-use Rattle.signed_sum.proofs.ListLemmas.{Alike, Alike-append, occurs-apart, occurs-self, occurs-swap}
-use Rattle.signed_sum.proofs.SumLemmas.{total-append, total-map}
-use Rattle.signed_sum.specs.Lists.{IsDistinct, occurs}
-use Rattle.signed_sum.specs.Sums.{total}
+use Rattle.signed_sum.proofs.Names.{Alike, Alike-append, occurs-apart, occurs-self, occurs-swap, total-append, total-map}
+use Rattle.signed_sum.specs.Names.{IsDistinct, occurs, total}
 use Rattle.table_reduction_law.proofs.ReductionWalks.{Good, good-distinct, good-end, good-use, left, walk}
 use Rattle.table_reduction_law.proofs.UnusedEntries.{unused-absent, unused-cong, unused-distinct, unused-in, unused-out}
-use Rattle.table_reduction_law.specs.Reduction.{cons_if_zero, row_lengths, rows, unused, with_longer_first}
+use Rattle.table_reduction_law.specs.Names.{cons_if_zero, row_lengths, rows, unused, with_longer_first}
 
 -- lists of the same values have the same length
 

@@ -1,8 +1,8 @@
 -- What is left of a list.
 use Rattle.std.proofs.Common.{◌≡◌, ℕ, zero, suc, cond, List, [], ◌∷◌, refl, sym, ◌∙◌, ap, arith, ◌==◌, inl, inr, subst}
-use Rattle.signed_sum.proofs.ListLemmas.{Alike, occurs-01, occurs-apart, occurs-cons, occurs-self, occurs-tail}
-use Rattle.signed_sum.specs.Lists.{IsDistinct, occurs}
-use Rattle.table_reduction_law.specs.Reduction.{cons_if_zero, unused}
+use Rattle.signed_sum.proofs.Names.{Alike, occurs-01, occurs-apart, occurs-cons, occurs-self, occurs-tail}
+use Rattle.signed_sum.specs.Names.{IsDistinct, occurs}
+use Rattle.table_reduction_law.specs.Names.{cons_if_zero, unused}
 
 pub unused-cong : (a b w : List ℕ) → Alike a b → unused a w ≡ unused b w
 unused-cong a b [] h = refl

@@ -1,14 +1,12 @@
 -- The signs of the removals: a row's end is a caesura, and where an entry is used no copy of it is left.
-use Rattle.std.proofs.Common.{◌≡◌, ℕ, zero, suc, ◌+◌, List, [], ◌∷◌, ◌++◌, refl, sym, ◌∙◌, ap, arith, subst, append_assoc}
-use Rattle.std.specs.Prelude.{ℤ}
+use Rattle.std.proofs.Common.{◌≡◌, ℕ, zero, suc, ◌+◌, List, [], ◌∷◌, ◌++◌, refl, sym, ◌∙◌, ap, arith, subst, append_assoc, ℤ}
 use native.Mathlib.Decide.{ℕ_discrete}
 use Rattle.std.proofs.lemmas.Int.{ints}
-use Rattle.signed_sum.proofs.ListLemmas.{Alike, Alike-append, Alike-cons, occurs-again, occurs-apart, occurs-before, occurs-head, occurs-later, occurs-self, occurs-swap}
-use Rattle.signed_sum.specs.Lists.{if_zero, occurs, unless_zero}
-use Rattle.signed_sum.specs.Signs.{signed}
-use Rattle.surjection_law.specs.Places.{caesuras_among, caesuras_before_last, place_exponent, place_term, without_place}
+use Rattle.signed_sum.proofs.Names.{Alike, Alike-append, Alike-cons, occurs-again, occurs-apart, occurs-before, occurs-head, occurs-later, occurs-self, occurs-swap}
+use Rattle.signed_sum.specs.Names.{if_zero, occurs, unless_zero, signed}
+use Rattle.surjection_law.specs.Names.{caesuras_among, caesuras_before_last, place_exponent, place_term, without_place}
 use Rattle.table_reduction_law.proofs.ReductionWalks.{Agree, Good, good-distinct, good-end, good-use, left, put, put-apart, put-here, removals, removals-agree, walk, walk-cong, walk-signed, walk-sum, walk-when}
-use Rattle.table_reduction_law.specs.Reduction.{unused}
+use Rattle.table_reduction_law.specs.Names.{unused}
 
 pub caesuras-cong : (p u w : List ℕ) → Alike u w → caesuras_among p u ≡ caesuras_among p w
 caesuras-cong [] u w e = refl

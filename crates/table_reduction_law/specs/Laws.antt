@@ -1,10 +1,8 @@
 -- The laws of tuples, of table reduction and of May elements. Formal sums are tested by functions: two
 -- are equal where each function has the same value at both.
 use Rattle.std.specs.Prelude.{◌≡◌, ℕ, ◌+◌, ◌≤◌, ◌%◌, false, cond, sum, List, [], ◌∷◌, All, length, map, ℤ, pos, negsuc, ◌-ℤ◌, IsTrue}
-use Rattle.signed_sum.specs.Lists.{is_degenerate, is_same_list, numbers_from}
-use Rattle.signed_sum.specs.Sums.{total, value_at}
-use Rattle.surjection_law.specs.Boundary.{surjection_boundary}
-use Rattle.surjection_law.specs.Surjections.{IsOnto}
+use Rattle.signed_sum.specs.Names.{is_degenerate, is_same_list, numbers_from, total, value_at}
+use Rattle.surjection_law.specs.Names.{surjection_boundary, IsOnto}
 use Rattle.table_reduction_law.specs.Tuples.{IsPermutationOf, IsTuple, entry_at, is_degenerate_tuple, permuted_tuple, tuple_boundary}
 use Rattle.table_reduction_law.specs.Reduction.{reduced_lists, row_lengths, table_reduction}
 use Rattle.table_reduction_law.specs.MayElements.{cycle, may_candidates, may_element, may_tuples, turned}

@@ -3,3 +3,4 @@ pub mod Reduction
 pub mod MayElements
 pub mod Counts
 pub mod Laws
+pub mod Names

@@ -1,8 +1,7 @@
 -- May elements.
 use Rattle.std.specs.Prelude.{ℕ, List, [], ◌∷◌, ◌++◌, flat_map, map, zero, suc, ℤ}
-use Rattle.signed_sum.specs.Lists.{is_degenerate, numbers_from}
+use Rattle.signed_sum.specs.Names.{is_degenerate, numbers_from, kept_terms, unit_terms}
 pub use Rattle.signed_sum.specs.Permutations.{cycle, cycle_power, turned}
-use Rattle.signed_sum.specs.Sums.{kept_terms, unit_terms}
 use Rattle.table_reduction_law.specs.Reduction.{reduced_lists}
 
 -- all lists of k pairs of a power and the next power, with exponents from 0 to p - 1

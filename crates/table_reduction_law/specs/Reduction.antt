@@ -1,7 +1,6 @@
 -- Table reduction: from tuples of permutations to surjections.
 use Rattle.std.specs.Prelude.{ℕ, ◌+◌, List, [], ◌∷◌, ◌++◌, length, map, pred, take, zero, suc, ℤ}
-use Rattle.signed_sum.specs.Lists.{is_degenerate, occurs}
-use Rattle.signed_sum.specs.Sums.{kept_terms, unit_terms}
+use Rattle.signed_sum.specs.Names.{is_degenerate, occurs, kept_terms, unit_terms}
 
 -- x in front of w where n is 0, else w alone
 abbrev pub cons_if_zero : ℕ → ℕ → List ℕ → List ℕ

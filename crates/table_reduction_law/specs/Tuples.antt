@@ -1,9 +1,8 @@
 -- Tuples of permutations: the generators of the Barratt-Eccles operad.
-use Rattle.std.specs.Prelude.{ℕ, ◌||◌, Bool, true, false, List, [], ◌∷◌, map, ℤ}
-use Rattle.signed_sum.specs.Lists.{IsDistinct, is_same_list}
+use Rattle.std.specs.Prelude.{ℕ, ◌-◌, ◌||◌, length, Bool, true, false, List, [], ◌∷◌, map, ℤ}
+use Rattle.signed_sum.specs.Names.{IsDistinct, is_same_list, alternating_terms, kept_terms, without_each}
 pub use Rattle.signed_sum.specs.Permutations.{entry_at}
-use Rattle.signed_sum.specs.Sums.{alternating_terms, kept_terms, without_each}
-use Rattle.surjection_law.specs.Surjections.{IsOnto}
+use Rattle.surjection_law.specs.Names.{IsOnto}
 
 -- w is a permutation of 1 to r, as the list of its values
 pub record IsPermutationOf (r : ℕ) (w : List ℕ) : Type 0 where
@@ -14,6 +13,15 @@ pub record IsPermutationOf (r : ℕ) (w : List ℕ) : Type 0 where
 abbrev pub IsTuple : ℕ → List (List ℕ) → Type 0
 IsTuple r [] = Unit {0}
 IsTuple r (w ∷ ws) = IsPermutationOf r w × IsTuple r ws
+
+-- how many numbers the first entry permutes
+abbrev pub tuple_arity : List (List ℕ) → ℕ
+tuple_arity [] = 0
+tuple_arity (w ∷ ws) = length w
+
+-- the number of entries less 1
+abbrev pub tuple_degree : List (List ℕ) → ℕ
+tuple_degree w = length w - 1
 
 -- the permutation t acts on a tuple: it is applied to each value of each entry
 abbrev pub permuted_tuple : List ℕ → List (List ℕ) → List (List ℕ)

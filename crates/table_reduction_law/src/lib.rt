@@ -1,7 +1,7 @@
 //! Tuples of permutations, table reduction and May elements: definitions and laws.
 #![tactic(auto)]
 
-ghost use Rattle.table_reduction_law.specs.Laws.{CandidateCountLaw, DegenerateTupleLaw, MayRelations, MayTermsLaw, MayTwoLaw, ReducedListsLaw, ReductionActionLaw, ReductionBoundaryLaw, ReductionRows, RowLengthsLaw, TupleActionLaw, TupleBoundaryLaw};
+ghost use Rattle.table_reduction_law.specs.Names.{CandidateCountLaw, DegenerateTupleLaw, MayRelations, MayTermsLaw, MayTwoLaw, ReducedListsLaw, ReductionActionLaw, ReductionBoundaryLaw, ReductionRows, RowLengthsLaw, TupleActionLaw, TupleBoundaryLaw};
 
 /// Worked rows.
 pub fn reduction_rows()

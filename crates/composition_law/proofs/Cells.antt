@@ -1,0 +1,283 @@
+-- The signs of the removals of an entry.
+use Rattle.std.proofs.Common.{List, [], ap, arith, inl, inr, refl, subst, suc, sym, zero, ℕ, ◌%◌, ◌*◌, ◌++◌, ◌+◌, ◌∙◌, ◌∷◌, ◌≡◌, ◌⊎◌, neg_ℤ, pos, ℤ}
+use Rattle.composition_law.proofs.Walks.{Cell, edge, ends, expo_in, next, out, passed, values}
+use Rattle.signed_sum.proofs.Names.{occurs-01, occurs-before, occurs-cons, occurs-in, occurs-later, occurs-mid, occurs-none, occurs-other, occurs-self, occurs-zero, signed-parity, signed-signed}
+use Rattle.signed_sum.specs.Names.{if_zero, occurs, unless_zero, signed}
+use Rattle.surjection_law.proofs.PlaceLemmas.{caesura_count-in, caesura_count-out}
+use Rattle.surjection_law.specs.Names.{caesura_count, caesuras_among, caesuras_before_last, place_exponent, place_term}
+
+-- ---- what is known of a prefix p, where the entries W and the entries U of u follow
+
+abbrev pub Good : List Cell → List ℕ → List ℕ → Type 0
+Good [] W U = Unit {0}
+Good (out x ∷ p) W U = (occurs x (values p ++ W) ≡ occurs x (ends p ++ U)) × Good p W U
+Good (edge y ∷ p) W U = Good p W U
+Good (next y ∷ p) W U = (occurs y (values p ++ W) ≡ occurs 0 (ends p ++ U)) × Good p W U
+
+abbrev pub GoodV : List Cell → List ℕ → List ℕ → Type 0
+GoodV [] W V = Unit {0}
+GoodV (out x ∷ p) W V = GoodV p W V
+GoodV (edge y ∷ p) W V = (occurs y (values p ++ W) ≡ occurs y (passed p ++ V)) × GoodV p W V
+GoodV (next y ∷ p) W V = GoodV p W V
+
+abbrev pub Aligned : ℕ → ℕ → List Cell → Type 0
+Aligned v a [] = Unit {0}
+Aligned v a (e ∷ p) = (occurs v (values (e ∷ p)) ≡ occurs a (ends (e ∷ p))) × Aligned v a p
+
+abbrev pub AlignedV : ℕ → List Cell → Type 0
+AlignedV y [] = Unit {0}
+AlignedV y (e ∷ p) = (occurs y (values (e ∷ p)) ≡ occurs y (passed (e ∷ p))) × AlignedV y p
+
+pub aligned-here : (v a : ℕ) (p : List Cell) → Aligned v a p → occurs v (values p) ≡ occurs a (ends p)
+aligned-here v a [] h = refl
+aligned-here v a (e ∷ p) h = h.0
+
+pub alignedV-here : (y : ℕ) (p : List Cell) → AlignedV y p → occurs y (values p) ≡ occurs y (passed p)
+alignedV-here y [] h = refl
+alignedV-here y (e ∷ p) h = h.0
+
+-- ---- the term of a place in three cases
+
+pub place-caesura : (p : List ℕ) (v : ℕ) (u : List ℕ) (z : ℤ) → occurs v u ≡ 1 → place_term p v u z ≡ signed (caesuras_among p (v ∷ u)) z
+place-caesura p v u z n =
+    let m : occurs v (p ++ u) ≡ 1 = occurs-later v p u n in
+    let s : place_exponent p v u ≡ caesuras_among p (v ∷ u) = ap (λ j. if_zero j (suc (caesuras_before_last p v u)) (caesuras_among p (v ∷ u))) n in
+    λ i. unless_zero (m i) (signed (s i) z)
+
+pub place-last : (p : List ℕ) (v : ℕ) (u : List ℕ) (z : ℤ) → occurs v u ≡ 0 → occurs v p ≡ 1 → place_term p v u z ≡ signed (suc (caesuras_before_last p v u)) z
+place-last p v u z n h =
+    let m : occurs v (p ++ u) ≡ 1 = occurs-before v p u n ∙ h in
+    let s : place_exponent p v u ≡ suc (caesuras_before_last p v u) = ap (λ j. if_zero j (suc (caesuras_before_last p v u)) (caesuras_among p (v ∷ u))) n in
+    λ i. unless_zero (m i) (signed (s i) z)
+
+pub place-none : (p : List ℕ) (v : ℕ) (u : List ℕ) (z : ℤ) → occurs v u ≡ 0 → occurs v p ≡ 0 → place_term p v u z ≡ pos 0
+place-none p v u z n h = ap (λ k. unless_zero k (signed (place_exponent p v u) z)) (occurs-none v p u h n)
+
+-- ---- an entry of u goes
+
+u-caesura : (p : List Cell) (v a : ℕ) (W U : List ℕ) → occurs v W ≡ 1 → occurs a U ≡ 1 → Good p (v ∷ W) (a ∷ U) →
+    (expo_in p (v ∷ W) (a ∷ U) + caesuras_among (values p) (v ∷ W)) % 2 ≡ (caesuras_among (ends p) (a ∷ U) + expo_in p W U) % 2
+u-caesura [] v a W U h k g = refl
+u-caesura (out x ∷ p) v a W U h k g = let ih = u-caesura p v a W U h k g.1 in let e = g.0 in omega arith
+u-caesura (next y ∷ p) v a W U h k g = let ih = u-caesura p v a W U h k g.1 in let e = g.0 in omega arith
+u-caesura (edge y ∷ p) v a W U h k g =
+    let ih = u-caesura p v a W U h k g in
+    let e : occurs y (values p ++ (v ∷ W)) ≡ occurs y (values p ++ W) = occurs-in y v (values p) W (occurs-later v (values p) W h) in
+    let c : caesura_count (ends p ++ (a ∷ U)) ≡ suc (caesura_count (ends p ++ U)) = caesura_count-in a (ends p) U (occurs-later a (ends p) U k) in
+    let b : occurs y (values p ++ (v ∷ W)) * caesura_count (ends p ++ (a ∷ U)) ≡ occurs y (values p ++ W) * suc (caesura_count (ends p ++ U)) = (λ i. e i * c i) in
+    omega arith
+
+expo-none : (p : List Cell) (v a : ℕ) (W U : List ℕ) → occurs v (values p ++ W) ≡ 0 → occurs a (ends p ++ U) ≡ 0 → expo_in p (v ∷ W) (a ∷ U) ≡ expo_in p W U
+expo-none [] v a W U h k = refl
+expo-none (out x ∷ p) v a W U h k = expo-none p v a W U (occurs-zero v x (values p ++ W) h).1 (occurs-zero a x (ends p ++ U) k).1
+expo-none (next y ∷ p) v a W U h k = expo-none p v a W U (occurs-zero v y (values p ++ W) h).1 (occurs-zero a 0 (ends p ++ U) k).1
+expo-none (edge y ∷ p) v a W U h k =
+    let z = occurs-zero v y (values p ++ W) h in
+    let e : occurs y (values p ++ (v ∷ W)) ≡ occurs y (values p ++ W) = occurs-other y v (values p) W (λ q. z.0 (sym q)) in
+    let c = caesura_count-out a (ends p) U k in
+    λ i. e i * c i + expo-none p v a W U z.1 k i
+
+has-left : (v : ℕ) (a b : List ℕ) → occurs v a ≡ 1 → occurs v (a ++ b) ≡ 1
+has-left v [] b h = absurd (omega (arith, h))
+has-left v (w ∷ a) b h =
+    elim (occurs-cons v w a) [
+      | inl e ↦ subst (λ (j : ℕ). occurs j (w ∷ a ++ b) ≡ 1) (sym e) (occurs-self w (a ++ b))
+      | inr e ↦ more (has-left v a b (sym e ∙ h))
+    ]
+  where
+    more : occurs v (a ++ b) ≡ 1 → occurs v (w ∷ a ++ b) ≡ 1
+    more k = elim (occurs-cons v w (a ++ b)) [ inl e ↦ subst (λ (j : ℕ). occurs j (w ∷ a ++ b) ≡ 1) (sym e) (occurs-self w (a ++ b)) | inr e ↦ e ∙ k ]
+
+-- the caesuras before the last v, one entry more in front
+pub last-one : (w v : ℕ) (p u : List ℕ) → occurs v p ≡ 1 → caesuras_before_last (w ∷ p) v u ≡ occurs w (p ++ (v ∷ u)) + caesuras_before_last p v u
+last-one w v p u h = ap (λ j. if_zero j 0 (occurs w (p ++ (v ∷ u)) + caesuras_before_last p v u)) h
+
+pub last-none : (w v : ℕ) (p u : List ℕ) → occurs v p ≡ 0 → caesuras_before_last (w ∷ p) v u ≡ 0
+last-none w v p u h = ap (λ j. if_zero j 0 (occurs w (p ++ (v ∷ u)) + caesuras_before_last p v u)) h
+
+u-last : (p : List Cell) (v a : ℕ) (W U : List ℕ) → occurs v W ≡ 0 → occurs a U ≡ 0 → occurs v (values p) ≡ 1 → Good p (v ∷ W) (a ∷ U) → Aligned v a p →
+    (expo_in p (v ∷ W) (a ∷ U) + caesuras_before_last (values p) v W) % 2 ≡ (caesuras_before_last (ends p) a U + expo_in p W U) % 2
+u-last [] v a W U h k m g l = absurd (omega (arith, m))
+u-last (out x ∷ p) v a W U h k m g l =
+    elim (occurs-01 v (values p)) [
+      | inl q ↦
+          let r : occurs a (ends p) ≡ 0 = sym (aligned-here v a p l.1) ∙ q in
+          let e = expo-none p v a W U (occurs-none v (values p) W q h) (occurs-none a (ends p) U r k) in
+          let b = last-none x v (values p) W q in
+          let c = last-none x a (ends p) U r in
+          omega arith
+      | inr q ↦
+          let r : occurs a (ends p) ≡ 1 = sym (aligned-here v a p l.1) ∙ q in
+          let ih = u-last p v a W U h k q g.1 l.1 in
+          let b = last-one x v (values p) W q in
+          let c = last-one x a (ends p) U r in
+          let e = g.0 in
+          omega arith
+    ]
+u-last (next y ∷ p) v a W U h k m g l =
+    elim (occurs-01 v (values p)) [
+      | inl q ↦
+          let r : occurs a (ends p) ≡ 0 = sym (aligned-here v a p l.1) ∙ q in
+          let e = expo-none p v a W U (occurs-none v (values p) W q h) (occurs-none a (ends p) U r k) in
+          let b = last-none y v (values p) W q in
+          let c = last-none 0 a (ends p) U r in
+          omega arith
+      | inr q ↦
+          let r : occurs a (ends p) ≡ 1 = sym (aligned-here v a p l.1) ∙ q in
+          let ih = u-last p v a W U h k q g.1 l.1 in
+          let b = last-one y v (values p) W q in
+          let c = last-one 0 a (ends p) U r in
+          let e = g.0 in
+          omega arith
+    ]
+u-last (edge y ∷ p) v a W U h k m g l =
+    elim (occurs-01 v (values p)) [
+      | inl q ↦ absurd (let r = aligned-here v a p l.1 in let s : occurs v (y ∷ values p) ≡ occurs a (ends p) = l.0 in omega (arith, q, m, r, s))
+      | inr q ↦
+          let r : occurs a (ends p) ≡ 1 = sym (aligned-here v a p l.1) ∙ q in
+          let ih = u-last p v a W U h k q g l.1 in
+          let b = last-one y v (values p) W q in
+          let e : occurs y (values p ++ (v ∷ W)) ≡ occurs y (values p ++ W) = occurs-in y v (values p) W (has-left v (values p) W q) in
+          let c : caesura_count (ends p ++ (a ∷ U)) ≡ suc (caesura_count (ends p ++ U)) = caesura_count-in a (ends p) U (has-left a (ends p) U r) in
+          let d : occurs y (values p ++ (v ∷ W)) * caesura_count (ends p ++ (a ∷ U)) ≡ occurs y (values p ++ W) * suc (caesura_count (ends p ++ U)) = (λ i. e i * c i) in
+          omega arith
+    ]
+
+-- the term without an entry of u is a term of u without that entry
+pub u-law : (p : List Cell) (v a : ℕ) (W U : List ℕ) (n : ℕ) (z : ℤ) → Good p (v ∷ W) (a ∷ U) → occurs v W ≡ occurs a U → Aligned v a p →
+    place_term (values p) v W (signed (expo_in p (v ∷ W) (a ∷ U) + n) z) ≡ place_term (ends p) a U (signed (expo_in p W U + n) z)
+u-law p v a W U n z g h l = go (occurs-01 v W) (occurs-01 v (values p))
+  where
+    go : (occurs v W ≡ 0) ⊎ (occurs v W ≡ 1) → (occurs v (values p) ≡ 0) ⊎ (occurs v (values p) ≡ 1) →
+        place_term (values p) v W (signed (expo_in p (v ∷ W) (a ∷ U) + n) z) ≡ place_term (ends p) a U (signed (expo_in p W U + n) z)
+    go (inr q) _ =
+        let r : occurs a U ≡ 1 = sym h ∙ q in
+        let s = u-caesura p v a W U q r g in
+        place-caesura (values p) v W (signed (expo_in p (v ∷ W) (a ∷ U) + n) z) q
+        ∙ signed-signed (caesuras_among (values p) (v ∷ W)) (expo_in p (v ∷ W) (a ∷ U) + n) z
+        ∙ signed-parity (caesuras_among (values p) (v ∷ W) + (expo_in p (v ∷ W) (a ∷ U) + n)) (caesuras_among (ends p) (a ∷ U) + (expo_in p W U + n)) z (omega arith)
+        ∙ sym (signed-signed (caesuras_among (ends p) (a ∷ U)) (expo_in p W U + n) z)
+        ∙ sym (place-caesura (ends p) a U (signed (expo_in p W U + n) z) r)
+    go (inl q) (inr m) =
+        let r : occurs a U ≡ 0 = sym h ∙ q in
+        let t : occurs a (ends p) ≡ 1 = sym (aligned-here v a p l) ∙ m in
+        let s = u-last p v a W U q r m g l in
+        place-last (values p) v W (signed (expo_in p (v ∷ W) (a ∷ U) + n) z) q m
+        ∙ signed-signed (suc (caesuras_before_last (values p) v W)) (expo_in p (v ∷ W) (a ∷ U) + n) z
+        ∙ signed-parity (suc (caesuras_before_last (values p) v W) + (expo_in p (v ∷ W) (a ∷ U) + n)) (suc (caesuras_before_last (ends p) a U) + (expo_in p W U + n)) z (omega arith)
+        ∙ sym (signed-signed (suc (caesuras_before_last (ends p) a U)) (expo_in p W U + n) z)
+        ∙ sym (place-last (ends p) a U (signed (expo_in p W U + n) z) r t)
+    go (inl q) (inl m) =
+        place-none (values p) v W (signed (expo_in p (v ∷ W) (a ∷ U) + n) z) q m
+        ∙ sym (place-none (ends p) a U (signed (expo_in p W U + n) z) (sym h ∙ q) (sym (aligned-here v a p l) ∙ m))
+
+-- ---- an entry of v goes
+
+v-caesura : (p : List Cell) (y : ℕ) (W U V : List ℕ) → occurs y W ≡ 1 → Good p (y ∷ W) U → GoodV p (y ∷ W) (y ∷ V) →
+    (expo_in p (y ∷ W) U + caesura_count U + caesuras_among (values p) (y ∷ W)) % 2 ≡ (caesura_count (ends p ++ U) + caesuras_among (passed p) (y ∷ V) + expo_in p W U) % 2
+v-caesura [] y W U V h g k = omega arith
+v-caesura (out x ∷ p) y W U V h g k = let ih = v-caesura p y W U V h g.1 k in let e = g.0 in omega arith
+v-caesura (next x ∷ p) y W U V h g k = let ih = v-caesura p y W U V h g.1 k in let e = g.0 in omega arith
+v-caesura (edge x ∷ p) y W U V h g k =
+    let ih = v-caesura p y W U V h g k.1 in
+    let e : occurs x (values p ++ (y ∷ W)) ≡ occurs x (values p ++ W) = occurs-in x y (values p) W (occurs-later y (values p) W h) in
+    let b : occurs x (values p ++ (y ∷ W)) * caesura_count (ends p ++ U) ≡ occurs x (values p ++ W) * caesura_count (ends p ++ U) = ap (λ j. j * caesura_count (ends p ++ U)) e in
+    let f = k.0 in
+    omega arith
+
+expo-noneV : (p : List Cell) (y : ℕ) (W U : List ℕ) → occurs y (values p ++ W) ≡ 0 → expo_in p (y ∷ W) U ≡ expo_in p W U
+expo-noneV [] y W U h = refl
+expo-noneV (out x ∷ p) y W U h = expo-noneV p y W U (occurs-zero y x (values p ++ W) h).1
+expo-noneV (next x ∷ p) y W U h = expo-noneV p y W U (occurs-zero y x (values p ++ W) h).1
+expo-noneV (edge x ∷ p) y W U h =
+    let z = occurs-zero y x (values p ++ W) h in
+    let e : occurs x (values p ++ (y ∷ W)) ≡ occurs x (values p ++ W) = occurs-other x y (values p) W (λ q. z.0 (sym q)) in
+    λ i. e i * caesura_count (ends p ++ U) + expo-noneV p y W U z.1 i
+
+v-last : (p : List Cell) (y : ℕ) (W U V : List ℕ) → occurs y W ≡ 0 → occurs y (values p) ≡ 1 → Good p (y ∷ W) U → GoodV p (y ∷ W) (y ∷ V) → AlignedV y p →
+    (expo_in p (y ∷ W) U + caesuras_before_last (values p) y W) % 2 ≡ (caesura_count (ends p ++ U) + caesuras_before_last (passed p) y V + expo_in p W U) % 2
+v-last [] y W U V h m g k l = absurd (omega (arith, m))
+v-last (out x ∷ p) y W U V h m g k l =
+    elim (occurs-01 y (values p)) [
+      | inl q ↦ absurd (let r = alignedV-here y p l.1 in let s : occurs y (x ∷ values p) ≡ occurs y (passed p) = l.0 in omega (arith, q, m, r, s))
+      | inr q ↦
+          let ih = v-last p y W U V h q g.1 k l.1 in
+          let b = last-one x y (values p) W q in
+          let e = g.0 in
+          omega arith
+    ]
+v-last (next x ∷ p) y W U V h m g k l =
+    elim (occurs-01 y (values p)) [
+      | inl q ↦ absurd (let r = alignedV-here y p l.1 in let s : occurs y (x ∷ values p) ≡ occurs y (passed p) = l.0 in omega (arith, q, m, r, s))
+      | inr q ↦
+          let ih = v-last p y W U V h q g.1 k l.1 in
+          let b = last-one x y (values p) W q in
+          let e = g.0 in
+          omega arith
+    ]
+v-last (edge x ∷ p) y W U V h m g k l =
+    elim (occurs-01 y (values p)) [
+      | inl q ↦
+          let r : occurs y (passed p) ≡ 0 = sym (alignedV-here y p l.1) ∙ q in
+          let s : x ≡ y = same q in
+          let n = occurs-none y (values p) W q h in
+          let e = expo-noneV p y W U n in
+          let c : occurs x (values p ++ (y ∷ W)) * caesura_count (ends p ++ U) ≡ 1 * caesura_count (ends p ++ U) =
+          ap (λ j. j * caesura_count (ends p ++ U)) (ap (λ j. occurs j (values p ++ (y ∷ W))) s ∙ occurs-mid y (values p) W) in
+          let d : occurs x (values p ++ W) * caesura_count (ends p ++ U) ≡ 0 * caesura_count (ends p ++ U) =
+          ap (λ j. j * caesura_count (ends p ++ U)) (ap (λ j. occurs j (values p ++ W)) s ∙ n) in
+          let b = last-none x y (values p) W q in
+          let f = last-none x y (passed p) V r in
+          omega arith
+      | inr q ↦
+          let r : occurs y (passed p) ≡ 1 = sym (alignedV-here y p l.1) ∙ q in
+          let ih = v-last p y W U V h q g k.1 l.1 in
+          let b = last-one x y (values p) W q in
+          let f = last-one x y (passed p) V r in
+          let e : occurs x (values p ++ (y ∷ W)) ≡ occurs x (values p ++ W) = occurs-in x y (values p) W (has-left y (values p) W q) in
+          let c : occurs x (values p ++ (y ∷ W)) * caesura_count (ends p ++ U) ≡ occurs x (values p ++ W) * caesura_count (ends p ++ U) = ap (λ j. j * caesura_count (ends p ++ U)) e in
+          let j = k.0 in
+          omega arith
+    ]
+  where
+    same : occurs y (values p) ≡ 0 → x ≡ y
+    same q = elim (occurs-cons y x (values p)) [ inl e ↦ sym e | inr e ↦ absurd (omega (arith, e, q, m)) ]
+
+-- the term without an entry of v is a term of v without that entry
+pub v-law : (p : List Cell) (y : ℕ) (W U V : List ℕ) (n : ℕ) (z : ℤ) → Good p (y ∷ W) U → GoodV p (y ∷ W) (y ∷ V) → occurs y W ≡ occurs y V → AlignedV y p →
+    place_term (values p) y W (signed (expo_in p (y ∷ W) U + (occurs y W * caesura_count U + n)) z) ≡ signed (caesura_count (ends p ++ U)) (place_term (passed p) y V (signed (expo_in p W U + n) z))
+v-law p y W U V n z g k h l = go (occurs-01 y W) (occurs-01 y (values p))
+  where
+    c : ℕ
+    c = caesura_count (ends p ++ U)
+
+    go : (occurs y W ≡ 0) ⊎ (occurs y W ≡ 1) → (occurs y (values p) ≡ 0) ⊎ (occurs y (values p) ≡ 1) →
+        place_term (values p) y W (signed (expo_in p (y ∷ W) U + (occurs y W * caesura_count U + n)) z) ≡ signed (caesura_count (ends p ++ U)) (place_term (passed p) y V (signed (expo_in p W U + n) z))
+    go (inr q) _ =
+        let r : occurs y V ≡ 1 = sym h ∙ q in
+        let s = v-caesura p y W U V q g k in
+        let b : occurs y W * caesura_count U ≡ 1 * caesura_count U = ap (λ j. j * caesura_count U) q in
+        place-caesura (values p) y W (signed (expo_in p (y ∷ W) U + (occurs y W * caesura_count U + n)) z) q
+        ∙ signed-signed (caesuras_among (values p) (y ∷ W)) (expo_in p (y ∷ W) U + (occurs y W * caesura_count U + n)) z
+        ∙ signed-parity (caesuras_among (values p) (y ∷ W) + (expo_in p (y ∷ W) U + (occurs y W * caesura_count U + n))) (caesura_count (ends p ++ U) + (caesuras_among (passed p) (y ∷ V) + (expo_in p W U + n))) z (omega arith)
+        ∙ sym (signed-signed (caesura_count (ends p ++ U)) (caesuras_among (passed p) (y ∷ V) + (expo_in p W U + n)) z)
+        ∙ ap (λ j. signed (caesura_count (ends p ++ U)) j)
+        (sym (signed-signed (caesuras_among (passed p) (y ∷ V)) (expo_in p W U + n) z) ∙ sym (place-caesura (passed p) y V (signed (expo_in p W U + n) z) r))
+    go (inl q) (inr m) =
+        let r : occurs y V ≡ 0 = sym h ∙ q in
+        let t : occurs y (passed p) ≡ 1 = sym (alignedV-here y p l) ∙ m in
+        let s = v-last p y W U V q m g k l in
+        let b : occurs y W * caesura_count U ≡ 0 * caesura_count U = ap (λ j. j * caesura_count U) q in
+        place-last (values p) y W (signed (expo_in p (y ∷ W) U + (occurs y W * caesura_count U + n)) z) q m
+        ∙ signed-signed (suc (caesuras_before_last (values p) y W)) (expo_in p (y ∷ W) U + (occurs y W * caesura_count U + n)) z
+        ∙ signed-parity (suc (caesuras_before_last (values p) y W) + (expo_in p (y ∷ W) U + (occurs y W * caesura_count U + n))) (caesura_count (ends p ++ U) + (suc (caesuras_before_last (passed p) y V) + (expo_in p W U + n))) z (omega arith)
+        ∙ sym (signed-signed (caesura_count (ends p ++ U)) (suc (caesuras_before_last (passed p) y V) + (expo_in p W U + n)) z)
+        ∙ ap (λ j. signed (caesura_count (ends p ++ U)) j)
+        (sym (signed-signed (suc (caesuras_before_last (passed p) y V)) (expo_in p W U + n) z) ∙ sym (place-last (passed p) y V (signed (expo_in p W U + n) z) r t))
+    go (inl q) (inl m) =
+        place-none (values p) y W (signed (expo_in p (y ∷ W) U + (occurs y W * caesura_count U + n)) z) q m
+        ∙ sym (ap (λ j. signed (caesura_count (ends p ++ U)) j) (place-none (passed p) y V (signed (expo_in p W U + n) z) (sym h ∙ q) (sym (alignedV-here y p l) ∙ m)) ∙ none (caesura_count (ends p ++ U)))
+      where
+        none : (n : ℕ) → signed n (pos 0) ≡ pos 0
+        none zero = refl
+        none (suc n) = ap neg_ℤ (none n)

@@ -1,0 +1,90 @@
+-- The gaps of the first values in a cut, and the degrees of cochains on their faces.
+use Rattle.std.proofs.Common.{◌≡◌, ℕ, suc, ◌+◌, ◌*◌, ◌<◌, ◌≤◌, cond, ◌==◌, List, [], ◌∷◌, length, refl, sym, ◌∙◌, ap, arith, inl, inr, ℤ, pos, ◌*ℤ◌, sum, eq-eqb, ne_eqb}
+use Rattle.std.proofs.Math.IntN.{zero-*ℤ}
+use native.Mathlib.Decide.{ℕ_discrete}
+use Rattle.std.proofs.lemmas.List.Sums.{sum_by-cons}
+use Rattle.std.proofs.lemmas.Bool.{cases_eq}
+use Rattle.interval_cut_law.proofs.Walks.{Cell, edge, ends, gaps_below, next, walk_face, walk_faces}
+use Rattle.interval_cut_law.specs.Names.{value_product}
+use Rattle.signed_sum.proofs.Names.{less-up, occurs-apart, occurs-self, one_if, mul_assoc, mul_comm, signed-zero}
+use Rattle.signed_sum.specs.Names.{less, numbers_from, occurs, signed}
+use Rattle.simplicial_law.specs.Names.{HaveDegrees}
+
+-- the gaps of value j
+abbrev gaps_at : ℕ → List Cell → ℕ
+gaps_at j [] = 0
+gaps_at j (edge w x ∷ c) = one_if (j == w) + gaps_at j c
+gaps_at j (next w x ∷ c) = one_if (j == w) * occurs w (ends c) + gaps_at j c
+
+gaps-up : (j : ℕ) (c : List Cell) → gaps_below (suc j) c ≡ gaps_below j c + gaps_at j c
+gaps-up j [] = omega arith
+gaps-up j (edge w x ∷ c) = let a = less-up w j in let h = gaps-up j c in omega (arith, a, h)
+gaps-up j (next w x ∷ c) =
+    let o : ℕ = occurs w (ends c) in
+    let a : less w (suc j) * o ≡ (less w j + one_if (j == w)) * o = ap (λ n. n * o) (less-up w j) in
+    let h = gaps-up j c in
+    omega (arith, a, h)
+
+-- a face has one vertex more than gaps
+face-length : (j : ℕ) (c : List Cell) → length (walk_face j c) ≡ gaps_at j c + occurs j (ends c)
+face-length j [] = refl
+face-length j (edge w x ∷ c) = elim (cases_eq j w) [
+  | inl e ↦
+      let h = face-length j c in
+      let a = ap (λ b. length (cond b (x ∷ walk_face j c) (walk_face j c))) (eq-eqb j w e) in
+      let b = ap (λ b. one_if b + gaps_at j c) (eq-eqb j w e) in
+      omega (arith, h, a, b)
+  | inr n ↦
+      let h = face-length j c in
+      let a = ap (λ b. length (cond b (x ∷ walk_face j c) (walk_face j c))) (ne_eqb j w n) in
+      let b = ap (λ b. one_if b + gaps_at j c) (ne_eqb j w n) in
+      omega (arith, h, a, b)
+]
+face-length j (next w x ∷ c) = elim (cases_eq j w) [
+  | inl e ↦
+      let h = face-length j c in
+      let a = ap (λ b. length (cond b (x ∷ walk_face j c) (walk_face j c))) (eq-eqb j w e) in
+      let b : one_if (j == w) * occurs w (ends c) + gaps_at j c ≡ 1 * occurs j (ends c) + gaps_at j c = (λ i. one_if (eq-eqb j w e i) * occurs (sym e i) (ends c) + gaps_at j c) in
+      let o : occurs j (w ∷ ends c) ≡ 1 = ap (λ q. occurs j (q ∷ ends c)) (sym e) ∙ occurs-self j (ends c) in
+      omega (arith, h, a, b, o)
+  | inr n ↦
+      let h = face-length j c in
+      let a = ap (λ b. length (cond b (x ∷ walk_face j c) (walk_face j c))) (ne_eqb j w n) in
+      let b : one_if (j == w) * occurs w (ends c) + gaps_at j c ≡ 0 * occurs w (ends c) + gaps_at j c = ap (λ b. one_if b * occurs w (ends c) + gaps_at j c) (ne_eqb j w n) in
+      let o = occurs-apart j w (ends c) n in
+      omega (arith, h, a, b, o)
+]
+
+-- where the values from j on have intervals, the gaps below the one after the last count as the degrees
+pub degrees-sign : (cs : List (List ℕ → ℤ)) (qs : List ℕ) (j d n : ℕ) (c : List Cell) (X : ℤ) → HaveDegrees qs cs → ((i : ℕ) → j ≤ i → i < j + length cs → occurs i (ends c) ≡ 1) →
+    signed (d * (n + gaps_below (j + length cs) c)) (value_product cs (walk_faces (numbers_from j (length cs)) c) *ℤ X)
+    ≡ signed (d * (n + gaps_below j c + sum qs)) (value_product cs (walk_faces (numbers_from j (length cs)) c) *ℤ X)
+degrees-sign [] [] j d n c X h o =
+    let z : j + 0 ≡ j = omega arith in
+    let e : n + gaps_below j c ≡ n + gaps_below j c + 0 = omega arith in
+    (λ i. signed (d * (n + gaps_below (z i) c)) (value_product [] (walk_faces (numbers_from j 0) c) *ℤ X))
+    ∙ ap (λ m. signed (d * m) (value_product [] (walk_faces (numbers_from j 0) c) *ℤ X)) e
+degrees-sign [] (q ∷ qs) j d n c X h o = absurd h
+degrees-sign (a ∷ cs) [] j d n c X h o = absurd h
+degrees-sign (a ∷ cs) (q ∷ qs) j d n c X h o = elim (ℕ_discrete (length (walk_face j c)) (suc q)) [
+  | yes e ↦
+      let g : gaps_at j c ≡ q = (let l = face-length j c in let p = o j (omega arith) (omega arith) in omega (arith, l, p, e)) in
+      let up = gaps-up j c in
+      let z : j + suc (length cs) ≡ suc j + length cs = omega arith in
+      let t : n + gaps_below (suc j) c + sum qs ≡ n + gaps_below j c + (q + sum qs) = omega (arith, up, g) in
+      let V : ℤ = value_product cs (walk_faces (numbers_from (suc j) (length cs)) c) in
+      let swap = swapped (a (walk_face j c)) V X in
+      ap (λ m. signed (d * (n + gaps_below m c)) ((a (walk_face j c) *ℤ V) *ℤ X)) z
+      ∙ ap (signed (d * (n + gaps_below (suc j + length cs) c))) swap
+      ∙ degrees-sign cs qs (suc j) d n c (a (walk_face j c) *ℤ X) h.1 (λ i l m. o i (omega (arith, l)) (omega (arith, m)))
+      ∙ ap (signed (d * (n + gaps_below (suc j) c + sum qs))) (sym swap)
+      ∙ ap (λ m. signed (d * m) ((a (walk_face j c) *ℤ V) *ℤ X)) (t ∙ ap (λ m. n + gaps_below j c + m) (sym (sum_by-cons (λ x. x) q qs)))
+  | no e ↦
+      let V : ℤ = value_product cs (walk_faces (numbers_from (suc j) (length cs)) c) in
+      let z : (a (walk_face j c) *ℤ V) *ℤ X ≡ pos 0 = ap (λ y. (y *ℤ V) *ℤ X) (h.0.other (walk_face j c) e) ∙ ap (λ y. y *ℤ X) (zero-*ℤ V) ∙ zero-*ℤ X in
+      ap (signed (d * (n + gaps_below (j + suc (length cs)) c))) z ∙ signed-zero (d * (n + gaps_below (j + suc (length cs)) c))
+      ∙ sym (ap (signed (d * (n + gaps_below j c + sum (q ∷ qs)))) z ∙ signed-zero (d * (n + gaps_below j c + sum (q ∷ qs))))
+]
+  where
+    swapped : (x y z : ℤ) → (x *ℤ y) *ℤ z ≡ y *ℤ (x *ℤ z)
+    swapped x y z = ap (λ w. w *ℤ z) (mul_comm x y) ∙ mul_assoc y x z

@@ -1,0 +1,3 @@
+pub mod Surjections
+pub mod Tuples
+pub mod Laws
