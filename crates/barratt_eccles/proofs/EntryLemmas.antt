@@ -1,10 +1,9 @@
 -- The entries of a tuple at a place, and walks that map them.
-use Rattle.std.proofs.Common.{◌≡◌, ℕ, zero, suc, ◌+◌, ◌-◌, ◌<◌, ◌≤◌, List, [], ◌∷◌, ◌++◌, length, map, take, drop, get_or, sym, ap, ◌∙◌, arith}
+use Rattle.std.proofs.Common.{◌≡◌, ℕ, zero, suc, ◌+◌, ◌-◌, ◌<◌, ◌≤◌, List, [], ◌∷◌, ◌++◌, length, map, take, drop, get_or, sym, ap, ◌∙◌, arith, length-drop}
 use Rattle.std.proofs.Math.Seq.{take-length, take-suc}
-use Rattle.std.proofs.lemmas.List.{length-drop, map-append}
+use Rattle.std.proofs.lemmas.List.{map-append}
 use Rattle.table_reduction_law.proofs.ReductionBoundary.{permutation-length}
-use Rattle.table_reduction_law.specs.Tuples.{IsTuple}
-use Rattle.barratt_eccles.specs.Generators.{tuple_arity}
+use Rattle.table_reduction_law.specs.Names.{IsTuple, tuple_arity}
 
 pub entry-length : (r : ℕ) (w : List (List ℕ)) (i : ℕ) (x : List ℕ) → IsTuple r w → x ≡ get_or w i x → i < length w → length x ≡ r
 entry-length r [] i x t e h = absurd (omega arith)

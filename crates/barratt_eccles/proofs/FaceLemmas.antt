@@ -1,20 +1,17 @@
 -- The walk over the entries of a tuple that sums up its boundary.
-use Rattle.std.proofs.Common.{◌≡◌, ℕ, zero, suc, ◌+◌, ◌≤◌, ◌<◌, true, false, List, [], ◌∷◌, length, drop, get_or, map, refl, sym, ap, ◌∙◌, arith, subst}
-use Rattle.std.specs.Prelude.{ℤ, pos, neg_ℤ, ◌+ℤ◌, ◌*ℤ◌, nat_abs, remove}
+use Rattle.std.proofs.Common.{◌≡◌, ℕ, zero, suc, ◌+◌, ◌≤◌, ◌<◌, true, false, List, [], ◌∷◌, length, drop, get_or, map, refl, sym, ap, ◌∙◌, arith, subst, ℤ, pos, neg_ℤ, ◌+ℤ◌, ◌*ℤ◌, nat_abs, remove}
 use Rattle.std.specs.Cmp.Lexicographic.{slice_cmp}
 use Rattle.std.specs.Ordering.{nat_cmp}
 use Rattle.std.proofs.lemmas.Int.{ints}
 use Rattle.std.proofs.lemmas.List.{length-map}
 use Rattle.std.proofs.lemmas.List.Elements.{All-get_or}
-use Rattle.signed_sum.specs.Signs.{signed}
-use Rattle.signed_sum.specs.Sums.{alternating_terms, alternating_terms_from, restricted, value_at, weight_of, without_each}
-use Rattle.signed_sum.proofs.SignLemmas.{signed-neg}
-use Rattle.signed_sum.proofs.SumLemmas.{restricted-gone, restricted-there, value_at-kept_terms}
+use Rattle.signed_sum.specs.Names.{signed, alternating_terms, alternating_terms_from, restricted, value_at, weight_of, without_each}
+use Rattle.signed_sum.proofs.Names.{signed-neg, restricted-gone, restricted-there, value_at-kept_terms}
 use Rattle.operad_law.specs.FormalSums.{IsSameSum, plus_term}
 use Rattle.operad_law.proofs.ListOrder.{equal_lists, equal_numbers}
 use Rattle.operad_law.proofs.PlusTerm.{value_at-plus_term, weight_of-plus_term}
-use Rattle.table_reduction_law.specs.Tuples.{is_zero_tuple, tuple_boundary}
-use Rattle.barratt_eccles.specs.Generators.{IsGenerator, tuple_arity}
+use Rattle.table_reduction_law.specs.Names.{is_zero_tuple, tuple_boundary, tuple_arity}
+use Rattle.barratt_eccles.specs.Generators.{IsGenerator}
 use Rattle.barratt_eccles.specs.BoundaryLaws.{IsFace, face_valid, faces}
 use Rattle.barratt_eccles.specs.Faces.{AddsFace}
 

@@ -2,5 +2,4 @@ pub mod RefusalLemmas
 pub mod FaceLemmas
 pub mod EntryLemmas
 pub mod PathLemmas
-pub mod PathSigns
 pub mod PathCounts

@@ -1,115 +1,28 @@
 -- The sum over the lattice paths, and the walk that adds it up.
-use Rattle.std.proofs.Common.{◌≡◌, ℕ, zero, suc, ◌+◌, ◌-◌, ◌<◌, ◌≤◌, List, [], ◌∷◌, ◌++◌, length, map, drop, get_or, refl, sym, ap, ◌∙◌, ◌⊎◌, inl, inr, arith, append_assoc, false, true, subst, w64, to_z, of_z}
-use Rattle.std.specs.Prelude.{ℤ, pos, neg_ℤ, ◌+ℤ◌, ◌*ℤ◌, nat_abs, All}
+use Rattle.std.proofs.Common.{◌≡◌, ℕ, zero, suc, ◌+◌, ◌-◌, ◌<◌, ◌≤◌, List, [], ◌∷◌, ◌++◌, length, map, drop, get_or, refl, sym, ap, ◌∙◌, ◌⊎◌, inl, inr, arith, append_assoc, false, true, subst, w64, to_z, of_z, ℤ, pos, neg_ℤ, ◌+ℤ◌, ◌*ℤ◌, nat_abs, All, length-append, length-drop}
 use Rattle.std.specs.Cmp.Lexicographic.{slice_cmp}
 use Rattle.std.specs.Ordering.{nat_cmp}
 use Rattle.std.proofs.lemmas.Int.{ints}
-use Rattle.std.proofs.lemmas.List.{length-append, length-drop}
 use Rattle.std.proofs.lemmas.List.Elements.{All-head, All-tail}
-use Rattle.signed_sum.specs.Signs.{signed}
-use Rattle.signed_sum.specs.Sums.{restricted, total, value_at, weight_of}
-use Rattle.signed_sum.proofs.Ring.{mul-add, neg-mul, one-mul}
-use Rattle.signed_sum.proofs.SignLemmas.{signed-mul, signed-signed, signed-zero}
-use Rattle.signed_sum.proofs.SumLemmas.{fun_ext, restricted-gone, restricted-there, total-append, total-map, total-signed, value_at-kept_terms}
+use Rattle.signed_sum.specs.Names.{signed, restricted, total, value_at, weight_of}
+use Rattle.signed_sum.proofs.Names.{mul-add, neg-mul, one-mul, signed-mul, signed-signed, signed-zero, fun_ext, restricted-gone, restricted-there, total-append, total-map, total-signed, value_at-kept_terms}
 use Rattle.operad_law.specs.FormalSums.{IsSameSum, plus_term}
 use Rattle.operad_law.proofs.ListOrder.{equal_lists, equal_numbers}
 use Rattle.operad_law.proofs.PlusTerm.{value_at-plus_term, weight_of-plus_term}
 use Rattle.table_reduction_law.proofs.MayBoundary.{tuple-append}
 use Rattle.table_reduction_law.proofs.ReductionBoundary.{permutation-length}
-use Rattle.table_reduction_law.specs.Tuples.{IsPermutationOf, IsTuple, is_degenerate_tuple}
-use Rattle.barratt_eccles.specs.Generators.{IsGenerator, tuple_arity, tuple_degree}
-use Rattle.barratt_eccles.specs.Composition.{IsWithinLimits, Step, inserted, lattice_paths, path_count, path_sign, points_from, step_x, step_y, tuple_along, tuple_composition}
+use Rattle.table_reduction_law.specs.Names.{IsPermutationOf, IsTuple, is_degenerate_tuple, tuple_arity, tuple_degree}
+use Rattle.barratt_eccles.specs.Generators.{IsGenerator}
+use Rattle.composition_law.specs.Tuples.{IsWithinLimits, Step, inserted, lattice_paths, path_count, path_sign, points_from, step_x, step_y, tuple_along, tuple_composition, at_end, path_sum}
 use Rattle.barratt_eccles.specs.CompositionLaws.{arity-of}
-use Rattle.barratt_eccles.specs.CompositionWalk.{AddsPaths, AddsTuple, IsAtPoint, at_end, path_sum, paths_through}
+use Rattle.barratt_eccles.specs.CompositionWalk.{AddsPaths, AddsTuple, IsAtPoint, paths_through}
 use Rattle.barratt_eccles.specs.InsertedLaws.{inserted-permutation}
 use Rattle.barratt_eccles.proofs.PathCounts.{paths_through-end, paths_through-next}
-use Rattle.barratt_eccles.proofs.PathSigns.{IsSigned, all-signed, late}
-
--- ---- the entries along a path, from the front of two lists
-abbrev entries_along : ℕ → List (List ℕ) → List (List ℕ) → List Step → List (List ℕ)
-entries_along k w v [] = inserted k (get_or w 0 []) (get_or v 0 []) ∷ []
-entries_along k w v (step_x ∷ s) = inserted k (get_or w 0 []) (get_or v 0 []) ∷ entries_along k (drop 1 w) v s
-entries_along k w v (step_y ∷ s) = inserted k (get_or w 0 []) (get_or v 0 []) ∷ entries_along k w (drop 1 v) s
-
-first-of : {X : Type 0} (w : List X) (i : ℕ) (d : X) → get_or w i d ≡ get_or (drop i w) 0 d
-first-of [] zero d = refl
-first-of [] (suc i) d = refl
-first-of (x ∷ w) zero d = refl
-first-of (x ∷ w) (suc i) d = first-of w i d
-
-rest-of : {X : Type 0} (w : List X) (i : ℕ) → drop (suc i) w ≡ drop 1 (drop i w)
-rest-of [] zero = refl
-rest-of [] (suc i) = refl
-rest-of (x ∷ w) zero = refl
-rest-of (x ∷ w) (suc i) = rest-of w i
-
-along-points : (k : ℕ) (w v : List (List ℕ)) (i j : ℕ) (s : List Step) → map (λ q. inserted k (get_or w q.0 []) (get_or v q.1 [])) (points_from i j s) ≡ entries_along k (drop i w) (drop j v) s
-along-points k w v i j [] = λ n. inserted k (first-of w i [] n) (first-of v j [] n) ∷ []
-along-points k w v i j (step_x ∷ s) =
-    λ n. inserted k (first-of w i [] n) (first-of v j [] n) ∷ (along-points k w v (suc i) j s ∙ ap (λ u. entries_along k u (drop j v) s) (rest-of w i)) n
-along-points k w v i j (step_y ∷ s) =
-    λ n. inserted k (first-of w i [] n) (first-of v j [] n) ∷ (along-points k w v i (suc j) s ∙ ap (λ u. entries_along k (drop i w) u s) (rest-of v j)) n
-
--- ---- the sum over all paths is the sum along the walk
-late-sum : (x : ℕ) (g : List Step → ℤ) (ss : List (List Step)) → total (λ s. signed (late (step_y ∷ s) x) (g s)) ss ≡ signed x (total (λ s. signed (late s x) (g s)) ss)
-late-sum x g ss = ap (λ f. total f ss) (fun_ext (λ s. sym (signed-signed x (late s x) (g s)))) ∙ total-signed x (λ s. signed (late s x) (g s)) ss
-
-paths-sum : (k : ℕ) (w : List ℕ) (ws : List (List ℕ)) (v : List ℕ) (vs : List (List ℕ)) (h : List (List ℕ) → ℤ) →
-    total (λ s. signed (late s (length ws)) (h (entries_along k (w ∷ ws) (v ∷ vs) s))) (lattice_paths (length ws) (length vs)) ≡ path_sum k (w ∷ ws) (v ∷ vs) h
-paths-sum k w [] v [] h = omega (arith, ints)
-paths-sum k w [] v (y ∷ vs) h =
-    let f : List Step → ℤ = λ s. signed (late s 0) (h (entries_along k (w ∷ []) (v ∷ y ∷ vs) s)) in
-    let a = total-map f (λ s. step_y ∷ s) (lattice_paths 0 (length vs)) in
-    let b = late-sum 0 (λ s. h (inserted k w v ∷ entries_along k (w ∷ []) (y ∷ vs) s)) (lattice_paths 0 (length vs)) in
-    let c = paths-sum k w [] y vs (λ r. h (inserted k w v ∷ r)) in
-    omega (arith, ints, a, b, c)
-paths-sum k w (x ∷ ws) v [] h =
-    let f : List Step → ℤ = λ s. signed (late s (suc (length ws))) (h (entries_along k (w ∷ x ∷ ws) (v ∷ []) s)) in
-    let a = total-map f (λ s. step_x ∷ s) (lattice_paths (length ws) 0) in
-    let c = paths-sum k x ws v [] (λ r. h (inserted k w v ∷ r)) in
-    let z = signed-zero (suc (length ws)) in
-    omega (arith, ints, a, c, z)
-paths-sum k w (x ∷ ws) v (y ∷ vs) h =
-    let f : List Step → ℤ = λ s. signed (late s (suc (length ws))) (h (entries_along k (w ∷ x ∷ ws) (v ∷ y ∷ vs) s)) in
-    let xs = lattice_paths (length ws) (suc (length vs)) in
-    let ys = lattice_paths (suc (length ws)) (length vs) in
-    let a = total-append f (map (λ s. step_x ∷ s) xs) (map (λ s. step_y ∷ s) ys) in
-    let b = total-map f (λ s. step_x ∷ s) xs in
-    let c = total-map f (λ s. step_y ∷ s) ys in
-    let d = late-sum (suc (length ws)) (λ s. h (inserted k w v ∷ entries_along k (w ∷ x ∷ ws) (y ∷ vs) s)) ys in
-    let p = paths-sum k x ws v (y ∷ vs) (λ r. h (inserted k w v ∷ r)) in
-    let q = ap (signed (suc (length ws))) (paths-sum k w (x ∷ ws) y vs (λ r. h (inserted k w v ∷ r))) in
-    omega (arith, ints, a, b, c, d, p, q)
-
-total-all : {X : Type 0} (P : X → Type 0) (f g : X → ℤ) → ((x : X) → P x → f x ≡ g x) → (xs : List X) → All P xs → total f xs ≡ total g xs
-total-all P f g h [] a = refl
-total-all P f g h (x ∷ xs) a = λ i. h x (All-head P x xs a) i +ℤ total-all P f g h xs (All-tail P x xs a) i
+use Rattle.composition_law.proofs.Paths.{composition-sum}
 
 signed-times : (n : ℕ) (a b : ℤ) → signed n a *ℤ b ≡ signed n (a *ℤ b)
 signed-times zero a b = refl
 signed-times (suc n) a b = neg-mul (signed n a) b ∙ ap neg_ℤ (signed-times n a b)
-
-composition-sum : (k : ℕ) (phi : List (List ℕ) → ℤ) (w v : List (List ℕ)) → 1 ≤ length w → 1 ≤ length v → value_at phi (tuple_composition k w v) ≡ path_sum k w v (restricted is_degenerate_tuple phi)
-composition-sum k phi [] v a b = absurd (omega arith)
-composition-sum k phi (w ∷ ws) [] a b = absurd (omega arith)
-composition-sum k phi (w ∷ ws) (v ∷ vs) a b =
-    let h : List (List ℕ) → ℤ = restricted is_degenerate_tuple phi in
-    let d : ℕ = tuple_degree (w ∷ ws) in
-    let e : ℕ = tuple_degree (v ∷ vs) in
-    let p : d ≡ length ws = omega arith in
-    let q : e ≡ length vs = omega arith in
-    let ss : List (List Step) = lattice_paths d e in
-    let f : List Step → List (List ℕ) × ℤ = λ s. (tuple_along k (w ∷ ws) (v ∷ vs) s, path_sign d e s) in
-    value_at-kept_terms is_degenerate_tuple phi (map f ss)
-    ∙ total-map (λ t. t.1 *ℤ h t.0) f ss
-    ∙ total-all (IsSigned d e) (λ s. path_sign d e s *ℤ h (tuple_along k (w ∷ ws) (v ∷ vs) s)) (λ s. signed (late s d) (h (entries_along k (w ∷ ws) (v ∷ vs) s)))
-    (λ s g.
-    (λ i. g.sign i *ℤ h (along-points k (w ∷ ws) (v ∷ vs) 0 0 s i))
-    ∙ signed-times (late s d) (pos 1) (h (entries_along k (w ∷ ws) (v ∷ vs) s))
-    ∙ ap (signed (late s d)) (one-mul (h (entries_along k (w ∷ ws) (v ∷ vs) s))))
-    ss (all-signed d e)
-    ∙ (λ i. total (λ s. signed (late s (p i)) (h (entries_along k (w ∷ ws) (v ∷ vs) s))) (lattice_paths (p i) (q i)))
-    ∙ paths-sum k w ws v vs h
 
 -- ---- the walk
 -- w and v are the entries of the two lists at the point, and `along` has the entries up to it

@@ -1,18 +1,17 @@
 -- Lengths and equal neighbours, step by step; and that a list without a fault is a generator.
-use Rattle.std.proofs.Common.{◌≡◌, ℕ, zero, suc, ◌+◌, ◌<◌, ◌≤◌, ◌==◌, ◌&&◌, true, false, List, [], ◌∷◌, length, take, drop, get_or, None, Some, is_some, refl, sym, ap, ◌∙◌, inl, inr, arith, subst}
-use Rattle.std.specs.Prelude.{All}
+use Rattle.std.proofs.Common.{◌≡◌, ℕ, zero, suc, ◌+◌, ◌<◌, ◌≤◌, ◌==◌, ◌&&◌, true, false, List, [], ◌∷◌, length, take, drop, get_or, None, Some, is_some, refl, sym, ap, ◌∙◌, inl, inr, arith, subst, All, eq-eqb, ne_eqb, eqb-true}
 use Rattle.std.specs.Ordering.{eq_by_cmp, nat_cmp}
 use Rattle.std.specs.Cmp.Lexicographic.{slice_cmp}
 use Rattle.std.specs.Str.{bytes_eq}
 use Rattle.std.proofs.Math.Seq.{drop-cons}
-use Rattle.std.proofs.lemmas.Bool.{cases_Bool, cases_eq, eq-eqb, ne_eqb, eqb-false, eqb-true}
+use Rattle.std.proofs.lemmas.Bool.{cases_Bool, cases_eq, eqb-false}
 use Rattle.std.proofs.lemmas.List.Elements.{All-head, All-more, All-tail}
 use Rattle.std.proofs.lemmas.Map.Text.{is_eq-slice_cmp}
-use Rattle.signed_sum.specs.Lists.{is_same_list}
+use Rattle.signed_sum.specs.Names.{is_same_list}
 use Rattle.operad_law.specs.Permutations.{IsPerm}
-use Rattle.table_reduction_law.specs.Tuples.{IsPermutationOf, IsTuple, begins_with_entry, is_degenerate_tuple, is_zero_tuple}
+use Rattle.table_reduction_law.specs.Names.{IsPermutationOf, IsTuple, begins_with_entry, is_degenerate_tuple, is_zero_tuple, tuple_arity}
 use Rattle.barratt_eccles.specs.ActionLaws.{permutation}
-use Rattle.barratt_eccles.specs.Generators.{IsGenerator, tuple_arity}
+use Rattle.barratt_eccles.specs.Generators.{IsGenerator}
 use Rattle.barratt_eccles.specs.Refusals.{equal_neighbours_from, other_length_from}
 
 pub rest : {X : Type 0} (w : List X) (i : ℕ) (x : X) → x ≡ get_or w i x → i < length w → drop i w ≡ x ∷ drop (suc i) w

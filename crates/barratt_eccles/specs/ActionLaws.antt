@@ -3,16 +3,14 @@ use Rattle.std.proofs.Common.{◌≡◌, ℕ, zero, suc, ◌+◌, ◌-◌, ◌<�
 use Rattle.std.specs.Prelude.{ℤ}
 use Rattle.std.proofs.lemmas.List.{length-map, map-id}
 use Rattle.std.proofs.lemmas.Simd.{map-map}
-use Rattle.signed_sum.specs.Lists.{numbers_from, occurs}
-use Rattle.signed_sum.specs.Permutations.{entry_at}
-use Rattle.signed_sum.specs.Sums.{value_at}
-use Rattle.signed_sum.proofs.ListLemmas.{occurs-01, occurs-self}
+use Rattle.signed_sum.specs.Names.{numbers_from, occurs, entry_at, value_at}
+use Rattle.signed_sum.proofs.Names.{occurs-01, occurs-self}
 use Rattle.operad_law.specs.Permutations.{IsPerm, composed, identity}
 use Rattle.operad_law.proofs.PermLemmas.{All-occurs, numbers_from-has, perm-has}
 use Rattle.table_reduction_law.proofs.FormalSums.{is_degenerate_tuple-map, tuple_action_law}
 use Rattle.table_reduction_law.proofs.Permutations.{Within, perm-within, place, range-out, relabels, within-tail}
-use Rattle.table_reduction_law.specs.Tuples.{IsPermutationOf, IsTuple, permuted_tuple, tuple_boundary}
-use Rattle.barratt_eccles.specs.Generators.{IsGenerator, tuple_arity, tuple_degree}
+use Rattle.table_reduction_law.specs.Names.{IsPermutationOf, IsTuple, permuted_tuple, tuple_boundary, tuple_arity, tuple_degree}
+use Rattle.barratt_eccles.specs.Generators.{IsGenerator}
 
 -- a permutation takes each of the numbers from 1 to its length, and no other
 pub permutation : (w : List ℕ) → IsPerm w → IsPermutationOf (length w) w

@@ -5,10 +5,10 @@ use Rattle.std.proofs.lemmas.Int.{ints}
 use Rattle.std.proofs.lemmas.Bool.{cases_Bool}
 use Rattle.std.proofs.lemmas.List.{length-map}
 use Rattle.std.proofs.lemmas.List.Elements.{All-nil, All-cons, All-head, All-tail, All-map, All-weaker}
-use Rattle.signed_sum.specs.Sums.{alternating_terms_from, kept_terms, weight_of, without_each}
+use Rattle.signed_sum.specs.Names.{alternating_terms_from, kept_terms, weight_of, without_each}
 use Rattle.table_reduction_law.proofs.ReductionBoundary.{permutation-length}
-use Rattle.table_reduction_law.specs.Tuples.{IsTuple, is_zero_tuple, tuple_boundary}
-use Rattle.barratt_eccles.specs.Generators.{IsGenerator, tuple_arity, tuple_degree}
+use Rattle.table_reduction_law.specs.Names.{IsTuple, is_zero_tuple, tuple_boundary, tuple_arity, tuple_degree}
+use Rattle.barratt_eccles.specs.Generators.{IsGenerator}
 
 -- v is a tuple of permutations of 1 to r with one entry less than w
 pub record IsFace (r : ℕ) (w v : List (List ℕ)) : Type 0 where

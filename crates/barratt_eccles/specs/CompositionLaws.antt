@@ -4,11 +4,12 @@ use Rattle.std.specs.Prelude.{ℤ, All}
 use Rattle.std.proofs.lemmas.Bool.{cases_Bool}
 use Rattle.std.proofs.lemmas.List.{length-map}
 use Rattle.std.proofs.lemmas.List.Elements.{All-nil, All-cons, All-head, All-tail, All-append, All-map, All-weaker}
-use Rattle.signed_sum.specs.Sums.{kept_terms}
+use Rattle.signed_sum.specs.Names.{kept_terms}
 use Rattle.table_reduction_law.proofs.ReductionBoundary.{permutation-length}
-use Rattle.table_reduction_law.specs.Tuples.{IsPermutationOf, IsTuple, is_degenerate_tuple}
-use Rattle.barratt_eccles.specs.Generators.{IsGenerator, tuple_arity, tuple_degree}
-use Rattle.barratt_eccles.specs.Composition.{IsWithinLimits, Step, inserted, lattice_paths, path_sign, points_from, step_x, step_y, tuple_along, tuple_composition}
+use Rattle.table_reduction_law.specs.Names.{IsPermutationOf, IsTuple, is_degenerate_tuple, tuple_arity, tuple_degree}
+use Rattle.barratt_eccles.specs.Generators.{IsGenerator}
+use Rattle.composition_law.proofs.Paths.{each-path}
+use Rattle.composition_law.specs.Tuples.{IsWithinLimits, Step, inserted, lattice_paths, path_sign, points_from, step_x, step_y, tuple_along, tuple_composition}
 use Rattle.barratt_eccles.specs.InsertedLaws.{inserted-permutation}
 
 -- a path of d steps x and e steps y has d + e + 1 points, and none is past the end
@@ -29,17 +30,6 @@ along_y d e s p = record {
   inside = λ i j. All-cons (λ (q : ℕ × ℕ). (q.0 ≤ i + d) × (q.1 ≤ j + suc e)) (i, j) (points_from i (suc j) s) (omega arith, omega arith)
       (All-weaker (λ (q : ℕ × ℕ). (q.0 ≤ i + d) × (q.1 ≤ suc j + e)) (λ (q : ℕ × ℕ). (q.0 ≤ i + d) × (q.1 ≤ j + suc e)) (λ q k. (k.0, omega (arith, k.1))) (points_from i (suc j) s) (p.inside i (suc j)));
 }
-
--- what is kept from one step to the next holds of all lattice paths
-pub each-path : (P : ℕ → ℕ → List Step → Type 0) → P 0 0 [] → ((d e : ℕ) (s : List Step) → P d e s → P (suc d) e (step_x ∷ s)) → ((d e : ℕ) (s : List Step) → P d e s → P d (suc e) (step_y ∷ s)) →
-    (d e : ℕ) → All (P d e) (lattice_paths d e)
-each-path P n x y zero zero = All-cons (P 0 0) [] [] n (All-nil (P 0 0))
-each-path P n x y zero (suc e) = All-map (P 0 (suc e)) (λ s. step_y ∷ s) (lattice_paths 0 e) (All-weaker (P 0 e) (λ s. P 0 (suc e) (step_y ∷ s)) (y 0 e) (lattice_paths 0 e) (each-path P n x y zero e))
-each-path P n x y (suc d) zero = All-map (P (suc d) 0) (λ s. step_x ∷ s) (lattice_paths d 0) (All-weaker (P d 0) (λ s. P (suc d) 0 (step_x ∷ s)) (x d 0) (lattice_paths d 0) (each-path P n x y d zero))
-each-path P n x y (suc d) (suc e) =
-    All-append (P (suc d) (suc e)) (map (λ s. step_x ∷ s) (lattice_paths d (suc e))) (map (λ s. step_y ∷ s) (lattice_paths (suc d) e))
-    (All-map (P (suc d) (suc e)) (λ s. step_x ∷ s) (lattice_paths d (suc e)) (All-weaker (P d (suc e)) (λ s. P (suc d) (suc e) (step_x ∷ s)) (x d (suc e)) (lattice_paths d (suc e)) (each-path P n x y d (suc e))))
-    (All-map (P (suc d) (suc e)) (λ s. step_y ∷ s) (lattice_paths (suc d) e) (All-weaker (P (suc d) e) (λ s. P (suc d) (suc e) (step_y ∷ s)) (y (suc d) e) (lattice_paths (suc d) e) (each-path P n x y (suc d) e)))
 
 are-paths : (d e : ℕ) → All (IsPath d e) (lattice_paths d e)
 are-paths = each-path IsPath (record { size = λ i j. refl; inside = λ i j. All-cons (λ (q : ℕ × ℕ). (q.0 ≤ i + 0) × (q.1 ≤ j + 0)) (i, j) [] (omega arith, omega arith) (All-nil (λ (q : ℕ × ℕ). (q.0 ≤ i + 0) × (q.1 ≤ j + 0))) }) along_x along_y

@@ -1,24 +1,8 @@
 -- The walk over the lattice paths, entry by entry.
 use Rattle.std.specs.Prelude.{◌≡◌, ℕ, ◌+◌, ◌-◌, ◌≤◌, List, [], ◌∷◌, ◌++◌, length, suc, ℤ, pos, ◌+ℤ◌, ◌*ℤ◌}
-use Rattle.signed_sum.specs.Signs.{signed}
-use Rattle.signed_sum.specs.Sums.{restricted, value_at, weight_of}
-use Rattle.table_reduction_law.specs.Tuples.{IsTuple, is_degenerate_tuple}
-use Rattle.barratt_eccles.specs.Composition.{inserted, lattice_paths}
-
--- z where both lists are empty, else 0
-abbrev pub at_end : List (List ℕ) → List (List ℕ) → ℤ → ℤ
-at_end [] [] z = z
-at_end [] (v ∷ vs) z = pos 0
-at_end (w ∷ ws) vs z = pos 0
-
--- The signed sum of h over the tuples along the paths from the first entries of two lists to the last.
--- A step in the inner list costs a sign for each step in the outer list that is left.
-abbrev pub path_sum : ℕ → List (List ℕ) → List (List ℕ) → (List (List ℕ) → ℤ) → ℤ
-path_sum k [] vs h = pos 0
-path_sum k (w ∷ ws) [] h = pos 0
-path_sum k (w ∷ ws) (v ∷ vs) h =
-    at_end ws vs (h (inserted k w v ∷ []))
-    +ℤ (path_sum k ws (v ∷ vs) (λ r. h (inserted k w v ∷ r)) +ℤ signed (length ws) (path_sum k (w ∷ ws) vs (λ r. h (inserted k w v ∷ r))))
+use Rattle.signed_sum.specs.Names.{signed, restricted, value_at, weight_of}
+use Rattle.table_reduction_law.specs.Names.{IsTuple, is_degenerate_tuple}
+use Rattle.composition_law.specs.Tuples.{lattice_paths, path_sum}
 
 -- the number of these paths
 abbrev pub paths_through : List (List ℕ) → List (List ℕ) → ℕ

@@ -4,16 +4,13 @@ use Rattle.std.specs.Prelude.{ℤ, pos, ◌*ℤ◌, All}
 use Rattle.std.proofs.Math.Nat.{mod_self}
 use Rattle.std.proofs.lemmas.Bool.{eqb-true, eq-eqb}
 use Rattle.std.proofs.lemmas.List.Elements.{All-weaker}
-use Rattle.signed_sum.specs.Lists.{numbers_from}
-use Rattle.signed_sum.specs.Permutations.{cycle, cycle_power, entry_at}
-use Rattle.signed_sum.specs.Sums.{value_at}
-use Rattle.signed_sum.specs.Turns.{IsSign, after_turns}
-use Rattle.signed_sum.proofs.Ring.{one-mul}
+use Rattle.signed_sum.specs.Names.{numbers_from, cycle, cycle_power, entry_at, value_at, IsSign, after_turns}
+use Rattle.signed_sum.proofs.Names.{one-mul, length-numbers_from}
 use Rattle.operad_law.specs.Permutations.{IsPerm, composed}
-use Rattle.operad_law.proofs.PermLemmas.{IsPerm-cycle_power, cycle_power-mod, length-cycle_power, length-numbers_from}
+use Rattle.operad_law.proofs.PermLemmas.{IsPerm-cycle_power, cycle_power-mod, length-cycle_power}
 use Rattle.table_reduction_law.proofs.Permutations.{Within, perm-within}
-use Rattle.table_reduction_law.specs.Tuples.{IsPermutationOf, permuted_tuple, tuple_boundary}
-use Rattle.barratt_eccles.specs.Generators.{IsGenerator, tuple_arity, tuple_degree, turned_tuple}
+use Rattle.table_reduction_law.specs.Names.{IsPermutationOf, permuted_tuple, tuple_boundary, tuple_arity, tuple_degree}
+use Rattle.barratt_eccles.specs.Generators.{IsGenerator, turned_tuple}
 use Rattle.barratt_eccles.specs.ActionLaws.{act_arity, act_composed, act_degree, act_identity, act_valid, boundary_act, entry-identity, entry-map, permutation, same-map}
 use Rattle.barratt_eccles.specs.BoundaryLaws.{boundary_arity}
 

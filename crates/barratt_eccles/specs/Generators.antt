@@ -1,16 +1,7 @@
 -- Tuples of permutations as generators of the Barratt-Eccles operad, after Berger and Fresse.
 use Rattle.std.specs.Prelude.{◌≡◌, ℕ, ◌-◌, ◌≤◌, false, List, [], ◌∷◌, length, ℤ, pos}
-use Rattle.signed_sum.specs.Permutations.{cycle_power}
-use Rattle.table_reduction_law.specs.Tuples.{IsTuple, is_degenerate_tuple, permuted_tuple}
-
--- how many numbers the first entry permutes
-abbrev pub tuple_arity : List (List ℕ) → ℕ
-tuple_arity [] = 0
-tuple_arity (w ∷ ws) = length w
-
--- the number of entries less 1
-abbrev pub tuple_degree : List (List ℕ) → ℕ
-tuple_degree w = length w - 1
+use Rattle.signed_sum.specs.Names.{cycle_power}
+use Rattle.table_reduction_law.specs.Names.{IsTuple, is_degenerate_tuple, permuted_tuple, tuple_arity}
 
 -- w is a generator: a list of 1 to 201 permutations of the numbers from 1 to r, where r is from 1 to
 -- 32, and no two neighbours are equal

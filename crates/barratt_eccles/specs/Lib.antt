@@ -4,7 +4,6 @@ pub mod BoundaryLaws
 pub mod Faces
 pub mod ActionLaws
 pub mod CycleLaws
-pub mod Composition
 pub mod CompositionWalk
 pub mod InsertedLaws
 pub mod CompositionLaws

@@ -1,7 +1,6 @@
 -- Why a list of permutations is no tuple. Places count from 0.
 use Rattle.std.specs.Prelude.{ℕ, ◌==◌, nat_lt, List, [], ◌∷◌, Option, None, Some, cond, length, suc}
-use Rattle.table_reduction_law.specs.Tuples.{begins_with_entry}
-use Rattle.barratt_eccles.specs.Generators.{tuple_arity}
+use Rattle.table_reduction_law.specs.Names.{begins_with_entry, tuple_arity}
 use Rattle.barratt_eccles.specs.declared.tuple.TupleRefused.{TupleRefused}
 use Rattle.barratt_eccles.specs.declared.tuple.TupleRefused.TheVariants.{Empty, TooLong, MixedArity, EqualNeighbours}
 

@@ -1,18 +1,18 @@
 //! The composition of tuples.
 ghost use Rattle.std.specs.Prelude.{◌≡◌, ◌≤◌, ◌<◌, ◌+◌, ◌^◌, ◌-◌, ◌∷◌, ◌++◌, [], ℕ, All, IfOk, OnOk, cond, false, length, map, nat_abs, nat_lt, pos};
-ghost use Rattle.signed_sum.specs.Signs.{signed};
-ghost use Rattle.signed_sum.specs.Sums.{weight_of};
+ghost use Rattle.signed_sum.specs.Names.{signed, weight_of};
 ghost use Rattle.operad_law.specs.FormalSums.{IsSameSum};
-ghost use Rattle.table_reduction_law.specs.Tuples.{is_degenerate_tuple};
-ghost use Rattle.barratt_eccles.specs.Generators.{IsGenerator, tuple_arity};
-ghost use Rattle.barratt_eccles.specs.Composition.{IsWithinLimits, inserted, path_count, replaced, tuple_composition};
+ghost use Rattle.table_reduction_law.specs.Names.{is_degenerate_tuple, tuple_arity};
+ghost use Rattle.barratt_eccles.specs.Generators.{IsGenerator};
+ghost use Rattle.composition_law.specs.Tuples.{IsWithinLimits, inserted, path_count, replaced, tuple_composition};
+ghost use Rattle.composition_law.proofs.Tuples.{tuple_leibniz};
 ghost use Rattle.barratt_eccles.specs.CompositionWalk.{AddsPaths, AddsTuple, IsAtPoint, paths_through};
 ghost use Rattle.barratt_eccles.specs.CompositionLaws.{compose_arity as compose_arity_law, compose_degree as compose_degree_law, compose_valid as compose_valid_law};
 
 use crate::tuple::{Tuple, copied, equal_neighbours};
 use counting::binomial_up_to;
 use operad_law::basis::SignedBasis;
-use operad_law::composing::Composing;
+use operad_law::composing::{Composing, Leibniz};
 use operad_law::formal_sum::{FormalSum, MOST_WEIGHT, SumEnd};
 use operad_law::perm::Perm;
 use std::alloc::{AllocError, Global};
@@ -41,6 +41,10 @@ impl Composing for Tuple {
     ghost compose_arity = { compose_arity_law };
 
     ghost compose_degree = { compose_degree_law };
+}
+
+impl Leibniz for Tuple {
+    ghost leibniz = { λ phi k w v g h a b. tuple_leibniz.boundary k w v phi g.some h.some };
 }
 
 fn sum_of_paths(

@@ -2,7 +2,7 @@
 use Rattle.std.proofs.Common.{◌≡◌, ℕ, zero, suc, ◌+◌, ◌-◌, ◌*◌, ◌/◌, ◌≤◌, ◌<◌, sym, ◌∙◌, arith}
 use Rattle.std.proofs.Math.Nat.{mul-div_cancel_left}
 use Rattle.table_reduction_law.proofs.BinomialLemmas.{absorb}
-use Rattle.table_reduction_law.specs.Counts.{binomial}
+use Rattle.table_reduction_law.specs.Names.{binomial}
 
 -- the next coefficient, over what the code multiplies and divides by
 pub step : (rest i count times by : ℕ) → count ≡ binomial (rest + i) i → times ≡ rest + i + 1 → by ≡ i + 1 → count * times / by ≡ binomial (rest + (i + 1)) (i + 1)

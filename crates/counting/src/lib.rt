@@ -2,7 +2,7 @@
 #![tactic(auto)]
 
 ghost use Rattle.std.specs.Prelude.{◌≡◌, ◌≤◌, min};
-ghost use Rattle.table_reduction_law.specs.Counts.{binomial};
+ghost use Rattle.table_reduction_law.specs.Names.{binomial};
 
 /// The number of sets of k among n things, or `most` where that is less. It takes k steps.
 pub fn binomial_up_to(n: u32, k: u32, most: u64) -> u64

@@ -1,22 +1,16 @@
 -- May elements as sums over pairs, and the number of their candidates.
 use native.Mathlib.Decide.{dec_le}
-use Rattle.std.proofs.Math.Nat.{le-mul_of_pos_right}
-use Rattle.std.proofs.Common.{◌≡◌, ℕ, zero, suc, length, ◌+◌, ◌-◌, ◌*◌, ◌/◌, ◌%◌, ◌^◌, ◌≤◌, min, List, [], ◌∷◌, ◌++◌, refl, sym, ◌∙◌, ap, arith}
-use Rattle.std.specs.Prelude.{ℤ}
-use Rattle.std.proofs.Math.Nat.{min-eq_left, min-eq_right, pow-succ'}
+use Rattle.std.proofs.Math.Nat.{le-mul_of_pos_right, min-eq_left, min-eq_right, pow-succ'}
+use Rattle.std.proofs.Common.{◌≡◌, ℕ, zero, suc, length, ◌+◌, ◌-◌, ◌*◌, ◌/◌, ◌%◌, ◌^◌, ◌≤◌, min, List, [], ◌∷◌, ◌++◌, refl, sym, ◌∙◌, ap, arith, ℤ}
 use Rattle.may_elements.specs.Counted.{cut_off}
 use Rattle.may_elements.specs.Pairs.{IsPairSum, list_count}
-use Rattle.barratt_eccles.specs.Generators.{tuple_degree}
+use Rattle.table_reduction_law.specs.Names.{tuple_degree, binomial, candidate_count, in_turn, leading_entries, may_element, pair_count, table_reduction}
 use Rattle.operad_law.specs.FormalSums.{IsSameSum}
-use Rattle.signed_sum.proofs.SumLemmas.{fun_ext}
-use Rattle.signed_sum.specs.Permutations.{cycle_power}
-use Rattle.signed_sum.specs.Sums.{value_at}
+use Rattle.signed_sum.proofs.Names.{fun_ext}
+use Rattle.signed_sum.specs.Names.{cycle_power, value_at}
 use Rattle.table_reduction_law.proofs.FormalSums.{value_at-may_element, value_at-table_reduction}
 use Rattle.table_reduction_law.proofs.MayTwo.{may_two_law}
 use Rattle.table_reduction_law.proofs.PowerPairs.{pair_sum}
-use Rattle.table_reduction_law.specs.Counts.{binomial, candidate_count, in_turn}
-use Rattle.table_reduction_law.specs.MayElements.{leading_entries, may_element, pair_count}
-use Rattle.table_reduction_law.specs.Reduction.{table_reduction}
 
 pub pair_count-half : (d : ℕ) → pair_count d ≡ d / 2
 pair_count-half zero = refl

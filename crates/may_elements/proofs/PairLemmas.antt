@@ -1,29 +1,20 @@
 -- Sums over pairs of powers of the cycle, pair by pair.
-use Rattle.std.proofs.Common.{◌≡◌, ℕ, zero, suc, ◌+◌, ◌-◌, ◌*◌, ◌^◌, ◌<◌, ◌≤◌, true, List, [], ◌∷◌, ◌++◌, length, refl, sym, ◌∙◌, ap, subst, arith, append_assoc, Ordering, Less, Equal, Greater}
-use Rattle.std.specs.Prelude.{ℤ, pos}
+use Rattle.std.proofs.Common.{◌≡◌, ℕ, zero, suc, ◌+◌, ◌-◌, ◌*◌, ◌^◌, ◌<◌, ◌≤◌, true, List, [], ◌∷◌, ◌++◌, length, refl, sym, ◌∙◌, ap, subst, arith, append_assoc, Ordering, Less, Equal, Greater, ℤ, pos, append-nil, length-append}
 use Rattle.std.proofs.Math.Nat.{mul-le-mul_left, pow-succ', pow-zero}
 use Rattle.std.proofs.lemmas.Int.{ints}
 use Rattle.std.proofs.lemmas.Bool.{or_left, or_right}
-use Rattle.std.proofs.lemmas.List.{append-nil, length-append}
 use Rattle.std.specs.Cmp.Lexicographic.{slice_cmp}
 use Rattle.std.specs.Ordering.{eq_by_cmp, is_eq, nat_cmp}
-use Rattle.barratt_eccles.specs.Generators.{tuple_arity, tuple_degree}
+use Rattle.table_reduction_law.specs.Names.{tuple_arity, tuple_degree, binomial, table_reduction, IsTuple, begins_with_entry, is_degenerate_tuple}
 use Rattle.operad_law.proofs.ListOrder.{equal_numbers}
 use Rattle.operad_law.specs.FormalSums.{IsPlusScaled, IsSameSum}
 use Rattle.may_elements.specs.Pairs.{IsPairSum, IsPartSum, list_count}
-use Rattle.signed_sum.proofs.ListLemmas.{is_same_list-self}
-use Rattle.signed_sum.proofs.Ring.{one-mul}
-use Rattle.signed_sum.proofs.SumLemmas.{fun_ext}
-use Rattle.signed_sum.specs.Lists.{is_same_list}
-use Rattle.signed_sum.specs.Permutations.{cycle_power}
-use Rattle.signed_sum.specs.Sums.{value_at, weight_of}
+use Rattle.signed_sum.proofs.Names.{is_same_list-self, one-mul, fun_ext}
+use Rattle.signed_sum.specs.Names.{is_same_list, cycle_power, value_at, weight_of}
 use Rattle.table_reduction_law.proofs.FormalSums.{degenerate_tuple_law}
 use Rattle.table_reduction_law.proofs.MayBoundary.{tuple-append}
 use Rattle.table_reduction_law.proofs.PowerPairs.{pair_sum, pairs-cong, power-perm, sum-cong, sum_below}
 use Rattle.table_reduction_law.proofs.ReductionBoundary.{permutation-length}
-use Rattle.table_reduction_law.specs.Counts.{binomial}
-use Rattle.table_reduction_law.specs.Reduction.{table_reduction}
-use Rattle.table_reduction_law.specs.Tuples.{IsTuple, begins_with_entry, is_degenerate_tuple}
 
 -- the last entry once more
 last-again : (rest : List (List ℕ)) (w : List ℕ) (t : List (List ℕ)) → is_degenerate_tuple ((rest ++ (w ∷ [])) ++ (w ∷ t)) ≡ true

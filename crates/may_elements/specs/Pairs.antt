@@ -1,9 +1,7 @@
 -- Sums over pairs of powers of the cycle.
 use Rattle.std.specs.Prelude.{◌≡◌, ℕ, suc, ◌+◌, ◌-◌, ◌*◌, ◌^◌, List, ◌∷◌, ◌++◌, ℤ}
-use Rattle.signed_sum.specs.Permutations.{cycle_power}
-use Rattle.signed_sum.specs.Sums.{value_at}
-use Rattle.table_reduction_law.specs.Counts.{binomial}
-use Rattle.table_reduction_law.specs.Reduction.{table_reduction}
+use Rattle.signed_sum.specs.Names.{cycle_power, value_at}
+use Rattle.table_reduction_law.specs.Names.{binomial, table_reduction}
 use Rattle.table_reduction_law.proofs.PowerPairs.{pair_sum, sum_below}
 
 -- how many lists come from the tuples of degree n of which the last entries are k pairs of a power of the

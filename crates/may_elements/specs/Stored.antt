@@ -1,10 +1,8 @@
 -- Stored May elements, and the boundary relations.
 use Rattle.std.specs.Prelude.{ℕ, zero, suc, ◌==◌, ◌%◌, cond, List, [], ◌∷◌, map, Option, None, Some, ℤ, pos, ◌-ℤ◌}
 use Rattle.operad_law.specs.FormalSums.{IsSameSum}
-use Rattle.signed_sum.specs.Lists.{numbers_from}
-use Rattle.signed_sum.specs.Permutations.{cycle, turned}
-use Rattle.signed_sum.specs.Sums.{total, value_at}
-use Rattle.table_reduction_law.specs.MayElements.{may_element}
+use Rattle.signed_sum.specs.Names.{numbers_from, cycle, turned, total, value_at}
+use Rattle.table_reduction_law.specs.Names.{may_element}
 
 -- the sum that is stored for degree d
 abbrev pub stored_at : ℕ → List (ℕ × List (List ℕ × ℤ)) → Option (List (List ℕ × ℤ))

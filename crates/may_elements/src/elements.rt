@@ -1,11 +1,10 @@
 //! The May elements at a prime.
 ghost use Rattle.std.specs.Prelude.{◌≡◌, ◌↔◌, ◌≤◌, ◌<◌, ◌+◌, ◌^◌, ◌≢◌, [], ℕ, List, ℤ, Ok, Err, IfOk, IfSome, IsNone, IsSome, IsTrue, OnOk, OnErr};
 ghost use Rattle.fp_field.specs.Served.{served};
-ghost use Rattle.signed_sum.specs.Sums.{value_at};
+ghost use Rattle.signed_sum.specs.Names.{value_at};
 ghost use Rattle.operad_law.specs.FormalSums.{IsSameSum};
-ghost use Rattle.table_reduction_law.specs.Counts.{candidate_count, in_turn};
-ghost use Rattle.table_reduction_law.specs.MayElements.{leading_entries, may_element};
-ghost use Rattle.surjection_law.specs.Boundary.{surjection_boundary};
+ghost use Rattle.table_reduction_law.specs.Names.{candidate_count, in_turn, leading_entries, may_element};
+ghost use Rattle.surjection_law.specs.Names.{surjection_boundary};
 ghost use Rattle.may_elements.specs.Counted.{charged, cut_off, over};
 ghost use Rattle.may_elements.specs.Stored.{boundary_value, stored_at};
 

@@ -1,9 +1,7 @@
 //! Sums of table reductions over pairs of powers of the cycle.
 ghost use Rattle.std.specs.Prelude.{◌≡◌, ◌≤◌, ◌<◌, ◌+◌, ◌*◌, ◌^◌, ◌++◌, ◌∷◌, [], ℕ, List, suc, true, IsTrue, IfOk, OnOk, length};
-ghost use Rattle.barratt_eccles.specs.Generators.{tuple_degree};
-ghost use Rattle.signed_sum.specs.Permutations.{cycle_power};
-ghost use Rattle.signed_sum.specs.Sums.{weight_of};
-ghost use Rattle.table_reduction_law.specs.Tuples.{IsTuple, is_degenerate_tuple};
+ghost use Rattle.table_reduction_law.specs.Names.{tuple_degree, IsTuple, is_degenerate_tuple};
+ghost use Rattle.signed_sum.specs.Names.{cycle_power, weight_of};
 ghost use Rattle.may_elements.specs.Pairs.{IsPairSum, list_count};
 
 use operad_law::formal_sum::{FormalSum, SumEnd};

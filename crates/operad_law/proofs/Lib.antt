@@ -3,6 +3,7 @@ pub mod TermPlaces
 pub mod ScaledSums
 pub mod Unique
 pub mod WordLemmas
+pub mod WordSteps
 pub mod PermLemmas
 pub mod TurnSums
 pub mod ListOrder

@@ -1,16 +1,14 @@
 -- Two ascending lists of terms merged into one: what is merged so far, and what is left.
-use Rattle.std.proofs.Common.{◌≡◌, ◌≢◌, ◌⊎◌, ℕ, suc, ◌+◌, ◌*◌, ◌≤◌, ◌<◌, ◌^◌, List, [], ◌∷◌, ◌++◌, length, drop, get_or, refl, sym, ap, subst, ◌∙◌, inl, inr, arith, Ordering, Less, Equal, Greater, FitsSigned, w64, to_z, of_z}
-use Rattle.std.specs.Prelude.{ℤ, ◌+ℤ◌, ◌*ℤ◌, nat_abs}
+use Rattle.std.proofs.Common.{◌≡◌, ◌≢◌, ◌⊎◌, ℕ, suc, ◌+◌, ◌*◌, ◌≤◌, ◌<◌, ◌^◌, List, [], ◌∷◌, ◌++◌, length, drop, get_or, refl, sym, ap, subst, ◌∙◌, inl, inr, arith, Ordering, Less, Equal, Greater, FitsSigned, w64, to_z, of_z, ℤ, ◌+ℤ◌, ◌*ℤ◌, nat_abs, append-nil, length-drop}
 use Rattle.std.specs.Cmp.{IsTotalOrder}
 use Rattle.std.specs.Ordering.{ordering_reverse}
 use Rattle.std.proofs.Math.Nat.{mul-le-mul_left}
 use Rattle.std.proofs.Math.Seq.{drop-cons}
 use Rattle.std.proofs.lemmas.Int.{ints, to_z-of_z}
 use Rattle.std.proofs.lemmas.Bool.{cases_Bool}
-use Rattle.std.proofs.lemmas.List.{append-nil, drop_all, length-drop}
-use Rattle.signed_sum.proofs.Ring.{add-mul, mul-add, mul_assoc, mul_comm}
-use Rattle.signed_sum.proofs.SumLemmas.{value_at-append}
-use Rattle.signed_sum.specs.Sums.{value_at, weight_of, is_zero}
+use Rattle.std.proofs.lemmas.List.{drop_all}
+use Rattle.signed_sum.proofs.Names.{add-mul, mul-add, mul_assoc, mul_comm, value_at-append}
+use Rattle.signed_sum.specs.Names.{value_at, weight_of, is_zero}
 use Rattle.operad_law.specs.FormalSums.{IsBelow, IsAscending, IsNonzero, IsFormalSum, IsPlusScaled, with_term}
 use Rattle.operad_law.specs.Places.{IsAbove, first_order}
 use Rattle.operad_law.proofs.PlusTerm.{value_at-with_term, weight_of-with_term, IsBelow-less, abs_sum}

@@ -1,14 +1,12 @@
 -- Permutations: what no refusal says, images under maps that keep them, compositions and powers of the cycle.
-use Rattle.std.proofs.Common.{cond, ◌≡◌, ℕ, zero, suc, ◌+◌, ◌%◌, ◌<◌, ◌≤◌, ◌≢◌, ◌==◌, ◌||◌, Bool, false, List, [], ◌∷◌, ◌++◌, length, map, get_or, None, Some, refl, sym, ap, ◌∙◌, inl, inr, arith, subst}
-use Rattle.std.specs.Prelude.{All, nat_lt}
+use Rattle.std.proofs.Common.{cond, ◌≡◌, ℕ, zero, suc, ◌+◌, ◌%◌, ◌<◌, ◌≤◌, ◌≢◌, ◌==◌, ◌||◌, Bool, false, List, [], ◌∷◌, ◌++◌, length, map, get_or, None, Some, refl, sym, ap, ◌∙◌, inl, inr, arith, subst, All, nat_lt, eq-eqb, ne_eqb}
 use Rattle.std.proofs.Math.Nat.{mod-add-mod, add-mod-mod, mod-eq_of_lt, mod-lt, mod_self}
-use Rattle.std.proofs.lemmas.Bool.{cases_Bool, cases_eq, eq-eqb, ne_eqb, eqb-false, or_parts}
+use Rattle.std.proofs.lemmas.Bool.{cases_Bool, cases_eq, eqb-false, or_parts}
 use Rattle.std.proofs.lemmas.List.{length-map, map-append}
 use Rattle.std.proofs.lemmas.List.Elements.{All-nil, All-cons, All-head, All-tail, All-map, All-weaker, All-get_or}
-use Rattle.signed_sum.specs.Lists.{IsDistinct, numbers_from, occurs}
-use Rattle.signed_sum.proofs.ListLemmas.{numbers_from-distinct, occurs-01, occurs-cons, occurs-mid, occurs-more}
+use Rattle.signed_sum.specs.Names.{IsDistinct, numbers_from, occurs, cycle_power, cycle, entry_at}
+use Rattle.signed_sum.proofs.Names.{length-numbers_from, numbers_from-distinct, occurs-01, occurs-cons, occurs-mid, occurs-more}
 use Rattle.operad_law.specs.Refusals.{first_place_from, is_misplaced, permutation_fault, repeated_place}
-use Rattle.signed_sum.specs.Permutations.{cycle_power, cycle, entry_at}
 use Rattle.operad_law.specs.Permutations.{IsPerm, composed, identity}
 
 -- ---- what it means that a test holds nowhere
@@ -126,10 +124,6 @@ distinct-apart (x ∷ p) zero zero d h k e = refl
 distinct-apart (x ∷ p) zero (suc j) d h k e = absurd (let a : occurs x p ≡ 1 = ap (λ w. occurs w p) e ∙ occurs-get_or p j (omega arith) in let b = d.0 in omega arith)
 distinct-apart (x ∷ p) (suc i) zero d h k e = absurd (let a : occurs x p ≡ 1 = ap (λ w. occurs w p) (sym e) ∙ occurs-get_or p i (omega arith) in let b = d.0 in omega arith)
 distinct-apart (x ∷ p) (suc i) (suc j) d h k e = ap suc (distinct-apart p i j d.1 (omega arith) (omega arith) e)
-
-pub length-numbers_from : (a n : ℕ) → length (numbers_from a n) ≡ n
-length-numbers_from a zero = refl
-length-numbers_from a (suc n) = ap suc (length-numbers_from (suc a) n)
 
 -- ---- a permutation takes each value
 -- the list without the first x

@@ -1,13 +1,10 @@
 -- Sums of scaled sums, and of boundaries, term by term.
-use Rattle.std.proofs.Common.{◌≡◌, ℕ, ◌+◌, ◌*◌, ◌≤◌, List, [], ◌∷◌, ◌++◌, take, drop, refl, ap, arith}
-use Rattle.std.specs.Prelude.{ℤ, pos, ◌*ℤ◌, nat_abs}
+use Rattle.std.proofs.Common.{◌≡◌, ℕ, ◌+◌, ◌*◌, ◌≤◌, List, [], ◌∷◌, ◌++◌, take, drop, refl, ap, arith, ℤ, pos, ◌*ℤ◌, nat_abs, take-append-drop}
 use Rattle.std.proofs.lemmas.Int.{ints, unsigned_abs-mul}
-use Rattle.std.proofs.lemmas.List.{take-append-drop}
 use Rattle.std.proofs.Math.Nat.{mul-le-mul_left}
-use Rattle.signed_sum.proofs.Ring.{one-mul}
-use Rattle.signed_sum.specs.Sums.{value_at, weight_of}
+use Rattle.signed_sum.proofs.Names.{one-mul, value_at-append}
+use Rattle.signed_sum.specs.Names.{value_at, weight_of}
 use Rattle.operad_law.specs.FormalSums.{IsPlusScaled, IsSameSum, SumsBoundaries}
-use Rattle.signed_sum.proofs.SumLemmas.{value_at-append}
 
 pub weight_of-append : {X : Type 0} (s t : List (X × ℤ)) → weight_of (s ++ t) ≡ weight_of s + weight_of t
 weight_of-append [] t = omega arith

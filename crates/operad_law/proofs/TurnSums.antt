@@ -1,9 +1,7 @@
 -- The sums of the turn of an element, term by term.
-use Rattle.std.proofs.Common.{◌≡◌, ℕ, suc, ◌+◌, ◌≤◌, ◌^◌, List, [], sym, ap, ◌∙◌, inl, inr, arith, Ordering, Equal, w64, to_z, of_z, FitsSigned}
-use Rattle.std.specs.Prelude.{ℤ, negsuc, ◌*ℤ◌, nat_abs}
+use Rattle.std.proofs.Common.{◌≡◌, ℕ, suc, ◌+◌, ◌≤◌, ◌^◌, List, [], sym, ap, ◌∙◌, inl, inr, arith, Ordering, Equal, w64, to_z, of_z, FitsSigned, ℤ, negsuc, ◌*ℤ◌, nat_abs}
 use Rattle.std.proofs.lemmas.Int.{ints, to_z-of_z}
-use Rattle.signed_sum.specs.Sums.{value_at, weight_of}
-use Rattle.signed_sum.specs.Turns.{IsSign, difference, power_sum, after_turns}
+use Rattle.signed_sum.specs.Names.{value_at, weight_of, IsSign, difference, power_sum, after_turns}
 use Rattle.operad_law.specs.FormalSums.{IsSameSum, plus_term}
 use Rattle.operad_law.proofs.PlusTerm.{weight_of-plus_term}
 use Rattle.operad_law.proofs.Unique.{summed, value_at-summed}

@@ -1,13 +1,11 @@
 -- Formal sums with the same value at every function are equal.
-use Rattle.std.proofs.Common.{◌≡◌, ◌≤◌, false, cond, List, [], ◌∷◌, refl, sym, ap, ◌∙◌, arith, Ordering, Less, Equal, Greater, is_eq}
-use Rattle.std.specs.Prelude.{ℤ, pos, ◌+ℤ◌, ◌*ℤ◌}
+use Rattle.std.proofs.Common.{◌≡◌, ◌≤◌, false, cond, List, [], ◌∷◌, refl, sym, ap, ◌∙◌, arith, Ordering, Less, Equal, Greater, is_eq, ℤ, pos, ◌+ℤ◌, ◌*ℤ◌}
 use Rattle.std.specs.Cmp.{IsTotalOrder}
 use Rattle.std.specs.Ordering.{ordering_reverse}
 use Rattle.std.proofs.lemmas.Cmp.{tied_itself}
 use Rattle.std.proofs.lemmas.Int.{ints}
-use Rattle.signed_sum.specs.Sums.{value_at, weight_of, is_zero}
-use Rattle.operad_law.specs.FormalSums.{IsBelow, IsAscending, IsNonzero, IsFormalSum, IsSameSum}
-use Rattle.operad_law.specs.FormalSums.{plus_term}
+use Rattle.signed_sum.specs.Names.{value_at, weight_of, is_zero}
+use Rattle.operad_law.specs.FormalSums.{IsBelow, IsAscending, IsNonzero, IsFormalSum, IsSameSum, plus_term}
 use Rattle.operad_law.proofs.PlusTerm.{value_at-plus_term, weight_of-plus_term, IsAscending-plus_term, IsNonzero-plus_term}
 
 -- 1 at x, and 0 elsewhere

@@ -1,13 +1,9 @@
 -- Symbols in lists, the order of a word, and parity.
-use Rattle.std.proofs.Common.{◌≡◌, ℕ, zero, suc, ◌+◌, ◌-◌, length-drop, ◌<◌, ◌==◌, Bool, true, false, not, cond, List, [], ◌∷◌, length, take, drop, get_or, Some, refl, sym, ap, ◌∙◌, inl, inr, arith}
-use Rattle.std.specs.Prelude.{pos, negsuc, neg_ℤ}
+use Rattle.std.proofs.Common.{◌≡◌, ℕ, zero, suc, ◌+◌, ◌-◌, length-drop, ◌<◌, ◌==◌, Bool, true, false, not, cond, List, [], ◌∷◌, length, take, drop, get_or, Some, refl, sym, ap, ◌∙◌, inl, inr, arith, pos, negsuc, neg_ℤ, eq-eqb, ne_eqb, length-take}
 use Rattle.std.specs.List.{list_any}
-use Rattle.std.proofs.lemmas.Bool.{cases_Bool, cases_eq, eq-eqb, ne_eqb}
+use Rattle.std.proofs.lemmas.Bool.{cases_Bool, cases_eq}
 use Rattle.std.proofs.Math.Seq.{take-suc, drop-cons}
-use Rattle.std.proofs.lemmas.List.{length-take}
-use Rattle.signed_sum.specs.Lists.{occurs}
-use Rattle.signed_sum.specs.Signs.{signed}
-use Rattle.signed_sum.specs.Inversions.{count_before, inversion_count, stands_before}
+use Rattle.signed_sum.specs.Names.{occurs, signed, count_before, inversion_count, stands_before}
 use Rattle.operad_law.specs.Refusals.{first_place_from}
 use Rattle.operad_law.specs.Parity.{is_odd}
 

@@ -3,7 +3,7 @@ use Rattle.std.specs.Prelude.{◌≡◌, ◌+◌, ◌*◌, ◌≤◌, ◌^◌, �
 use Rattle.std.specs.Ordering.{is_eq}
 use Rattle.std.specs.declared.cmp.Ordering.{Ordering}
 use Rattle.std.specs.declared.cmp.Ordering.TheVariants.{Less, Equal, Greater}
-use Rattle.signed_sum.specs.Sums.{is_zero, total, value_at, weight_of}
+use Rattle.signed_sum.specs.Names.{is_zero, total, value_at, weight_of}
 
 -- two lists of terms are the same sum: they have the same value at every function of the elements
 pub record IsSameSum {X : Type 0} (s t : List (X × ℤ)) : Type 0 where

@@ -3,3 +3,4 @@ pub mod Places
 pub mod Refusals
 pub mod Parity
 pub mod Permutations
+pub mod Words

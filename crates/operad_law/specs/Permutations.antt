@@ -1,7 +1,6 @@
 -- Permutations of the numbers from 1 on, as lists of values.
 use Rattle.std.specs.Prelude.{ℕ, ◌≤◌, List, map, length, All}
-use Rattle.signed_sum.specs.Lists.{IsDistinct, numbers_from}
-use Rattle.signed_sum.specs.Permutations.{entry_at}
+use Rattle.signed_sum.specs.Names.{IsDistinct, numbers_from, entry_at}
 
 -- p is a permutation of the numbers from 1 to its length, which is at most 32
 pub record IsPerm (p : List ℕ) : Type 0 where

@@ -1,6 +1,6 @@
 -- Where a list is refused: the first place at which a test of its entry holds.
 use Rattle.std.specs.Prelude.{ℕ, ◌==◌, ◌||◌, nat_lt, Bool, List, [], ◌∷◌, ◌++◌, Option, None, Some, cond, length, suc}
-use Rattle.signed_sum.specs.Lists.{occurs}
+use Rattle.signed_sum.specs.Names.{occurs}
 
 -- the first place, from 1, of an entry for which the test holds; the test gets the entries before it
 -- (`before` and what follows) and the entry

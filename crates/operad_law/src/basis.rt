@@ -1,7 +1,7 @@
 //! Bases: elements with a degree and a boundary.
 ghost use Rattle.std.specs.Prelude.{◌≡◌, ◌≤◌, ◌+◌, ℕ, ℤ, pos, List, [], IfOk, All};
 ghost use Rattle.std.specs.declared.cmp.Ordering.TheVariants.{Equal};
-ghost use Rattle.signed_sum.specs.Sums.{value_at, weight_of};
+ghost use Rattle.signed_sum.specs.Names.{value_at, weight_of};
 ghost use Rattle.operad_law.specs.FormalSums.{IsSameSum};
 
 use crate::formal_sum::FormalSum;

@@ -1,6 +1,6 @@
 //! The boundary of a formal sum.
 ghost use Rattle.std.specs.Prelude.{◌≡◌, ◌≤◌, ◌<◌, ◌+◌, ◌*◌, ◌^◌, ◌↔◌, ℤ, IfOk, Err, nat_abs, List, [], ◌∷◌};
-ghost use Rattle.signed_sum.specs.Sums.{value_at, weight_of};
+ghost use Rattle.signed_sum.specs.Names.{value_at, weight_of};
 ghost use Rattle.operad_law.specs.FormalSums.{SumsBoundaries};
 
 use crate::basis::Narrow;

@@ -1,5 +1,6 @@
-//! Symmetric bases whose elements compose.
-ghost use Rattle.std.specs.Prelude.{◌≡◌, ◌≤◌, ◌<◌, ◌+◌, ◌^◌, ◌↔◌, ℕ, ℤ, List, IfOk, Err, All};
+//! Symmetric bases whose elements compose, and the Leibniz rule of compositions.
+ghost use Rattle.std.specs.Prelude.{◌≡◌, ◌≤◌, ◌<◌, ◌+◌, ◌+ℤ◌, ◌^◌, ◌↔◌, ℕ, ℤ, List, IfOk, Err, All};
+ghost use Rattle.signed_sum.specs.Names.{signed, value_at};
 ghost use Rattle.operad_law.specs.FormalSums.{IsSameSum};
 
 use crate::formal_sum::{FormalSum, SumEnd};
@@ -31,4 +32,11 @@ pub trait Composing: Symmetric {
     ghost compose_arity: { (k : ℕ) (x y : Self) → Self.is_valid x → Self.is_valid y → 1 ≤ k → k ≤ Self.arity x → within_limits x y → All (λ t. Self.arity t.0 + 1 ≡ Self.arity x + Self.arity y) (compose k x y) };
 
     ghost compose_degree: { (k : ℕ) (x y : Self) → Self.is_valid x → Self.is_valid y → 1 ≤ k → k ≤ Self.arity x → within_limits x y → All (λ t. Self.degree t.0 ≡ Self.degree x + Self.degree y) (compose k x y) };
+}
+
+/// A basis with compositions of which the boundary follows the Leibniz rule: the boundary of x composed
+/// with y is the boundary of x composed with y plus, with the sign of the degree of x, x composed with
+/// the boundary of y.
+pub trait Leibniz: Composing {
+    ghost leibniz: { (phi : Self → ℤ) (k : ℕ) (x y : Self) → Self.is_valid x → Self.is_valid y → 1 ≤ k → k ≤ Self.arity x → value_at (λ z. value_at phi (Self.boundary z)) (Self.compose k x y) ≡ value_at (λ z. value_at phi (Self.compose k z y)) (Self.boundary x) +ℤ signed (Self.degree x) (value_at (λ z. value_at phi (Self.compose k x z)) (Self.boundary y)) };
 }

@@ -1,8 +1,7 @@
 //! Bases with a turn of which a power is the identity.
 ghost use Rattle.std.specs.Prelude.{◌≡◌, ◌≤◌, ◌<◌, ◌+◌, ◌*ℤ◌, ◌^◌, ℕ, ℤ, Bool, pos, List, IfOk, OnOk, All, IsTrue, nat_abs};
-ghost use Rattle.signed_sum.specs.Sums.{value_at, weight_of};
-ghost use Rattle.signed_sum.specs.Turns.{IsSign, difference, power_sum, after_turns};
-ghost use Rattle.signed_sum.proofs.TurnLemmas.{turn_norm as turn_norm_law, norm_turn as norm_turn_law, boundary-difference, boundary-powers};
+ghost use Rattle.signed_sum.specs.Names.{value_at, weight_of, IsSign, difference, power_sum, after_turns};
+ghost use Rattle.signed_sum.proofs.Names.{turn_norm as turn_norm_law, norm_turn as norm_turn_law, boundary-difference, boundary-powers};
 ghost use Rattle.operad_law.specs.FormalSums.{IsSameSum, plus_term};
 
 use crate::basis::SignedBasis;
@@ -86,7 +85,11 @@ pub trait CyclicModel<const P: u32>: SignedBasis {
 }
 
 // Adds a term to a sum that has room.
-fn add_small<B: Ord + Drop>(sum: &mut FormalSum<B>, item: B, by: i64) -> Result<(), AllocError>
+pub(crate) fn add_small<B: Ord + Drop>(
+    sum: &mut FormalSum<B>,
+    item: B,
+    by: i64,
+) -> Result<(), AllocError>
     requires { weight_of sum.old + nat_abs by ≤ 10 ^ 18 }
     ensures { OnOk result (sum.new ≡ plus_term B.cmp sum.old item by) }
 {

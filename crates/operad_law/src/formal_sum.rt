@@ -1,7 +1,7 @@
 //! Formal sums: elements with whole coefficients.
 ghost use Rattle.std.specs.Prelude.{◌≡◌, ◌≤◌, ◌<◌, ◌+ℤ◌, ℤ, [], List, length, slice_index_or, IsTrue, IfOk, OnOk, OnErr, ◌↔◌, ◌+◌, ◌^◌, ◌≢◌, nat_abs, Err, take, drop, suc, ◌++◌};
 ghost use Rattle.std.specs.declared.cmp.Ordering.TheVariants.{Less};
-ghost use Rattle.signed_sum.specs.Sums.{weight_of};
+ghost use Rattle.signed_sum.specs.Names.{weight_of};
 ghost use Rattle.operad_law.specs.FormalSums.{IsFormalSum, IsAscending, coefficient_of, plus_term, with_term};
 ghost use Rattle.operad_law.specs.Places.{IsAbove};
 

@@ -13,3 +13,4 @@ mod scaled;
 pub mod symmetric;
 #[cfg(test)]
 mod tests;
+pub mod word;

@@ -1,7 +1,6 @@
 //! Words of different symbols of odd degree, and the sign of their rearrangement.
 ghost use Rattle.std.specs.Prelude.{◌≡◌, ◌↔◌, ◌==◌, ℕ, IfOk, Some, Err};
-ghost use Rattle.signed_sum.specs.Lists.{occurs};
-ghost use Rattle.signed_sum.specs.Inversions.{count_before, inversion_count, rearrangement_sign, stands_before};
+ghost use Rattle.signed_sum.specs.Names.{occurs, count_before, inversion_count, rearrangement_sign, stands_before};
 ghost use Rattle.operad_law.specs.Refusals.{repeated_place};
 ghost use Rattle.operad_law.specs.Parity.{is_odd};
 

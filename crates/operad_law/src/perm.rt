@@ -5,8 +5,7 @@ ghost use Rattle.std.specs.Cmp.{partial_order_from_own_ties};
 ghost use Rattle.std.specs.Cmp.Rules.{comparing};
 ghost use Rattle.std.specs.Cmp.Lexicographic.{slice_cmp};
 ghost use Rattle.std.specs.Ordering.{nat_cmp, eq_by_cmp, as_partial_cmp};
-ghost use Rattle.signed_sum.specs.Lists.{occurs};
-ghost use Rattle.signed_sum.specs.Permutations.{cycle_power, entry_at};
+ghost use Rattle.signed_sum.specs.Names.{occurs, cycle_power, entry_at};
 ghost use Rattle.operad_law.specs.Permutations.{IsPerm, composed};
 ghost use Rattle.operad_law.specs.Refusals.{permutation_fault};
 

@@ -1,6 +1,6 @@
 //! Multiples of one formal sum added to another.
 ghost use Rattle.std.specs.Prelude.{◌≡◌, ◌≤◌, ◌<◌, ◌↔◌, ◌+◌, ◌*◌, ◌^◌, ◌++◌, [], length, drop, IfOk, OnOk, OnErr, Err, nat_abs};
-ghost use Rattle.signed_sum.specs.Sums.{weight_of};
+ghost use Rattle.signed_sum.specs.Names.{weight_of};
 ghost use Rattle.operad_law.specs.FormalSums.{IsAscending, IsFormalSum, IsPlusScaled, with_term};
 ghost use Rattle.operad_law.specs.Places.{first_order};
 

@@ -1,6 +1,6 @@
 //! Bases on which permutations act.
 ghost use Rattle.std.specs.Prelude.{◌≡◌, ℕ, ℤ, List, IfOk, All, length};
-ghost use Rattle.signed_sum.specs.Sums.{value_at};
+ghost use Rattle.signed_sum.specs.Names.{value_at};
 ghost use Rattle.operad_law.specs.Permutations.{IsPerm, composed, identity};
 
 use crate::basis::Narrow;

@@ -1,6 +1,9 @@
+use crate::basis::SignedBasis;
+use crate::cyclic::CyclicModel;
 use crate::formal_sum::{FormalSum, MOST_WEIGHT, SumEnd};
 use crate::odd_word::{OddWord, WordRefused, sign_of};
 use crate::perm::{Perm, PermRefused};
+use crate::word::Word;
 use std::test::Fail;
 
 #[test]
@@ -69,5 +72,22 @@ fn sums_are_in_order_and_keep_no_zero(rt: HostRuntime) -> Result<(), Fail> {
         Err(SumEnd::TooLarge) => assert_eq!(rt; sum.weight(), MOST_WEIGHT),
         _ => panic!(rt; "a weight past the limit was taken"),
     }
+    Ok(())
+}
+
+#[test]
+fn words_turn_and_have_boundaries(rt: HostRuntime) -> Result<(), Fail> {
+    let alloc = rt.alloc();
+    let faces = Word::<3>::new(0, true).boundary(alloc)?;
+    assert_eq!(rt; (faces.len(), faces.weight()), (3, 3));
+    for (mask, sign) in [(1, 1), (2, -1), (4, 1)] {
+        assert_eq!(rt; faces.coefficient(&Word::new(mask, true)), sign);
+    }
+    let (turned, sign) = Word::<3>::new(1, true).turn(alloc)?;
+    assert!(rt; turned == Word::new(2, true) && sign == -1);
+    let full = Word::<3>::new(7, true);
+    assert!(rt; full.copy(alloc)? == full && full.t(alloc)?.is_empty());
+    let norm = full.norm(alloc)?;
+    assert_eq!(rt; (norm.len(), norm.coefficient(&full)), (1, 3));
     Ok(())
 }

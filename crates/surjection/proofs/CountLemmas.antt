@@ -1,10 +1,9 @@
 -- How many lists of places there are in which none is below the one before it.
-use Rattle.std.proofs.Common.{◌≡◌, ℕ, zero, suc, ◌+◌, ◌∷◌, length, map, refl, sym, ap, ◌∙◌, arith, min, length-append}
-use Rattle.std.specs.Prelude.{nat_lt}
+use Rattle.std.proofs.Common.{◌≡◌, ℕ, zero, suc, ◌+◌, ◌∷◌, length, map, refl, sym, ap, ◌∙◌, arith, min, length-append, nat_lt}
 use Rattle.std.proofs.lemmas.Bool.Decides.{nat_tests}
 use Rattle.std.proofs.lemmas.List.{length-map}
-use Rattle.interval_cut_law.specs.Cuts.{rising_lists}
-use Rattle.table_reduction_law.specs.Counts.{binomial}
+use Rattle.interval_cut_law.specs.Names.{rising_lists}
+use Rattle.table_reduction_law.specs.Names.{binomial}
 
 none-above : (n j m : ℕ) → m ≡ suc (n + j) → binomial n m ≡ 0
 none-above n j zero q = absurd (omega arith)

@@ -1,26 +1,19 @@
 -- The terms with marks are those of the definition, and their sum is the composition.
-use Rattle.std.proofs.Common.{◌≡◌, ℕ, suc, ◌+◌, ◌-◌, ◌*◌, ◌≤◌, true, false, cond, eqb, List, [], ◌∷◌, ◌++◌, length, map, refl, sym, ap, ◌∙◌, arith, subst}
-use Rattle.std.specs.Prelude.{ℤ, pos, negsuc, All}
+use Rattle.std.proofs.Common.{◌≡◌, ℕ, suc, ◌+◌, ◌-◌, ◌*◌, ◌≤◌, true, false, cond, eqb, List, [], ◌∷◌, ◌++◌, length, map, refl, sym, ap, ◌∙◌, arith, subst, ℤ, pos, negsuc, All}
 use Rattle.std.proofs.lemmas.Int.{ints}
 use Rattle.std.proofs.lemmas.List.{length-map}
 use Rattle.std.proofs.lemmas.List.Elements.{All-head, All-tail, All-weaker}
-use Rattle.signed_sum.specs.Inversions.{inversion_count, rearrangement_sign, stands_before}
-use Rattle.signed_sum.specs.Lists.{is_degenerate, numbers_from}
-use Rattle.signed_sum.specs.Sums.{normalized, value_at}
-use Rattle.signed_sum.proofs.SumLemmas.{value_at-kept_terms}
-use Rattle.surjection_law.specs.Boundary.{caesura_count}
-use Rattle.surjection_law.specs.Surjections.{arity, multiplicity}
-use Rattle.interval_cut_law.specs.Cuts.{rising_lists}
+use Rattle.signed_sum.specs.Names.{inversion_count, rearrangement_sign, stands_before, is_degenerate, numbers_from, normalized, value_at}
+use Rattle.signed_sum.proofs.Names.{value_at-kept_terms, numbers_from-append}
+use Rattle.surjection_law.specs.Names.{caesura_count, arity, multiplicity}
+use Rattle.interval_cut_law.specs.Names.{rising_lists}
 use Rattle.operad_law.specs.FormalSums.{IsSameSum}
 use Rattle.operad_law.specs.Parity.{is_odd}
 use Rattle.operad_law.proofs.WordLemmas.{signed-odd}
-use Rattle.surjection.specs.Composition.{composition, cut_entries, cut_term, cuts_at, grown, lifted, spliced, symbols_of, values_of, with_values}
-use Rattle.surjection.specs.CompositionLaws.{AreComposed, IsCutOf, IsSurjection-term, each_cut, length-values, multiplicity-grown, occurs-k, values-with_values}
-use Rattle.surjection.specs.Splicing.{IsReady, IsRising, is_odd_order, marked, marked_term, terms_behind}
-use Rattle.surjection.specs.Walk.{AddsTerms}
-use Rattle.surjection.specs.declared.composition.Mark.{Mark}
-use Rattle.surjection.specs.declared.composition.Mark.TheVariants.{Outer, Inner}
-use Rattle.surjection.proofs.OrderLemmas.{numbers-append, spliced-ordered}
+use Rattle.composition_law.specs.Surjections.{composition, cut_entries, cut_term, cuts_at, grown, lifted, spliced, symbols_of, values_of, with_values, IsRising}
+use Rattle.surjection.specs.Names.{AreComposed, IsSurjection-term, length-values, multiplicity-grown, occurs-k, values-with_values, IsReady, is_odd_order, marked, marked_term, terms_behind, AddsTerms, Mark, Outer, Inner}
+use Rattle.composition_law.proofs.Cuts.{IsCutOf, each_cut}
+use Rattle.surjection.proofs.OrderLemmas.{spliced-ordered}
 
 values-marked : (c : Mark) (u : List ℕ) → values_of (marked c u) ≡ u
 values-marked c [] = refl
@@ -68,7 +61,7 @@ module _ (k : ℕ) (u v : List ℕ) (c : AreComposed k u v) where
       let o = spliced-ordered k (grown k (arity v)) (lifted k) u 0 (caesura_count u) 0 (length v - 1) cut v (omega arith) r (m ∙ sym (multiplicity-grown k (arity v) u)) in
       let w = symbols_of (cut_entries k u v cut) in
       let e : numbers_from 0 (caesura_count u + caesura_count v) ≡ numbers_from 0 (caesura_count u) ++ numbers_from (caesura_count u) (caesura_count v)
-      = numbers-append 0 (caesura_count u) (caesura_count v) ∙ (let z : 0 + caesura_count u ≡ caesura_count u = omega arith in ap (λ j. numbers_from 0 (caesura_count u) ++ numbers_from j (caesura_count v)) z) in
+      = numbers_from-append 0 (caesura_count u) (caesura_count v) ∙ (let z : 0 + caesura_count u ≡ caesura_count u = omega arith in ap (λ j. numbers_from 0 (caesura_count u) ++ numbers_from j (caesura_count v)) z) in
       let n : 0 * caesura_count u + inversion_count (stands_before w) (numbers_from 0 (caesura_count u) ++ numbers_from (caesura_count u) (caesura_count v)) ≡ inversion_count (stands_before w) (numbers_from 0 (caesura_count u + caesura_count v))
       = omega (arith, ap (inversion_count (stands_before w)) e) in
       let odd : is_odd_order (spliced k 0 inner outer cut) ≡ is_odd (inversion_count (stands_before w) (numbers_from 0 (caesura_count u + caesura_count v)))

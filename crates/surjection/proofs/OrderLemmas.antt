@@ -1,71 +1,16 @@
 -- The sign of a term: the marks tell in which order the caesuras of the two lists come.
-use Rattle.std.proofs.Common.{◌≡◌, ℕ, zero, suc, ◌+◌, ◌-◌, ◌*◌, ◌<◌, ◌≤◌, ◌≢◌, ◌⊎◌, ◌==◌, Bool, true, false, not, cond, List, [], ◌∷◌, ◌++◌, length, map, drop, refl, sym, ap, ◌∙◌, inl, inr, arith, subst}
-use Rattle.std.proofs.lemmas.Bool.{cases_eq, eq-eqb, ne_eqb}
-use Rattle.signed_sum.specs.Inversions.{count_before, inversion_count, stands_before}
-use Rattle.signed_sum.specs.Lists.{numbers_from, occurs}
-use Rattle.signed_sum.proofs.ListLemmas.{occurs-01}
-use Rattle.surjection_law.specs.Boundary.{caesura_count}
-use Rattle.surjection_law.specs.Surjections.{multiplicity}
+use Rattle.std.proofs.Common.{◌≡◌, ℕ, zero, suc, ◌+◌, ◌-◌, ◌*◌, ◌<◌, ◌≤◌, ◌≢◌, ◌⊎◌, ◌==◌, Bool, true, false, not, cond, List, [], ◌∷◌, ◌++◌, length, map, drop, refl, sym, ap, ◌∙◌, inl, inr, arith, subst, eq-eqb, ne_eqb}
+use Rattle.std.proofs.lemmas.Bool.{cases_eq}
+use Rattle.signed_sum.specs.Names.{count_before, inversion_count, stands_before, numbers_from, occurs}
+use Rattle.signed_sum.proofs.Names.{Apart, apart-above, apart-append, apart-below, before-first, pairs-among, pairs-later, length-numbers_from, occurs-01}
+use Rattle.surjection_law.specs.Names.{caesura_count, multiplicity}
 use Rattle.surjection_law.proofs.BoundaryByValueTwice.{multiplicity-other, multiplicity-same}
 use Rattle.surjection_law.proofs.SurjectionTerms.{multiplicity-at_least}
 use Rattle.operad_law.specs.Parity.{is_odd}
 use Rattle.operad_law.proofs.WordLemmas.{differ, differ-assoc, differ-none, is_odd-plus}
-use Rattle.surjection.specs.Composition.{numbered, piece, spliced, symbols_of, values_of, with_values}
-use Rattle.surjection.specs.CompositionLaws.{occurs-mapped, rising-bound}
-use Rattle.surjection.specs.Splicing.{IsRising, is_odd_order_from, marked}
-use Rattle.surjection.specs.declared.composition.Mark.{Mark}
-use Rattle.surjection.specs.declared.composition.Mark.TheVariants.{Plain, Outer, Inner}
-
--- ---- pairs in different order
-
--- z is no entry
-abbrev Apart : ℕ → List ℕ → Type 0
-Apart z [] = Unit {0}
-Apart z (x ∷ xs) = (x ≢ z) × Apart z xs
-
-apart-below : (z a m : ℕ) → z < a → Apart z (numbers_from a m)
-apart-below z a zero h = tt
-apart-below z a (suc m) h = (λ e. omega (arith, e, h), apart-below z (suc a) m (omega (arith, h)))
-
-apart-above : (z a m : ℕ) → a + m ≤ z → Apart z (numbers_from a m)
-apart-above z a zero h = tt
-apart-above z a (suc m) h = (λ e. omega (arith, e, h), apart-above z (suc a) m (omega (arith, h)))
-
-apart-append : (z : ℕ) (xs ys : List ℕ) → Apart z xs → Apart z ys → Apart z (xs ++ ys)
-apart-append z [] ys a b = b
-apart-append z (x ∷ xs) ys a b = (a.0, apart-append z xs ys a.1 b)
-
-before-first : (z : ℕ) (w ys : List ℕ) → count_before (stands_before (z ∷ w)) z ys ≡ 0
-before-first z w [] = refl
-before-first z w (y ∷ ys) = rw (eq-eqb z z refl) (let h = before-first z w ys in omega (arith, h))
-
-before-later : (z x : ℕ) (w ys : List ℕ) → x ≢ z → Apart z ys → count_before (stands_before (z ∷ w)) x ys ≡ count_before (stands_before w) x ys
-before-later z x w [] d a = refl
-before-later z x w (y ∷ ys) d a = rw (ne_eqb x z d, ne_eqb y z a.0) (ap (λ n. stands_before w y x + n) (before-later z x w ys d a.1))
-
-pairs-later : (z : ℕ) (w xs : List ℕ) → Apart z xs → inversion_count (stands_before (z ∷ w)) xs ≡ inversion_count (stands_before w) xs
-pairs-later z w [] a = refl
-pairs-later z w (x ∷ xs) a = λ i. before-later z x w xs a.0 a.1 i + pairs-later z w xs a.1 i
-
-before-among : (z x : ℕ) (w xs ys : List ℕ) → x ≢ z → Apart z xs → Apart z ys → count_before (stands_before (z ∷ w)) x (xs ++ z ∷ ys) ≡ suc (count_before (stands_before w) x (xs ++ ys))
-before-among z x w [] ys d a b = rw (ne_eqb x z d, eq-eqb z z refl) (let h = before-later z x w ys d b in omega (arith, h))
-before-among z x w (y ∷ xs) ys d a b = let h = before-among z x w xs ys d a.1 b in rw (ne_eqb x z d, ne_eqb y z a.0) (omega (arith, h))
-
--- z goes in front of all of xs
-pairs-among : (z : ℕ) (w xs ys : List ℕ) → Apart z xs → Apart z ys → inversion_count (stands_before (z ∷ w)) (xs ++ z ∷ ys) ≡ length xs + inversion_count (stands_before w) (xs ++ ys)
-pairs-among z w [] ys a b = let h = before-first z w ys in let g = pairs-later z w ys b in omega (arith, h, g)
-pairs-among z w (x ∷ xs) ys a b = let h = before-among z x w xs ys a.0 a.1 b in let g = pairs-among z w xs ys a.1 b in omega (arith, h, g)
-
-length-numbers : (a m : ℕ) → length (numbers_from a m) ≡ m
-length-numbers a zero = refl
-length-numbers a (suc m) = ap suc (length-numbers (suc a) m)
-
-pub numbers-append : (a m l : ℕ) → numbers_from a (m + l) ≡ numbers_from a m ++ numbers_from (a + m) l
-numbers-append a zero l = let e : a ≡ a + 0 = omega arith in let f : 0 + l ≡ l = omega arith in λ i. numbers_from (e i) (f i)
-numbers-append a (suc m) l =
-    let e : suc m + l ≡ suc (m + l) = omega arith in
-    let f : suc a + m ≡ a + suc m = omega arith in
-    ap (numbers_from a) e ∙ ap (λ w. a ∷ w) (numbers-append (suc a) m l ∙ ap (λ j. numbers_from (suc a) m ++ numbers_from j l) f)
+use Rattle.composition_law.specs.Surjections.{numbered, piece, spliced, symbols_of, values_of, with_values, IsRising}
+use Rattle.surjection.specs.Names.{occurs-mapped, is_odd_order_from, marked, Mark, Plain, Outer, Inner}
+use Rattle.composition_law.proofs.Cuts.{rising-bound}
 
 -- ---- entries with numbers and with marks
 
@@ -113,7 +58,7 @@ inner-ordered x a m b l es fs s = record {
   order = λ h c odd.
       let w = symbols_of es in
       let p = pairs-among b (symbols_of es) (numbers_from a m) (numbers_from (suc b) l) (apart-above b a m h) (apart-below b (suc b) l (omega arith)) in
-      let n : suc c * m + inversion_count (stands_before w) (numbers_from a m ++ numbers_from (suc b) l) ≡ c * m + inversion_count (stands_before (b ∷ w)) (numbers_from a m ++ b ∷ numbers_from (suc b) l) = omega (arith, p, length-numbers a m) in
+      let n : suc c * m + inversion_count (stands_before w) (numbers_from a m ++ numbers_from (suc b) l) ≡ c * m + inversion_count (stands_before (b ∷ w)) (numbers_from a m ++ b ∷ numbers_from (suc b) l) = omega (arith, p, length-numbers_from a m) in
       s.order (omega arith) (suc c) odd ∙ ap (λ j. differ odd (is_odd j)) n;
 }
 

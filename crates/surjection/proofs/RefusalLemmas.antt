@@ -1,13 +1,12 @@
 -- Equal neighbours and gaps, step by step; and that a list without a fault is a surjection.
-use Rattle.std.proofs.Common.{◌≡◌, ℕ, zero, suc, ◌+◌, ◌-◌, ◌<◌, ◌≤◌, ◌==◌, max, true, false, List, [], ◌∷◌, length, drop, get_or, None, Some, is_some, refl, sym, ap, ◌∙◌, inl, inr, arith}
-use Rattle.std.specs.Prelude.{find}
+use Rattle.std.proofs.Common.{◌≡◌, ℕ, zero, suc, ◌+◌, ◌-◌, ◌<◌, ◌≤◌, ◌==◌, max, true, false, List, [], ◌∷◌, length, drop, get_or, None, Some, is_some, refl, sym, ap, ◌∙◌, inl, inr, arith, find, eq-eqb, ne_eqb, eqb-true}
 use Rattle.std.proofs.Math.Seq.{drop-cons}
-use Rattle.std.proofs.lemmas.Bool.{cases_Bool, cases_eq, eq-eqb, ne_eqb, eqb-false, eqb-true}
-use Rattle.signed_sum.specs.Lists.{begins_with, is_degenerate, numbers_from, occurs}
-use Rattle.signed_sum.proofs.ListLemmas.{numbers_from-least, occurs-01, occurs-cons, occurs-mid}
-use Rattle.surjection_law.specs.Surjections.{IsOnto, IsSurjection, arity}
+use Rattle.std.proofs.lemmas.Bool.{cases_Bool, cases_eq, eqb-false}
+use Rattle.signed_sum.specs.Names.{begins_with, is_degenerate, numbers_from, occurs}
+use Rattle.signed_sum.proofs.Names.{numbers_from-least, occurs-01, occurs-cons, occurs-mid}
+use Rattle.surjection_law.specs.Names.{IsOnto, IsSurjection, arity}
 use Rattle.operad_law.proofs.PermLemmas.{numbers_from-has}
-use Rattle.surjection.specs.Refusals.{equal_neighbours_from, gap_of}
+use Rattle.surjection.specs.Names.{equal_neighbours_from, gap_of}
 
 -- ---- equal neighbours
 first_two : (xs : List ℕ) (i : ℕ) → i + 1 < length xs → drop i xs ≡ get_or xs i 0 ∷ get_or xs (i + 1) 0 ∷ drop (suc (i + 1)) xs

@@ -1,13 +1,10 @@
 -- The entries of a term, as they are written one after the other.
-use Rattle.std.proofs.Common.{◌≡◌, ℕ, zero, suc, ◌+◌, ◌-◌, ◌<◌, ◌≤◌, ◌≢◌, ◌==◌, cond, List, [], ◌∷◌, ◌++◌, length, take, drop, get_or, refl, sym, ap, ◌∙◌, arith, subst, append_assoc}
+use Rattle.std.proofs.Common.{◌≡◌, ℕ, zero, suc, ◌+◌, ◌-◌, ◌<◌, ◌≤◌, ◌≢◌, ◌==◌, cond, List, [], ◌∷◌, ◌++◌, length, take, drop, get_or, refl, sym, ap, ◌∙◌, arith, subst, append_assoc, eq-eqb, ne_eqb, drop-drop, get_or-drop, length-drop, take_all}
 use Rattle.std.proofs.Math.Seq.{drop-cons}
-use Rattle.std.proofs.lemmas.Bool.{eq-eqb, ne_eqb}
-use Rattle.std.proofs.lemmas.List.{drop-drop, drop_all, get_or-drop, length-drop, take_all}
-use Rattle.signed_sum.specs.Lists.{occurs}
-use Rattle.surjection.specs.Composition.{piece, spliced, with_values}
-use Rattle.surjection.specs.Splicing.{IsRising, marked}
-use Rattle.surjection.specs.declared.composition.Mark.{Mark}
-use Rattle.surjection.specs.declared.composition.Mark.TheVariants.{Plain}
+use Rattle.std.proofs.lemmas.List.{drop_all}
+use Rattle.signed_sum.specs.Names.{occurs}
+use Rattle.composition_law.specs.Surjections.{piece, spliced, with_values, IsRising}
+use Rattle.surjection.specs.Names.{marked, Mark, Plain}
 
 behind : {X : Type 0} (done rest : List X) (x : X) → (done ++ x ∷ []) ++ rest ≡ done ++ (x ∷ rest)
 behind done rest x = append_assoc done (x ∷ []) rest

@@ -1,15 +1,13 @@
 -- The sum over the cuts that begin with a list, while it is added up.
-use Rattle.std.proofs.Common.{◌≡◌, ℕ, zero, suc, ◌+◌, ◌-◌, ◌<◌, ◌≤◌, ◌^◌, true, false, cond, List, [], ◌∷◌, ◌++◌, length, map, take, refl, sym, ap, ◌∙◌, arith, append_assoc, append-nil, length-append}
-use Rattle.std.specs.Prelude.{ℤ, ◌+ℤ◌, nat_lt}
+use Rattle.std.proofs.Common.{◌≡◌, ℕ, zero, suc, ◌+◌, ◌-◌, ◌<◌, ◌≤◌, ◌^◌, true, false, cond, List, [], ◌∷◌, ◌++◌, length, map, take, refl, sym, ap, ◌∙◌, arith, append_assoc, append-nil, length-append, ℤ, ◌+ℤ◌, nat_lt, take_at}
 use Rattle.std.proofs.lemmas.Int.{ints}
 use Rattle.std.proofs.lemmas.Bool.Decides.{nat_tests}
-use Rattle.std.proofs.lemmas.List.{length-map, take_at}
-use Rattle.signed_sum.specs.Sums.{normalized, value_at, weight_of}
-use Rattle.signed_sum.proofs.SumLemmas.{value_at-append}
-use Rattle.interval_cut_law.specs.Cuts.{rising_lists}
-use Rattle.surjection.specs.Splicing.{IsRising, marked_term, terms_behind}
-use Rattle.surjection.specs.Walk.{AddsTerms}
-use Rattle.surjection.specs.declared.composition.Mark.{Mark}
+use Rattle.std.proofs.lemmas.List.{length-map}
+use Rattle.signed_sum.specs.Names.{normalized, value_at, weight_of}
+use Rattle.signed_sum.proofs.Names.{value_at-append}
+use Rattle.interval_cut_law.specs.Names.{rising_lists}
+use Rattle.surjection.specs.Names.{marked_term, terms_behind, AddsTerms, Mark}
+use Rattle.composition_law.specs.Surjections.{IsRising}
 
 pub rising-weaker : (a m n : ℕ) (p : List ℕ) → IsRising a p m → m ≤ n → IsRising a p n
 rising-weaker a m n [] r h = omega (arith, r)

@@ -1,26 +1,21 @@
 -- The walk over the places of a surjection that sums up its boundary: what is to come, and what is kept.
-use Rattle.std.proofs.Common.{◌≡◌, ℕ, zero, suc, ◌+◌, ◌-◌, ◌≤◌, ◌<◌, ◌≢◌, Bool, true, false, cond, eqb, List, [], ◌∷◌, ◌++◌, length, take, drop, set, get_or, replicate, map, get_or-set_same, append_assoc, refl, sym, ap, ◌∙◌, inl, inr, arith, subst, IsTrue, ◌==◌}
-use Rattle.std.specs.Prelude.{ℤ, pos, neg_ℤ, ◌+ℤ◌, ◌*ℤ◌, nat_abs, remove}
+use Rattle.std.proofs.Common.{◌≡◌, ℕ, zero, suc, ◌+◌, ◌-◌, ◌≤◌, ◌<◌, ◌≢◌, Bool, true, false, cond, eqb, List, [], ◌∷◌, ◌++◌, length, take, drop, set, get_or, replicate, map, get_or-set_same, append_assoc, refl, sym, ap, ◌∙◌, inl, inr, arith, subst, IsTrue, ◌==◌, ℤ, pos, neg_ℤ, ◌+ℤ◌, ◌*ℤ◌, nat_abs, remove, eq-eqb, eqb-true, ne_eqb}
 use Rattle.std.specs.Cmp.Lexicographic.{slice_cmp}
 use Rattle.std.specs.Ordering.{nat_cmp}
 use Rattle.std.proofs.Math.Seq.{take-suc, drop-cons}
 use Rattle.std.proofs.lemmas.Int.{ints}
-use Rattle.std.proofs.lemmas.Bool.{cases_eq, eq-eqb, eqb-false, eqb-true, ne_eqb}
-use Rattle.signed_sum.specs.Lists.{is_degenerate, occurs}
-use Rattle.signed_sum.specs.Sums.{is_zero, normalized, value_at, weight_of, without_each}
-use Rattle.signed_sum.proofs.SumLemmas.{fun_ext, restricted-gone, restricted-there, value_at-nonzero_terms, weighted_sum, weighted_sum-cons, weighted_sum-nil}
-use Rattle.surjection_law.specs.Boundary.{no_sign, place_signs_from, surjection_boundary, with_sign}
-use Rattle.surjection_law.specs.Surjections.{IsSurjection, arity}
+use Rattle.std.proofs.lemmas.Bool.{cases_eq, eqb-false}
+use Rattle.signed_sum.specs.Names.{is_degenerate, occurs, is_zero, normalized, value_at, weight_of, without_each}
+use Rattle.signed_sum.proofs.Names.{fun_ext, restricted-gone, restricted-there, value_at-nonzero_terms, weighted_sum-cons, weighted_sum-nil, occurs-01}
+use Rattle.signed_sum.proofs.SumLemmas.{weighted_sum}
+use Rattle.surjection_law.specs.Names.{no_sign, place_signs_from, surjection_boundary, with_sign, IsSurjection, arity}
 use Rattle.surjection_law.proofs.BoundaryTwice.{with_sign-other, with_sign-same}
 use Rattle.surjection_law.proofs.SurjectionTerms.{EachTerm, EachTerm-face, IsFace, IsSurjection-face}
 use Rattle.operad_law.specs.FormalSums.{IsSameSum, plus_term}
-use Rattle.signed_sum.proofs.ListLemmas.{occurs-01}
 use Rattle.operad_law.proofs.WordLemmas.{drop_rest}
-use Rattle.surjection.specs.Action.{comes_again}
+use Rattle.surjection.specs.Names.{comes_again, InRange, in_range, AddsList}
 use Rattle.operad_law.proofs.PlusTerm.{value_at-plus_term, weight_of-plus_term}
-use Rattle.surjection.specs.ActionLaws.{InRange, in_range}
 use Rattle.operad_law.proofs.ListOrder.{equal_numbers}
-use Rattle.surjection.specs.Walk.{AddsList}
 
 -- the lists without each place of xs, behind pre
 abbrev pub rest_lists : List ℕ → List ℕ → List (List ℕ)

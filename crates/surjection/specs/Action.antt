@@ -1,7 +1,6 @@
 -- Permutations and the turn on lists of values.
 use Rattle.std.specs.Prelude.{ℕ, List, map, ℤ, pos, drop}
-use Rattle.signed_sum.specs.Lists.{occurs}
-use Rattle.signed_sum.specs.Permutations.{cycle, entry_at}
+use Rattle.signed_sum.specs.Names.{occurs, cycle, entry_at}
 
 -- a permutation is applied to each value
 abbrev pub permuted : List ℕ → List ℕ → List ℕ

@@ -5,14 +5,9 @@ use Rattle.std.specs.Prelude.{ℤ, pos}
 use Rattle.std.proofs.lemmas.Int.{ints}
 use Rattle.std.proofs.lemmas.Bool.{cases_eq, eq-eqb, ne_eqb}
 use Rattle.std.proofs.lemmas.List.{length-map, map-append}
-use Rattle.signed_sum.specs.Lists.{begins_with, if_zero, is_degenerate, numbers_from, occurs, unless_zero}
-use Rattle.signed_sum.specs.Permutations.{entry_at}
-use Rattle.signed_sum.specs.Signs.{signed}
-use Rattle.signed_sum.specs.Sums.{normalized, value_at, weight_of}
-use Rattle.signed_sum.proofs.ListLemmas.{numbers_from-least, occurs-01, occurs-cons, occurs-mid}
-use Rattle.surjection_law.specs.Boundary.{surjection_boundary}
-use Rattle.surjection_law.specs.Places.{caesuras_among, caesuras_before_last, place_term, without_place}
-use Rattle.surjection_law.specs.Surjections.{IsOnto, IsSurjection, arity, surjection_degree}
+use Rattle.signed_sum.specs.Names.{begins_with, if_zero, is_degenerate, numbers_from, occurs, unless_zero, entry_at, signed, normalized, value_at, weight_of}
+use Rattle.signed_sum.proofs.Names.{numbers_from-least, occurs-01, occurs-cons, occurs-mid}
+use Rattle.surjection_law.specs.Names.{surjection_boundary, caesuras_among, caesuras_before_last, place_term, without_place, IsOnto, IsSurjection, arity, surjection_degree}
 use Rattle.surjection_law.proofs.BoundaryPlaces.{value_at-surjection_boundary_places, without_place-cong}
 use Rattle.surjection_law.proofs.SurjectionTerms.{arity-positive, narrow}
 use Rattle.operad_law.specs.Permutations.{IsPerm, composed, identity}

@@ -1,50 +1,23 @@
 -- The laws of compositions of surjections, which the impl cites: the terms are surjections, their
 -- arity is the sum of the two less 1, and their degrees sum.
 use Rattle.std.proofs.Common.{◌≡◌, ℕ, zero, suc, ◌+◌, ◌-◌, ◌<◌, ◌≤◌, ◌≢◌, ◌⊎◌, Bool, true, false, cond, eqb, List, [], ◌∷◌, ◌++◌, length, map, drop, refl, sym, ap, ◌∙◌, inl, inr, arith, subst, length-append}
-use Rattle.std.specs.Prelude.{ℤ, All, nat_lt}
+use Rattle.std.specs.Prelude.{ℤ, ◌+ℤ◌, All, nat_lt}
 use Rattle.std.proofs.lemmas.Bool.{cases_eq, eq-eqb, ne_eqb}
 use Rattle.std.proofs.lemmas.Bool.Decides.{nat_tests}
 use Rattle.std.proofs.lemmas.List.{length-map, length-drop}
 use Rattle.std.proofs.lemmas.List.Elements.{All-append, All-cons, All-map, All-nil, All-weaker, All-head, All-tail}
-use Rattle.signed_sum.specs.Lists.{is_degenerate, numbers_from, occurs}
-use Rattle.signed_sum.specs.Sums.{kept_terms}
-use Rattle.signed_sum.proofs.ListLemmas.{occurs-01, occurs-apart, occurs-cons, occurs-later, occurs-more, occurs-self, occurs-tail}
-use Rattle.surjection_law.specs.Boundary.{caesura_count}
-use Rattle.surjection_law.specs.Surjections.{arity, IsOnto, IsSurjection, multiplicity, surjection_degree}
+use Rattle.signed_sum.specs.Names.{is_degenerate, numbers_from, occurs, kept_terms, signed, value_at}
+use Rattle.signed_sum.proofs.Names.{occurs-01, occurs-apart, occurs-cons, occurs-later, occurs-more, occurs-self, occurs-tail}
+use Rattle.surjection_law.specs.Names.{caesura_count, arity, IsOnto, IsSurjection, multiplicity, surjection_degree, surjection_boundary}
 use Rattle.surjection_law.proofs.BoundaryByValueTwice.{multiplicity-other, multiplicity-same}
 use Rattle.surjection_law.proofs.SurjectionTerms.{arity-le, arity-positive, multiplicity-at_least}
-use Rattle.interval_cut_law.specs.Cuts.{rising_lists}
+use Rattle.interval_cut_law.specs.Names.{rising_lists}
 use Rattle.operad_law.proofs.PermLemmas.{numbers_from-has}
 use Rattle.surjection.specs.ActionLaws.{InRange, among, arity-is, in_numbers, in_range, range-append}
-use Rattle.surjection.specs.Composition.{IsWithinLimits, composition, cut_entries, cut_term, cuts_at, grown, lifted, numbered, piece, spliced, values_of, with_values}
-use Rattle.surjection.specs.Splicing.{IsRising}
-
--- ---- cuts
-
-rising-down : (a n : ℕ) (p : List ℕ) → IsRising (suc a) p n → IsRising a p n
-rising-down a n [] h = omega (arith, h)
-rising-down a n (b ∷ p) h = (let k = h.0 in omega arith, h.1)
-
-pub rising-bound : (a n : ℕ) (p : List ℕ) → IsRising a p n → a ≤ n
-rising-bound a n [] h = h
-rising-bound a n (b ∷ p) h = let k = h.0 in let l = rising-bound b n p h.1 in omega arith
-
--- a list of k numbers from a to n
-abbrev pub IsCutOf : ℕ → ℕ → ℕ → List ℕ → Type 0
-IsCutOf a n k p = IsRising a p n × (length p ≡ k)
-
-pub each_cut : (k e a n : ℕ) → a + e ≡ n → All (IsCutOf a n k) (rising_lists a e k)
-each_cut zero e a n q = let h : a ≤ n = omega arith in All-cons (IsCutOf a n 0) [] [] (h, refl) (All-nil (IsCutOf a n 0))
-each_cut (suc k) zero a n q =
-    let h : a ≤ a = omega arith in
-    All-map (IsCutOf a n (suc k)) (λ p. a ∷ p) (rising_lists a zero k)
-    (All-weaker (IsCutOf a n k) (λ p. IsCutOf a n (suc k) (a ∷ p)) (λ p c. ((h, c.0), ap suc c.1)) (rising_lists a zero k) (each_cut k zero a n q))
-each_cut (suc k) (suc e) a n q =
-    let h : a ≤ a = omega arith in
-    All-append (IsCutOf a n (suc k)) (map (λ p. a ∷ p) (rising_lists a (suc e) k)) (rising_lists (suc a) e (suc k))
-    (All-map (IsCutOf a n (suc k)) (λ p. a ∷ p) (rising_lists a (suc e) k)
-    (All-weaker (IsCutOf a n k) (λ p. IsCutOf a n (suc k) (a ∷ p)) (λ p c. ((h, c.0), ap suc c.1)) (rising_lists a (suc e) k) (each_cut k (suc e) a n q)))
-    (All-weaker (IsCutOf (suc a) n (suc k)) (IsCutOf a n (suc k)) (λ p c. (rising-down a n p c.0, c.1)) (rising_lists (suc a) e (suc k)) (each_cut (suc k) e (suc a) n (omega arith)))
+use Rattle.composition_law.proofs.Surjections.{surjection_leibniz}
+use Rattle.surjection_law.proofs.Caesuras.{caesura_law}
+use Rattle.composition_law.specs.Surjections.{IsWithinLimits, composition, cut_entries, cut_term, cuts_at, grown, lifted, numbered, piece, spliced, values_of, with_values, IsRising}
+use Rattle.composition_law.proofs.Cuts.{IsCutOf, each_cut, rising-bound}
 
 -- ---- values
 
@@ -386,3 +359,11 @@ compose_arity k u v a b c d e = arities k u v (are_composed k u v a b c d e)
 
 pub compose_degree : (k : ℕ) (u v : List ℕ) → IsSurjection u → IsSurjection v → 1 ≤ k → k ≤ arity u → IsWithinLimits u v → All (λ t. surjection_degree t.0 ≡ surjection_degree u + surjection_degree v) (composition k u v)
 compose_degree k u v a b c d e = degrees k u v (are_composed k u v a b c d e)
+
+-- ---- the Leibniz rule
+pub leibniz : (phi : List ℕ → ℤ) (k : ℕ) (u v : List ℕ) → IsSurjection u → IsSurjection v → 1 ≤ k → k ≤ arity u →
+    value_at (λ w. value_at phi (surjection_boundary w)) (composition k u v)
+    ≡ value_at (λ x. value_at phi (composition k x v)) (surjection_boundary u) +ℤ signed (surjection_degree u) (value_at (λ y. value_at phi (composition k u y)) (surjection_boundary v))
+leibniz phi k u v s t a b =
+    surjection_leibniz.boundary k (arity u) (arity v) u v phi a b (arity-positive v t) s.onto t.onto
+    ∙ ap (λ d. value_at (λ x. value_at phi (composition k x v)) (surjection_boundary u) +ℤ signed d (value_at (λ y. value_at phi (composition k u y)) (surjection_boundary v))) (sym (caesura_law.degree u s))

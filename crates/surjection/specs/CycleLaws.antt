@@ -5,12 +5,9 @@ use Rattle.std.proofs.Math.Nat.{add-mod_right, mod-eq_of_lt}
 use Rattle.std.proofs.lemmas.Bool.{eqb-true, eq-eqb}
 use Rattle.std.proofs.lemmas.List.{length-map}
 use Rattle.std.proofs.lemmas.List.Elements.{All-weaker}
-use Rattle.signed_sum.specs.Permutations.{cycle, turned}
-use Rattle.signed_sum.specs.Sums.{value_at}
-use Rattle.signed_sum.specs.Turns.{IsSign, after_turns}
-use Rattle.signed_sum.proofs.Ring.{one-mul}
-use Rattle.surjection_law.specs.Boundary.{surjection_boundary}
-use Rattle.surjection_law.specs.Surjections.{IsOnto, IsSurjection, arity, surjection_degree}
+use Rattle.signed_sum.specs.Names.{cycle, turned, value_at, IsSign, after_turns}
+use Rattle.signed_sum.proofs.Names.{one-mul}
+use Rattle.surjection_law.specs.Names.{surjection_boundary, IsOnto, IsSurjection, arity, surjection_degree}
 use Rattle.surjection_law.proofs.SurjectionTerms.{arity-boundary, arity-positive}
 use Rattle.operad_law.proofs.PermLemmas.{Permutes, Permutes-cycle, map-shifted, shifted}
 use Rattle.surjection.specs.Action.{turned_values}

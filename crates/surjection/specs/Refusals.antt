@@ -1,7 +1,7 @@
 -- Why a list is no surjection.
 use Rattle.std.specs.Prelude.{ℕ, ◌-◌, ◌==◌, ◌||◌, nat_lt, List, [], ◌∷◌, Option, None, Some, cond, length, suc, find}
-use Rattle.signed_sum.specs.Lists.{begins_with, numbers_from, occurs}
-use Rattle.surjection_law.specs.Surjections.{arity}
+use Rattle.signed_sum.specs.Names.{begins_with, numbers_from, occurs}
+use Rattle.surjection_law.specs.Names.{arity}
 use Rattle.surjection.specs.declared.surj.NotASurjection.{NotASurjection}
 use Rattle.surjection.specs.declared.surj.NotASurjection.TheVariants.{Empty, TooLong, Gap, EqualNeighbours}
 

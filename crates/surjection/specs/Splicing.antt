@@ -1,8 +1,8 @@
 -- Compositions as they are made: forms for proofs. An entry carries a mark in the place of a number.
 use Rattle.std.specs.Prelude.{◌≡◌, ℕ, ◌+◌, ◌-◌, ◌≤◌, ◌==◌, Bool, false, not, cond, List, [], ◌∷◌, ◌++◌, length, map, ℤ, pos, negsuc}
-use Rattle.signed_sum.specs.Lists.{is_degenerate, occurs}
-use Rattle.surjection_law.specs.Surjections.{IsSurjection, multiplicity}
-use Rattle.surjection.specs.Composition.{spliced, values_of}
+use Rattle.signed_sum.specs.Names.{is_degenerate, occurs}
+use Rattle.surjection_law.specs.Names.{IsSurjection, multiplicity}
+use Rattle.composition_law.specs.Surjections.{IsRising, spliced, values_of}
 use Rattle.surjection.specs.declared.composition.Mark.{Mark}
 use Rattle.surjection.specs.declared.composition.Mark.TheVariants.{Plain, Outer, Inner}
 
@@ -39,11 +39,6 @@ marked_term k outer inner cut =
 -- the terms of the cuts that begin with `cut` and go on with one of the lists
 abbrev pub terms_behind : ℕ → List (ℕ × Mark) → List (ℕ × Mark) → List ℕ → List (List ℕ) → List (List ℕ × ℤ)
 terms_behind k outer inner cut ps = map (λ p. marked_term k outer inner (cut ++ p)) ps
-
--- no number of the list is below a or below the one before it, and none is above n
-abbrev pub IsRising : ℕ → List ℕ → ℕ → Type 0
-IsRising a [] n = a ≤ n
-IsRising a (b ∷ p) n = (a ≤ b) × IsRising b p n
 
 -- the cut has a place for each occurrence of k but the last
 pub record IsCutAt (k : ℕ) (outer inner : List (ℕ × Mark)) (cut : List ℕ) : Type 0 where

@@ -1,6 +1,6 @@
 -- Steps of the sums over places and over cuts: forms for proofs.
 use Rattle.std.specs.Prelude.{◌≡◌, ℕ, ◌+◌, ◌≤◌, suc, List, length, ℤ, ◌+ℤ◌, ◌*ℤ◌}
-use Rattle.signed_sum.specs.Sums.{normalized, value_at, weight_of}
+use Rattle.signed_sum.specs.Names.{normalized, value_at, weight_of}
 
 -- `new` is `old` plus s times the list w, where that is not degenerate
 pub record AddsList (w : List ℕ) (s : ℤ) (old new : List (List ℕ × ℤ)) : Type 0 where

@@ -1,20 +1,16 @@
 //! Compositions of surjections, after Berger and Fresse: sums over the cuts of one of them, each term
 //! with the sign of the rearrangement of the caesuras.
 ghost use Rattle.std.specs.Prelude.{◌≡◌, ◌≤◌, ◌<◌, ◌==◌, ◌+◌, ◌-◌, ◌^◌, ◌++◌, cond, drop, length, nat_lt, slice_index, pos, negsuc, IfOk, OnOk};
-ghost use Rattle.signed_sum.specs.Lists.{occurs};
-ghost use Rattle.signed_sum.specs.Sums.{weight_of};
-ghost use Rattle.surjection_law.specs.Surjections.{arity, IsSurjection, multiplicity};
-ghost use Rattle.interval_cut_law.specs.Cuts.{rising_lists};
+ghost use Rattle.signed_sum.specs.Names.{occurs, weight_of};
+ghost use Rattle.surjection_law.specs.Names.{arity, IsSurjection, multiplicity};
+ghost use Rattle.interval_cut_law.specs.Names.{rising_lists};
 ghost use Rattle.operad_law.specs.FormalSums.{IsSameSum};
-ghost use Rattle.surjection.specs.Composition.{IsWithinLimits, composition, cut_count, grown, lifted, piece, spliced, values_of, with_values};
-ghost use Rattle.surjection.specs.CompositionLaws.{compose_arity as compose_arity_law, compose_degree as compose_degree_law, compose_valid as compose_valid_law};
-ghost use Rattle.surjection.specs.Splicing.{IsCutAt, IsReady, IsRising, inner_after_mark, is_odd_order, marked, marked_term, odd_after_mark, terms_behind};
-ghost use Rattle.surjection.specs.Walk.{AddsList, AddsTerms};
-ghost use Rattle.surjection.specs.declared.composition.Mark.TheVariants.{Inner, Outer, Plain};
+ghost use Rattle.composition_law.specs.Surjections.{IsWithinLimits, composition, cut_count, grown, lifted, piece, spliced, values_of, with_values, IsRising};
+ghost use Rattle.surjection.specs.Names.{compose_arity as compose_arity_law, compose_degree as compose_degree_law, compose_valid as compose_valid_law, leibniz as leibniz_law, IsCutAt, IsReady, inner_after_mark, is_odd_order, marked, marked_term, odd_after_mark, terms_behind, AddsList, AddsTerms, Inner, Outer, Plain};
 
 use crate::surj::{Surj, add_list, greatest, stands_in};
 use counting::binomial_up_to;
-use operad_law::composing::Composing;
+use operad_law::composing::{Composing, Leibniz};
 use operad_law::formal_sum::{FormalSum, MOST_WEIGHT, SumEnd};
 use smallvec::SmallVec;
 use std::alloc::{AllocError, Global};
@@ -65,6 +61,10 @@ impl Composing for Surj {
     ghost compose_arity = { compose_arity_law };
 
     ghost compose_degree = { compose_degree_law };
+}
+
+impl Leibniz for Surj {
+    ghost leibniz = { leibniz_law };
 }
 
 // How often a value comes.

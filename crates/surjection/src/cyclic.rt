@@ -1,9 +1,8 @@
 //! The turn of surjections: the cycle is applied to each value.
 ghost use Rattle.std.specs.Prelude.{◌≡◌, ◌<◌, IfOk, map};
-ghost use Rattle.signed_sum.specs.Permutations.{cycle};
-ghost use Rattle.surjection_law.specs.Surjections.{IsSurjection, arity};
-ghost use Rattle.surjection.specs.Action.{turned_values};
-ghost use Rattle.surjection.specs.CycleLaws.{has_arity, boundary_fits as boundary_fits_law, boundary_turn as boundary_turn_law, turn_degree as turn_degree_law, turn_fits as turn_fits_law, turn_sign as turn_sign_law, turn_valid as turn_valid_law, turned_round as turned_round_law};
+ghost use Rattle.signed_sum.specs.Names.{cycle};
+ghost use Rattle.surjection_law.specs.Names.{IsSurjection, arity};
+ghost use Rattle.surjection.specs.Names.{turned_values, has_arity, boundary_fits as boundary_fits_law, boundary_turn as boundary_turn_law, turn_degree as turn_degree_law, turn_fits as turn_fits_law, turn_sign as turn_sign_law, turn_valid as turn_valid_law, turned_round as turned_round_law};
 
 use crate::surj::Surj;
 use operad_law::cyclic::CyclicModel;

@@ -1,22 +1,18 @@
 -- The walk over all rows of a tuple, and the laws of its sum.
-use Rattle.std.proofs.Common.{◌≡◌, ℕ, zero, suc, ◌+◌, ◌-◌, ◌<◌, ◌≤◌, ◌==◌, ◌||◌, cond, false, List, [], ◌∷◌, ◌++◌, length, Option, None, Some, is_some, nat_lt, refl, sym, ◌∙◌, ap, subst, inl, inr, arith}
-use Rattle.std.specs.Prelude.{ℤ, pos, ◌+ℤ◌, All, find, map}
-use Rattle.std.proofs.lemmas.Bool.{cases_Bool, le-ltb, ne_eqb}
+use Rattle.std.proofs.Common.{◌≡◌, ℕ, zero, suc, ◌+◌, ◌-◌, ◌<◌, ◌≤◌, ◌==◌, ◌||◌, cond, false, List, [], ◌∷◌, ◌++◌, length, Option, None, Some, is_some, nat_lt, refl, sym, ◌∙◌, ap, subst, inl, inr, arith, ℤ, pos, ◌+ℤ◌, All, find, map, le-ltb, ne_eqb}
+use Rattle.std.proofs.lemmas.Bool.{cases_Bool}
 use Rattle.std.proofs.lemmas.Int.{ints}
 use Rattle.std.proofs.lemmas.List.Elements.{All-cons, All-head, All-nil, All-tail, All-weaker}
-use Rattle.barratt_eccles.specs.Generators.{IsGenerator, tuple_arity, tuple_degree}
+use Rattle.barratt_eccles.specs.Generators.{IsGenerator}
+use Rattle.table_reduction_law.specs.Names.{tuple_arity, tuple_degree, binomial, reduced_lists, table_reduction, unused, IsPermutationOf, IsTuple, permuted_tuple, tuple_boundary}
 use Rattle.operad_law.proofs.PermLemmas.{numbers_from-has}
 use Rattle.operad_law.specs.FormalSums.{IsSameSum}
-use Rattle.signed_sum.proofs.ListLemmas.{numbers_from-least, occurs-01}
-use Rattle.signed_sum.specs.Lists.{IsDistinct, is_degenerate, less, numbers_from, occurs}
-use Rattle.signed_sum.specs.Permutations.{entry_at}
-use Rattle.signed_sum.specs.Sums.{normalized, total, value_at}
+use Rattle.signed_sum.proofs.Names.{numbers_from-least, occurs-01}
+use Rattle.signed_sum.specs.Names.{IsDistinct, is_degenerate, less, numbers_from, occurs, entry_at, normalized, total, value_at}
 use Rattle.surjection.proofs.RefusalLemmas.{degenerate-is}
-use Rattle.surjection.specs.ActionLaws.{among, arity-is}
-use Rattle.surjection.specs.Refusals.{equal_neighbours_from, gap_fault, gap_of, neighbours_fault, surjection_fault}
+use Rattle.surjection.specs.Names.{among, arity-is, equal_neighbours_from, gap_fault, gap_of, neighbours_fault, surjection_fault}
 use Rattle.surjection.specs.declared.surj.NotASurjection.TheVariants.{Empty, TooLong}
-use Rattle.surjection_law.specs.Boundary.{surjection_boundary}
-use Rattle.surjection_law.specs.Surjections.{IsOnto, arity}
+use Rattle.surjection_law.specs.Names.{surjection_boundary, IsOnto, arity}
 use Rattle.table_reduction.proofs.WalkLemmas.{needed-ahead}
 use Rattle.table_reduction.specs.Walks.{AddsLists, needed, weight_needed}
 use Rattle.table_reduction_law.proofs.FormalSums.{reduction_action_law, reduction_boundary_law, value_at-table_reduction}
@@ -25,9 +21,6 @@ use Rattle.table_reduction_law.proofs.ReductionBoundary.{reduced-walked}
 use Rattle.table_reduction_law.proofs.ReductionWalks.{walk}
 use Rattle.table_reduction_law.proofs.RowCounts.{reduced_lists-length}
 use Rattle.table_reduction_law.proofs.UnusedEntries.{unused-none}
-use Rattle.table_reduction_law.specs.Counts.{binomial}
-use Rattle.table_reduction_law.specs.Reduction.{reduced_lists, table_reduction, unused}
-use Rattle.table_reduction_law.specs.Tuples.{IsPermutationOf, IsTuple, permuted_tuple, tuple_boundary}
 
 pub rows-distinct : (r : ℕ) (ws : List (List ℕ)) → IsTuple r ws → All IsDistinct ws
 rows-distinct r [] t = All-nil IsDistinct

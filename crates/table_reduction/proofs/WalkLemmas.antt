@@ -1,26 +1,20 @@
 -- The steps of a walk over the rows of a tuple.
-use Rattle.std.proofs.Common.{◌≡◌, ℕ, ◌==◌, ◌||◌, false, true, List, [], ◌∷◌, ◌++◌, length, refl, sym, ◌∙◌, ap, subst, arith, append_assoc, suc, ◌+◌, ◌≤◌, ◌^◌, ◌⊎◌, eqb-true, eq-eqb, inl, inr, Ordering, Equal}
-use Rattle.std.specs.Prelude.{ℤ, pos, ◌+ℤ◌}
+use Rattle.std.proofs.Common.{◌≡◌, ℕ, ◌==◌, ◌||◌, false, true, List, [], ◌∷◌, ◌++◌, length, refl, sym, ◌∙◌, ap, subst, arith, append_assoc, suc, ◌+◌, ◌≤◌, ◌^◌, ◌⊎◌, eqb-true, eq-eqb, inl, inr, Ordering, Equal, ℤ, pos, ◌+ℤ◌, ne_eqb, append-nil, Bool, cond, is_some, MatchOption, Option, None, Some}
 use Rattle.std.proofs.lemmas.Int.{ints}
-use Rattle.std.proofs.lemmas.Bool.{eqb-false, ne_eqb, or_left, or_right}
-use Rattle.std.proofs.lemmas.List.{append-nil}
+use Rattle.std.proofs.lemmas.Bool.{eqb-false, or_left, or_right}
 use Rattle.operad_law.proofs.PlusTerm.{value_at-plus_term, weight_of-plus_term}
 use Rattle.operad_law.specs.FormalSums.{plus_term}
-use Rattle.signed_sum.proofs.ListLemmas.{Alike, occurs-01}
-use Rattle.signed_sum.proofs.Ring.{one-mul}
-use Rattle.signed_sum.proofs.SumLemmas.{fun_ext, restricted-gone, restricted-there}
-use Rattle.signed_sum.specs.Lists.{is_degenerate, occurs}
-use Rattle.signed_sum.specs.Sums.{normalized, value_at, weight_of}
+use Rattle.signed_sum.proofs.Names.{Alike, occurs-01, one-mul, fun_ext, restricted-gone, restricted-there}
+use Rattle.signed_sum.specs.Names.{is_degenerate, occurs, normalized, value_at, weight_of}
 use Rattle.std.specs.Borrow.{Bor}
 use Rattle.std.specs.List.{IsFirstAndRest}
-use Rattle.std.specs.Prelude.{Bool, cond, is_some, MatchOption, Option, None, Some}
-use Rattle.surjection.specs.Refusals.{surjection_fault}
+use Rattle.surjection.specs.Names.{surjection_fault}
 use Rattle.surjection.specs.declared.surj.NotASurjection.{NotASurjection}
 use Rattle.table_reduction.specs.Walks.{AddsLists, ahead, count_ahead, is_last, needed, weight_needed}
 use Rattle.table_reduction_law.proofs.ReductionWalks.{walk, walk-used, walk-zero}
 use Rattle.table_reduction_law.proofs.RowsAsWalks.{inner}
 use Rattle.table_reduction_law.proofs.UnusedEntries.{unused-absent, unused-cong, unused-cons, unused-out}
-use Rattle.table_reduction_law.specs.Reduction.{cons_if_zero, unused}
+use Rattle.table_reduction_law.specs.Names.{cons_if_zero, unused}
 
 -- the sums over what stands ahead, in whole and in natural numbers
 walk-count : (ws : List (List ℕ)) (xs a : List ℕ) (f : List ℕ → ℕ) → walk ws xs a (λ u. pos (f u)) ≡ pos (count_ahead ws xs a f)

@@ -1,9 +1,8 @@
 -- What a walk over the rows of a tuple adds to a sum.
 use Rattle.std.specs.Prelude.{◌≡◌, ℕ, suc, ◌+◌, ◌^◌, ◌≤◌, ◌==◌, length, Bool, false, cond, is_some, List, [], ◌∷◌, ◌++◌, ℤ, ◌+ℤ◌}
-use Rattle.signed_sum.specs.Lists.{is_degenerate}
-use Rattle.signed_sum.specs.Sums.{normalized, value_at, weight_of}
-use Rattle.surjection.specs.Refusals.{surjection_fault}
-use Rattle.table_reduction_law.specs.Reduction.{unused}
+use Rattle.signed_sum.specs.Names.{is_degenerate, normalized, value_at, weight_of}
+use Rattle.surjection.specs.Names.{surjection_fault}
+use Rattle.table_reduction_law.specs.Names.{unused}
 use Rattle.table_reduction_law.proofs.ReductionWalks.{walk}
 
 -- whether x is the last entry

@@ -1,13 +1,9 @@
 //! The reduction of tuples.
 ghost use Rattle.std.specs.Prelude.{◌≡◌, ◌↔◌, ◌≤◌, ◌<◌, ◌+◌, ◌-◌, ◌^◌, ℕ, ℤ, List, Err, IfOk, map};
-ghost use Rattle.signed_sum.specs.Permutations.{entry_at};
-ghost use Rattle.signed_sum.specs.Sums.{value_at, weight_of};
+ghost use Rattle.signed_sum.specs.Names.{entry_at, value_at, weight_of};
 ghost use Rattle.operad_law.specs.FormalSums.{IsSameSum};
-ghost use Rattle.surjection_law.specs.Boundary.{surjection_boundary};
-ghost use Rattle.table_reduction_law.specs.Counts.{binomial};
-ghost use Rattle.table_reduction_law.specs.Reduction.{table_reduction};
-ghost use Rattle.table_reduction_law.specs.Tuples.{IsPermutationOf, IsTuple, permuted_tuple, tuple_boundary};
-ghost use Rattle.barratt_eccles.specs.Generators.{tuple_arity, tuple_degree};
+ghost use Rattle.surjection_law.specs.Names.{surjection_boundary};
+ghost use Rattle.table_reduction_law.specs.Names.{binomial, table_reduction, IsPermutationOf, IsTuple, permuted_tuple, tuple_boundary, tuple_arity, tuple_degree};
 
 use crate::walk::Walk;
 use barratt_eccles::tuple::Tuple;

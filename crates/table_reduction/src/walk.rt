@@ -1,7 +1,6 @@
 //! The walk over the lists that come from a tuple.
 ghost use Rattle.std.specs.Prelude.{◌≡◌, ◌==◌, ◌≤◌, ◌+◌, ◌^◌, ◌∷◌, [], false, All, OnOk};
-ghost use Rattle.signed_sum.specs.Lists.{IsDistinct, is_degenerate, occurs};
-ghost use Rattle.signed_sum.specs.Sums.{weight_of};
+ghost use Rattle.signed_sum.specs.Names.{IsDistinct, is_degenerate, occurs, weight_of};
 ghost use Rattle.table_reduction.specs.Walks.{AddsLists, is_last, needed};
 
 use operad_law::formal_sum::{FormalSum, SumEnd};

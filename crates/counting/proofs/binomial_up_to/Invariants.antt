@@ -1,5 +1,5 @@
 use Rattle.std.proofs.Common.{◌≡◌, ◌+◌, ◌<◌, ◌^◌}
-use Rattle.table_reduction_law.specs.Counts.{binomial}
+use Rattle.table_reduction_law.specs.Names.{binomial}
 use Rattle.counting.proofs.binomial_up_to.Given as goal
 
 abbrev pub invariant-loop-i : goal.invariant-loop-i

@@ -1,8 +1,6 @@
-use Rattle.std.proofs.Common.{sym, ap, ◌∙◌, ◌≡◌, ◌≤◌, ◌-◌, ◌^◌, ◌++◌, ◌∷◌, [], length, drop, arith, eqb-true, refl, subst, w64, to_z, of_z}
-use Rattle.std.specs.Prelude.{ℤ, nat_abs}
-use Rattle.std.proofs.lemmas.List.{length-drop}
+use Rattle.std.proofs.Common.{sym, ap, ◌∙◌, ◌≡◌, ◌≤◌, ◌-◌, ◌^◌, ◌++◌, ◌∷◌, [], length, drop, arith, eqb-true, refl, subst, w64, to_z, of_z, ℤ, nat_abs, length-drop}
 use Rattle.std.proofs.lemmas.Result.{on_ok_weaker}
-use Rattle.signed_sum.specs.Signs.{signed}
+use Rattle.signed_sum.specs.Names.{signed}
 use Rattle.barratt_eccles.specs.CompositionWalk.{AddsPaths}
 use Rattle.barratt_eccles.proofs.EntryLemmas.{rest-slice}
 use Rattle.barratt_eccles.proofs.PathLemmas.{AddsPaths-empty, AddsPaths-end, AddsPaths-next, AddsPaths-none, AddsPaths-same, IsHere, bits-same, many, point-end, point-x, point-y, room-end, room-x, room-y, signed-small, within-entry}

@@ -1,5 +1,5 @@
 use Rattle.std.proofs.Common.{◌≡◌, take}
-use Rattle.barratt_eccles.specs.Composition.{inserted}
+use Rattle.composition_law.specs.Tuples.{inserted}
 use Rattle.barratt_eccles.proofs.composing.composed_entry.Given as goal
 
 abbrev pub invariant-loop-value : goal.invariant-loop-value

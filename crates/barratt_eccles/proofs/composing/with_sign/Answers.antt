@@ -1,7 +1,6 @@
-use Rattle.std.proofs.Common.{arith, ◌≡◌, sym, ◌∙◌, w64, to_z, of_z}
-use Rattle.std.specs.Prelude.{pos, neg_ℤ, ◌-ℤ◌}
+use Rattle.std.proofs.Common.{arith, ◌≡◌, sym, ◌∙◌, w64, to_z, of_z, pos, neg_ℤ, ◌-ℤ◌}
 use Rattle.std.proofs.lemmas.Int.{ints, to_z-of_z}
-use Rattle.signed_sum.proofs.SignLemmas.{signed-parity}
+use Rattle.signed_sum.proofs.Names.{signed-parity}
 use Rattle.barratt_eccles.proofs.composing.with_sign.Goals as goal
 
 pub returns-then-changes-eq1 : goal.returns-then-changes-eq1

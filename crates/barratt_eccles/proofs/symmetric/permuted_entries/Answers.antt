@@ -1,5 +1,5 @@
 use Rattle.std.proofs.Common.{sym, ap, ◌∙◌, ◌++◌, ◌∷◌, [], map}
-use Rattle.signed_sum.specs.Permutations.{entry_at}
+use Rattle.signed_sum.specs.Names.{entry_at}
 use Rattle.barratt_eccles.proofs.EntryLemmas.{entry-length, map-next}
 use Rattle.barratt_eccles.proofs.symmetric.permuted_entries.Goals as goal
 

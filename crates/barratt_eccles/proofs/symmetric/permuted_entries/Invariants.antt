@@ -1,5 +1,5 @@
 use Rattle.std.proofs.Common.{◌≡◌, take}
-use Rattle.table_reduction_law.specs.Tuples.{permuted_tuple}
+use Rattle.table_reduction_law.specs.Names.{permuted_tuple}
 use Rattle.barratt_eccles.proofs.symmetric.permuted_entries.Given as goal
 
 abbrev pub invariant-loop-entry : goal.invariant-loop-entry

@@ -1,6 +1,6 @@
 use Rattle.std.proofs.Common.{sym, ap, ◌∙◌, ◌≡◌, false, w64}
 use Rattle.std.proofs.lemmas.Int.{to_z-of_z}
-use Rattle.table_reduction_law.specs.Tuples.{is_zero_tuple}
+use Rattle.table_reduction_law.specs.Names.{is_zero_tuple}
 use Rattle.barratt_eccles.proofs.FaceLemmas.{AddsFace-term}
 use Rattle.barratt_eccles.proofs.tuple.add_face.Goals as goal
 

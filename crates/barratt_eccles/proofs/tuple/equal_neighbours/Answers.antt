@@ -1,5 +1,5 @@
 use Rattle.std.proofs.Common.{arith, sym, ◌∙◌, ◌≡◌, true, false}
-use Rattle.signed_sum.specs.Lists.{is_same_list}
+use Rattle.signed_sum.specs.Names.{is_same_list}
 use Rattle.barratt_eccles.proofs.RefusalLemmas.{neighbours-end, neighbours-found, neighbours-next, same-test}
 use Rattle.barratt_eccles.proofs.tuple.equal_neighbours.Goals as goal
 

@@ -1,6 +1,4 @@
-use Rattle.std.proofs.Common.{sym, ◌∙◌, subst}
-use Rattle.std.specs.Prelude.{All}
-use Rattle.std.proofs.lemmas.List.{take_all}
+use Rattle.std.proofs.Common.{sym, ◌∙◌, subst, All, take_all}
 use Rattle.operad_law.specs.Permutations.{IsPerm}
 use Rattle.barratt_eccles.proofs.RefusalLemmas.{all-next, length-next}
 use Rattle.barratt_eccles.proofs.tuple.other_length.Goals as goal

@@ -1,7 +1,6 @@
-use Rattle.std.proofs.Common.{◌≡◌, drop, take}
-use Rattle.std.specs.Prelude.{All}
+use Rattle.std.proofs.Common.{◌≡◌, drop, take, All}
 use Rattle.operad_law.specs.Permutations.{IsPerm}
-use Rattle.barratt_eccles.specs.Generators.{tuple_arity}
+use Rattle.table_reduction_law.specs.Names.{tuple_arity}
 use Rattle.barratt_eccles.specs.Refusals.{other_length_from}
 use Rattle.barratt_eccles.proofs.tuple.other_length.Given as goal
 

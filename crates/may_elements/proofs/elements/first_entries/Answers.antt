@@ -1,6 +1,6 @@
 use Rattle.std.proofs.Common.{◌≡◌, ◌++◌, ◌∷◌, [], ap, arith, ◌∙◌, sym}
 use Rattle.may_elements.proofs.ElementLemmas.{lead-even, lead-odd}
-use Rattle.signed_sum.specs.Permutations.{cycle_power}
+use Rattle.signed_sum.specs.Names.{cycle_power}
 use Rattle.may_elements.proofs.elements.first_entries.Goals as goal
 use Rattle.may_elements.proofs.elements.first_entries.Goals.{then-d-eq1+in_ok-cycle-2+in_ok-push-2, else-d-eq1}
 

@@ -1,11 +1,9 @@
 use Rattle.std.proofs.Common.{◌≡◌, ◌++◌, ◌+◌, ◌-◌, ◌*◌, ◌^◌, ◌<◌, ◌≤◌, ◌∷◌, [], suc, Err, List, ℕ, ap, arith, length, sym, subst, ◌∙◌}
 use Rattle.std.proofs.lemmas.Result.{IfOk-weaker}
-use Rattle.barratt_eccles.specs.Generators.{tuple_arity, tuple_degree}
+use Rattle.table_reduction_law.specs.Names.{tuple_arity, tuple_degree, IsTuple, is_degenerate_tuple}
 use Rattle.may_elements.specs.Pairs.{IsPairSum, list_count}
 use Rattle.may_elements.proofs.PairLemmas.{arity-is, count-less, count-more, count-none, count-same, degree-pushed, light-more, pairs-degenerate, part-all, part-more, pushed, some-pair, with_pair}
-use Rattle.signed_sum.specs.Permutations.{cycle_power}
-use Rattle.signed_sum.specs.Sums.{weight_of}
-use Rattle.table_reduction_law.specs.Tuples.{IsTuple, is_degenerate_tuple}
+use Rattle.signed_sum.specs.Names.{cycle_power, weight_of}
 use Rattle.may_elements.proofs.pairs.+pairs.Goals as goal
 
 pub sum_over_pairs-reduce_entries-requires-clause-wide : goal.sum_over_pairs-reduce_entries-requires-clause-wide

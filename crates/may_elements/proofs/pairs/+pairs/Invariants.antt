@@ -1,6 +1,6 @@
 use Rattle.std.proofs.Common.{◌≡◌, ◌+◌, ◌-◌, ◌*◌, ◌≤◌}
-use Rattle.barratt_eccles.specs.Generators.{tuple_degree}
-use Rattle.signed_sum.specs.Sums.{weight_of}
+use Rattle.table_reduction_law.specs.Names.{tuple_degree}
+use Rattle.signed_sum.specs.Names.{weight_of}
 use Rattle.may_elements.specs.Pairs.{IsPartSum, list_count}
 use Rattle.may_elements.proofs.pairs.+pairs.Given as goal
 

@@ -1,8 +1,7 @@
-use Rattle.std.proofs.Common.{arith, ◌≤◌, w64, ap}
-use Rattle.std.specs.Prelude.{nat_abs}
+use Rattle.std.proofs.Common.{arith, ◌≤◌, w64, ap, nat_abs}
 use Rattle.std.proofs.Math.Nat.{le_trans, mul-le-mul_left}
 use Rattle.std.proofs.lemmas.Int.{to_z-of_z}
-use Rattle.signed_sum.specs.Sums.{weight_of}
+use Rattle.signed_sum.specs.Names.{weight_of}
 use Rattle.operad_law.proofs.Unique.{weight_least}
 use Rattle.operad_law.proofs.ScaledSums.{SumsBoundaries-one}
 use Rattle.std.proofs.lemmas.Result.{IfOk-weaker}

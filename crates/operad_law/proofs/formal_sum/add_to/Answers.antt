@@ -1,6 +1,5 @@
-use Rattle.std.proofs.Common.{arith, rules, sym, ap, ◌∙◌, ◌<◌, ◌≤◌, ◌+◌, ◌≢◌, length, get_or, Equal, w64, FitsSigned}
-use Rattle.std.specs.Prelude.{ℤ, ◌+ℤ◌, nat_abs}
-use Rattle.signed_sum.specs.Sums.{weight_of}
+use Rattle.std.proofs.Common.{arith, rules, sym, ap, ◌∙◌, ◌<◌, ◌≤◌, ◌+◌, ◌≢◌, length, get_or, Equal, w64, FitsSigned, ℤ, ◌+ℤ◌, nat_abs}
+use Rattle.signed_sum.specs.Names.{weight_of}
 use Rattle.std.proofs.lemmas.Int.{ints, to_z-of_z}
 use Rattle.operad_law.proofs.TermPlaces.{plus_term-at, plus_term-gap, absent_here, equal_here, nothing_added, one_added, zero_bits, nonzero_bits, weight_at, weight_inserted, weight_changed}
 use Rattle.operad_law.proofs.formal_sum.add_to.Goals as goal

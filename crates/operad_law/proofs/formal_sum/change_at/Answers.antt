@@ -1,8 +1,7 @@
-use Rattle.std.proofs.Common.{arith, sym, ap, ◌∙◌, ◌≡◌, ◌≤◌, ◌+◌, ◌^◌, FitsSigned, w64, to_z, of_z, false, inl, inr, refl}
-use Rattle.std.specs.Prelude.{ℤ, pos, ◌+ℤ◌, nat_abs}
+use Rattle.std.proofs.Common.{arith, sym, ap, ◌∙◌, ◌≡◌, ◌≤◌, ◌+◌, ◌^◌, FitsSigned, w64, to_z, of_z, false, inl, inr, refl, ℤ, pos, ◌+ℤ◌, nat_abs}
 use Rattle.std.proofs.lemmas.Int.{ints}
-use Rattle.signed_sum.specs.Sums.{weight_of, is_zero}
-use Rattle.signed_sum.proofs.SumLemmas.{is_zero-true}
+use Rattle.signed_sum.specs.Names.{weight_of, is_zero}
+use Rattle.signed_sum.proofs.Names.{is_zero-true}
 use Rattle.std.proofs.lemmas.Bool.{cases_Bool}
 use Rattle.std.proofs.lemmas.List.{get_or_default}
 use Rattle.operad_law.proofs.TermPlaces.{weight_at, changed}

@@ -1,5 +1,5 @@
 use Rattle.std.proofs.Common.{◌≡◌, ◌+◌, drop}
-use Rattle.signed_sum.specs.Sums.{weight_of}
+use Rattle.signed_sum.specs.Names.{weight_of}
 use Rattle.operad_law.proofs.formal_sum.weight_of_terms.Given as goal
 
 abbrev pub invariant-loop-t : goal.invariant-loop-t

@@ -1,5 +1,5 @@
 use Rattle.std.proofs.Common.{◌≡◌, drop}
-use Rattle.signed_sum.specs.Inversions.{stands_before}
+use Rattle.signed_sum.specs.Names.{stands_before}
 use Rattle.operad_law.proofs.odd_word.comes_before.Given as goal
 
 abbrev pub invariant-loop-z : goal.invariant-loop-z

@@ -1,5 +1,5 @@
 use Rattle.std.proofs.Common.{◌≡◌, ◌==◌, take, drop}
-use Rattle.signed_sum.specs.Lists.{occurs}
+use Rattle.signed_sum.specs.Names.{occurs}
 use Rattle.operad_law.specs.Refusals.{first_place_from, repeated_place}
 use Rattle.operad_law.proofs.odd_word.first_repeated.Given as goal
 

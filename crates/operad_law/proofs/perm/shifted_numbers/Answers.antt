@@ -1,5 +1,5 @@
 use Rattle.std.proofs.Common.{◌≡◌, sym, ap, ◌∙◌, map, arith}
-use Rattle.signed_sum.specs.Lists.{numbers_from}
+use Rattle.signed_sum.specs.Names.{numbers_from}
 use Rattle.operad_law.proofs.PermLemmas.{cycle_power-shifted, shifted, shifted-next}
 use Rattle.operad_law.proofs.perm.shifted_numbers.Goals as goal
 

@@ -1,5 +1,5 @@
 use Rattle.std.proofs.Common.{◌≡◌, map}
-use Rattle.signed_sum.specs.Lists.{numbers_from}
+use Rattle.signed_sum.specs.Names.{numbers_from}
 use Rattle.operad_law.proofs.PermLemmas.{shifted}
 use Rattle.operad_law.proofs.perm.shifted_numbers.Given as goal
 

@@ -1,7 +1,6 @@
-use Rattle.std.proofs.Common.{arith, rules, ap, ◌∙◌, ◌≤◌, ◌<◌, ◌+◌, ◌*◌, ◌^◌, ◌⊎◌, ◌++◌, [], inl, inr, length, Less, Greater, w64, to_z, of_z, FitsSigned}
-use Rattle.std.specs.Prelude.{ℤ, ◌*ℤ◌, nat_abs}
+use Rattle.std.proofs.Common.{arith, rules, ap, ◌∙◌, ◌≤◌, ◌<◌, ◌+◌, ◌*◌, ◌^◌, ◌⊎◌, ◌++◌, [], inl, inr, length, Less, Greater, w64, to_z, of_z, FitsSigned, ℤ, ◌*ℤ◌, nat_abs}
 use Rattle.std.proofs.lemmas.Int.{to_z-of_z}
-use Rattle.signed_sum.specs.Sums.{weight_of}
+use Rattle.signed_sum.specs.Names.{weight_of}
 use Rattle.operad_law.specs.FormalSums.{with_term}
 use Rattle.operad_law.proofs.Merging.{first_within, other_within, both_within, more_first, more_other, more_both, times_bound, times_fits, times_is, sum_fits, sum_is, merged-scaled}
 use Rattle.operad_law.proofs.TermPlaces.{weight_at}

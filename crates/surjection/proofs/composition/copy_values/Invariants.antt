@@ -1,5 +1,5 @@
 use Rattle.std.proofs.Common.{◌≡◌, take}
-use Rattle.surjection.specs.Composition.{values_of}
+use Rattle.composition_law.specs.Surjections.{values_of}
 use Rattle.surjection.proofs.composition.copy_values.Given as goal
 
 abbrev pub invariant-loop-entry : goal.invariant-loop-entry

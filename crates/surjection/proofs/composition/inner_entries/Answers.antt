@@ -1,6 +1,6 @@
 use Rattle.std.proofs.Common.{arith}
-use Rattle.surjection.specs.Composition.{lifted}
-use Rattle.surjection.specs.declared.composition.Mark.TheVariants.{Inner}
+use Rattle.composition_law.specs.Surjections.{lifted}
+use Rattle.surjection.specs.Names.{Inner}
 use Rattle.surjection.proofs.SpliceLemmas.{marks-step}
 use Rattle.surjection.proofs.WalkLemmas.{value_below}
 use Rattle.surjection.proofs.composition.inner_entries.Goals as goal

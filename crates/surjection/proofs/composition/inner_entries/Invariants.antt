@@ -1,7 +1,6 @@
 use Rattle.std.proofs.Common.{◌≡◌, ◌++◌, drop}
-use Rattle.surjection.specs.Composition.{lifted, with_values}
-use Rattle.surjection.specs.Splicing.{marked}
-use Rattle.surjection.specs.declared.composition.Mark.TheVariants.{Inner}
+use Rattle.composition_law.specs.Surjections.{lifted, with_values}
+use Rattle.surjection.specs.Names.{marked, Inner}
 use Rattle.surjection.proofs.composition.inner_entries.Given as goal
 
 abbrev pub invariant-loop-i : goal.invariant-loop-i

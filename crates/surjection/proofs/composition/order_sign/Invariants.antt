@@ -1,5 +1,5 @@
 use Rattle.std.proofs.Common.{◌≡◌, drop}
-use Rattle.surjection.specs.Splicing.{is_odd_order, is_odd_order_from}
+use Rattle.surjection.specs.Names.{is_odd_order, is_odd_order_from}
 use Rattle.surjection.proofs.composition.order_sign.Given as goal
 
 abbrev pub invariant-loop-entry : goal.invariant-loop-entry

@@ -2,7 +2,7 @@ use Rattle.std.proofs.Common.{◌≡◌, ◌+◌, ◌-◌, ◌∙◌, ap, arith,
 use Rattle.std.specs.Prelude.{nat_lt}
 use Rattle.surjection_law.specs.Surjections.{arity}
 use Rattle.surjection_law.proofs.SurjectionTerms.{arity-positive}
-use Rattle.surjection.specs.Composition.{grown}
+use Rattle.composition_law.specs.Surjections.{grown}
 use Rattle.surjection.specs.declared.composition.Mark.TheVariants.{Outer}
 use Rattle.surjection.proofs.SpliceLemmas.{marks-step}
 use Rattle.surjection.proofs.WalkLemmas.{value_below}

@@ -1,6 +1,6 @@
 use Rattle.std.proofs.Common.{◌≡◌, ◌++◌, drop}
 use Rattle.surjection_law.specs.Surjections.{arity}
-use Rattle.surjection.specs.Composition.{grown, with_values}
+use Rattle.composition_law.specs.Surjections.{grown, with_values}
 use Rattle.surjection.specs.Splicing.{marked}
 use Rattle.surjection.specs.declared.composition.Mark.TheVariants.{Outer}
 use Rattle.surjection.proofs.composition.outer_entries.Given as goal

@@ -1,6 +1,5 @@
-use Rattle.std.proofs.Common.{◌+◌, ◌^◌, ◌∙◌, ap, refl, sym}
-use Rattle.std.specs.Prelude.{nat_lt}
-use Rattle.table_reduction_law.specs.Counts.{binomial}
+use Rattle.std.proofs.Common.{◌+◌, ◌^◌, ◌∙◌, ap, refl, sym, nat_lt}
+use Rattle.table_reduction_law.specs.Names.{binomial}
 use Rattle.surjection.proofs.CountLemmas.{count-rising, cut-off}
 use Rattle.surjection.proofs.composition.passes_limit.Goals as goal
 

@@ -1,10 +1,9 @@
 use Rattle.std.proofs.Common.{◌≡◌, ◌-◌, arith, ap, length}
-use Rattle.signed_sum.specs.Sums.{weight_of}
-use Rattle.interval_cut_law.specs.Cuts.{rising_lists}
-use Rattle.surjection_law.specs.Surjections.{multiplicity}
-use Rattle.surjection.specs.Composition.{lifted, values_of}
-use Rattle.surjection.specs.CompositionLaws.{AreComposed, occurs-k}
-use Rattle.surjection.specs.declared.composition.Mark.TheVariants.{Inner}
+use Rattle.signed_sum.specs.Names.{weight_of}
+use Rattle.interval_cut_law.specs.Names.{rising_lists}
+use Rattle.surjection_law.specs.Names.{multiplicity}
+use Rattle.composition_law.specs.Surjections.{lifted, values_of}
+use Rattle.surjection.specs.Names.{AreComposed, occurs-k, Inner}
 use Rattle.surjection.proofs.CutLemmas.{length-marked, often, ready, summed}
 use Rattle.surjection.proofs.composition.sum_of_cuts.Goals as goal
 

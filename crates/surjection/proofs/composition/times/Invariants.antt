@@ -1,5 +1,5 @@
 use Rattle.std.proofs.Common.{◌≡◌, ◌≤◌, ◌+◌, drop}
-use Rattle.surjection_law.specs.Surjections.{multiplicity}
+use Rattle.surjection_law.specs.Names.{multiplicity}
 use Rattle.surjection.proofs.composition.times.Given as goal
 
 abbrev pub invariant-loop-entry : goal.invariant-loop-entry

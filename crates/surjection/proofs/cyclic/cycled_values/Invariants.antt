@@ -1,5 +1,5 @@
 use Rattle.std.proofs.Common.{◌≡◌, map, take}
-use Rattle.signed_sum.specs.Permutations.{cycle}
+use Rattle.signed_sum.specs.Names.{cycle}
 use Rattle.surjection.proofs.cyclic.cycled_values.Given as goal
 
 abbrev pub invariant-loop-value : goal.invariant-loop-value

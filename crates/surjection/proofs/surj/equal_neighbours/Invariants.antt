@@ -1,5 +1,5 @@
 use Rattle.std.proofs.Common.{◌≡◌, ◌-◌, ◌+◌, ◌≤◌, drop, length}
-use Rattle.surjection.specs.Refusals.{equal_neighbours_from}
+use Rattle.surjection.specs.Names.{equal_neighbours_from}
 use Rattle.surjection.proofs.surj.equal_neighbours.Given as goal
 
 abbrev pub invariant-loop-i : goal.invariant-loop-i

@@ -1,7 +1,6 @@
-use Rattle.std.proofs.Common.{◌≡◌, ◌-◌, ◌==◌}
-use Rattle.std.specs.Prelude.{find}
-use Rattle.signed_sum.specs.Lists.{numbers_from, occurs}
-use Rattle.surjection_law.specs.Surjections.{arity}
+use Rattle.std.proofs.Common.{◌≡◌, ◌-◌, ◌==◌, find}
+use Rattle.signed_sum.specs.Names.{numbers_from, occurs}
+use Rattle.surjection_law.specs.Names.{arity}
 use Rattle.surjection.proofs.surj.first_gap.Given as goal
 
 abbrev pub invariant-loop-value : goal.invariant-loop-value

@@ -1,5 +1,5 @@
 use Rattle.std.proofs.Common.{◌≡◌, max, drop}
-use Rattle.surjection_law.specs.Surjections.{arity}
+use Rattle.surjection_law.specs.Names.{arity}
 use Rattle.surjection.proofs.surj.greatest.Given as goal
 
 abbrev pub invariant-loop-value : goal.invariant-loop-value

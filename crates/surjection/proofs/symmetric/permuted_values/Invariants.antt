@@ -1,5 +1,5 @@
 use Rattle.std.proofs.Common.{◌≡◌, map, take}
-use Rattle.signed_sum.specs.Permutations.{entry_at}
+use Rattle.signed_sum.specs.Names.{entry_at}
 use Rattle.surjection.proofs.symmetric.permuted_values.Given as goal
 
 abbrev pub invariant-loop-value : goal.invariant-loop-value

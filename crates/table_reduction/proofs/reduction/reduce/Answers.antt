@@ -1,7 +1,7 @@
 use Rattle.std.proofs.Common.{subst}
 use Rattle.operad_law.specs.FormalSums.{IsSameSum}
 use Rattle.table_reduction.proofs.ReductionLemmas.{reduces-action, reduces-boundary}
-use Rattle.table_reduction_law.specs.Reduction.{table_reduction}
+use Rattle.table_reduction_law.specs.Names.{table_reduction}
 use Rattle.table_reduction.proofs.reduction.reduce.Goals as goal
 
 pub returns-in-Ok-clause-boundary : goal.returns-in-Ok-clause-boundary

@@ -1,8 +1,7 @@
 use Rattle.std.proofs.Common.{ap, arith, subst}
-use Rattle.barratt_eccles.specs.Generators.{tuple_arity}
-use Rattle.signed_sum.specs.Sums.{weight_of}
+use Rattle.table_reduction_law.specs.Names.{tuple_arity, IsTuple}
+use Rattle.signed_sum.specs.Names.{weight_of}
 use Rattle.table_reduction.proofs.ReductionLemmas.{needed-entries, reduces, rows-distinct}
-use Rattle.table_reduction_law.specs.Tuples.{IsTuple}
 use Rattle.table_reduction.proofs.reduction.reduce_entries.Goals as goal
 
 pub add_from-requires-clause-rows : goal.add_from-requires-clause-rows

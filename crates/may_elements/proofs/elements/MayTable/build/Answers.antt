@@ -1,7 +1,7 @@
 use Rattle.std.proofs.Common.{◌/◌, ◌≤◌, List, ℕ, arith, ap, length, subst, sym}
 use Rattle.std.proofs.lemmas.Result.{IfOk-weaker}
 use Rattle.table_reduction_law.proofs.MayBoundary.{lead-tuple}
-use Rattle.table_reduction_law.specs.Tuples.{IsTuple}
+use Rattle.table_reduction_law.specs.Names.{IsTuple}
 use Rattle.may_elements.specs.Pairs.{IsPairSum}
 use Rattle.fp_field.proofs.ServedLemmas.{for_served}
 use Rattle.may_elements.proofs.ElementLemmas.{element-at_two, element-is, lead-some, whole-count, whole-degree}

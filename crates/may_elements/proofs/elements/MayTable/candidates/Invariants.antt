@@ -1,5 +1,5 @@
 use Rattle.std.proofs.Common.{◌≡◌, ◌+◌, ◌-◌, ◌*◌, ◌^◌}
-use Rattle.table_reduction_law.specs.Counts.{binomial}
+use Rattle.table_reduction_law.specs.Names.{binomial}
 use Rattle.may_elements.specs.Counted.{cut_off}
 use Rattle.may_elements.proofs.elements.MayTable.candidates.Given as goal
 

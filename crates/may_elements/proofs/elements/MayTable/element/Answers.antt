@@ -3,7 +3,7 @@ use Rattle.std.proofs.lemmas.Grind.{common_steps}
 use Rattle.fp_field.proofs.ServedLemmas.{served_large}
 use Rattle.may_elements.proofs.StoredLemmas.{relation}
 use Rattle.operad_law.specs.FormalSums.{IsSameSum}
-use Rattle.table_reduction_law.specs.MayElements.{may_element}
+use Rattle.table_reduction_law.specs.Names.{may_element}
 use Rattle.may_elements.proofs.elements.MayTable.element.Goals as goal
 
 pub returns-then-entry-d-clause-boundary : goal.returns-then-entry-d-clause-boundary

@@ -1,5 +1,4 @@
-use Rattle.std.proofs.Common.{subst, sym, ap, ◌∙◌, List, ℕ}
-use Rattle.std.specs.Prelude.{ℤ, IsSome}
+use Rattle.std.proofs.Common.{subst, sym, ap, ◌∙◌, List, ℕ, ℤ, IsSome}
 use Rattle.may_elements.specs.Stored.{AreMayElements, stored_at}
 use Rattle.may_elements.proofs.StoredLemmas.{stored-more, stored-other, stored-there}
 use Rattle.may_elements.proofs.elements.MayTable.store.Goals as goal

@@ -1,5 +1,5 @@
 use Rattle.std.proofs.Common.{◌≡◌, ap, ◌∙◌, w64, to_z, arith}
-use Rattle.signed_sum.specs.Turns.{IsSign, power_sum}
+use Rattle.signed_sum.specs.Names.{IsSign, power_sum}
 use Rattle.operad_law.proofs.Unique.{summed}
 use Rattle.operad_law.proofs.TurnSums.{IsSameSum-summed, power-next, product_of_signs, times_sign, after_turns-next, weight-next}
 use Rattle.operad_law.proofs.cyclic.CyclicModel.norm.Goals as goal

@@ -1,6 +1,5 @@
 use Rattle.std.proofs.Common.{◌≡◌, ◌≤◌, IsTrue}
-use Rattle.signed_sum.specs.Sums.{weight_of}
-use Rattle.signed_sum.specs.Turns.{IsSign, power_sum, after_turns}
+use Rattle.signed_sum.specs.Names.{weight_of, IsSign, power_sum, after_turns}
 use Rattle.operad_law.proofs.Unique.{summed}
 use Rattle.operad_law.proofs.cyclic.CyclicModel.norm.Given as goal
 

@@ -1,7 +1,6 @@
-use Rattle.std.proofs.Common.{arith, ◌≤◌, ◌+◌, ◌^◌, w64}
-use Rattle.std.specs.Prelude.{nat_abs}
+use Rattle.std.proofs.Common.{arith, ◌≤◌, ◌+◌, ◌^◌, w64, nat_abs}
 use Rattle.std.proofs.lemmas.Int.{ints, to_z-of_z}
-use Rattle.signed_sum.specs.Sums.{weight_of}
+use Rattle.signed_sum.specs.Names.{weight_of}
 use Rattle.operad_law.proofs.PlusTerm.{IsFormalSum-plus_term, weight_of-plus_term}
 use Rattle.operad_law.proofs.formal_sum.FormalSum.add_term.Goals as goal
 

@@ -1,5 +1,5 @@
 use Rattle.std.proofs.Common.{◌%◌, ◌∙◌, ap}
-use Rattle.signed_sum.specs.Permutations.{cycle_power}
+use Rattle.signed_sum.specs.Names.{cycle_power}
 use Rattle.operad_law.proofs.PermLemmas.{IsPerm-cycle_power, cycle_power-mod}
 use Rattle.operad_law.proofs.perm.Perm.cycle.Goals as goal
 

@@ -1,6 +1,6 @@
 use Rattle.std.proofs.Common.{ap, arith, length}
-use Rattle.surjection.specs.CompositionLaws.{rising-bound}
-use Rattle.surjection.specs.declared.composition.Mark.TheVariants.{Plain}
+use Rattle.composition_law.proofs.Cuts.{rising-bound}
+use Rattle.surjection.specs.Names.{Plain}
 use Rattle.surjection.proofs.SpliceLemmas.{next-rising, written-last, written-other, written-piece}
 use Rattle.surjection.proofs.composition.Splice.entries_at.Goals.{then-entry-self+in_ok-push, else-entry-self+then-places-cut+in_ok-add_piece, else-entry-self+else-places-cut+in_ok-extend_from_slice}
 use Rattle.surjection.proofs.composition.Splice.entries_at.Goals as goal

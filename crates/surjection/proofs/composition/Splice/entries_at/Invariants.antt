@@ -1,6 +1,5 @@
 use Rattle.std.proofs.Common.{◌≡◌, ◌-◌, ◌++◌, drop, length}
-use Rattle.surjection.specs.Composition.{spliced}
-use Rattle.surjection.specs.Splicing.{IsRising}
+use Rattle.composition_law.specs.Surjections.{spliced, IsRising}
 use Rattle.surjection.proofs.composition.Splice.entries_at.Given as goal
 
 -- what is written, and what is to come

@@ -1,5 +1,5 @@
 use Rattle.std.proofs.Common.{arith}
-use Rattle.surjection.specs.CompositionLaws.{AreComposed, occurs-k}
+use Rattle.surjection.specs.Names.{AreComposed, occurs-k}
 use Rattle.surjection.proofs.CutLemmas.{multiplicity-short}
 use Rattle.surjection.proofs.composition.SurjComposing.compose_at.Goals as goal
 

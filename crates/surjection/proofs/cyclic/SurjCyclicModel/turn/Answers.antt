@@ -1,4 +1,4 @@
-use Rattle.surjection.specs.CycleLaws.{own_turn}
+use Rattle.surjection.specs.Names.{own_turn}
 use Rattle.surjection.proofs.cyclic.SurjCyclicModel.turn.Goals as goal
 
 pub from_values-requires : goal.from_values-requires

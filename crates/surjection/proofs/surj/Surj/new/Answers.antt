@@ -1,5 +1,5 @@
 use Rattle.std.proofs.Common.{arith, sym, ◌∙◌, ◌≤◌}
-use Rattle.surjection_law.specs.Surjections.{arity}
+use Rattle.surjection_law.specs.Names.{arity}
 use Rattle.surjection.proofs.RefusalLemmas.{no_fault, not_empty}
 use Rattle.surjection.proofs.surj.Surj.new.Goals as goal
 

@@ -1,5 +1,5 @@
 use Rattle.std.proofs.Common.{arith}
-use Rattle.surjection_law.specs.Surjections.{IsSurjection}
+use Rattle.surjection_law.specs.Names.{IsSurjection}
 use Rattle.surjection_law.proofs.SurjectionTerms.{arity-le}
 use Rattle.surjection.proofs.surj.SurjSignedBasis.degree.Goals as goal
 

@@ -1,4 +1,4 @@
-use Rattle.surjection.specs.ActionLaws.{act_valid}
+use Rattle.surjection.specs.Names.{act_valid}
 use Rattle.surjection.proofs.symmetric.SurjSymmetric.act.Goals as goal
 
 pub from_values-requires : goal.from_values-requires

@@ -1,8 +1,6 @@
-use Rattle.std.proofs.Common.{◌≡◌, ◌∙◌, ◌+◌, ◌≤◌, ◌^◌, ◌++◌, List, ℕ, [], ◌∷◌, ap, arith, false, length, sym, subst}
+use Rattle.std.proofs.Common.{◌≡◌, ◌∙◌, ◌+◌, ◌≤◌, ◌^◌, ◌++◌, List, ℕ, [], ◌∷◌, ap, arith, false, length, sym, subst, All, ◌==◌, ℤ}
 use Rattle.std.proofs.lemmas.List.Elements.{All-head, All-tail}
-use Rattle.std.specs.Prelude.{All, ◌==◌, ℤ}
-use Rattle.signed_sum.specs.Lists.{IsDistinct, is_degenerate, occurs}
-use Rattle.signed_sum.specs.Sums.{weight_of}
+use Rattle.signed_sum.specs.Names.{IsDistinct, is_degenerate, occurs, weight_of}
 use Rattle.table_reduction.specs.Walks.{AddsLists, entry_count, is_last, needed}
 use Rattle.table_reduction.proofs.WalkLemmas.{adds-in_last, adds-pruned, adds-steps, no_rows, occurs-no, plain-more, room-ended, room-last, room-used}
 use Rattle.table_reduction.proofs.walk.Walk.+rows.Goals as goal
