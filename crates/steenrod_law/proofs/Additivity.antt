@@ -1,30 +1,25 @@
 -- D is additive up to the coboundary of a sum over orbits.
-use Rattle.std.proofs.Common.{◌≡◌, ℕ, zero, suc, ◌-◌, ◌*◌, ◌%◌, ◌≤◌, true, false, Bool, List, [], ◌∷◌, ◌++◌, map, length, refl, sym, ◌∙◌, ap, arith, ◌⊎◌}
-use Rattle.std.specs.Prelude.{ℤ, pos, ◌+ℤ◌, ◌*ℤ◌, neg_ℤ}
+use Rattle.std.proofs.Common.{◌≡◌, ℕ, zero, suc, ◌-◌, ◌*◌, ◌%◌, ◌≤◌, true, false, Bool, List, [], ◌∷◌, ◌++◌, map, length, refl, sym, ◌∙◌, ap, arith, ◌⊎◌, ℤ, pos, ◌+ℤ◌, ◌*ℤ◌, neg_ℤ}
 use Rattle.std.proofs.lemmas.Int.{ints}
 use Rattle.interval_cut_law.proofs.CochainLaws.{cut_sum-sum}
-use Rattle.interval_cut_law.specs.Cuts.{cut_sum}
-use Rattle.interval_cut_law.specs.Operations.{operation_value, value_product}
-use Rattle.signed_sum.proofs.Ring.{add-mul, neg-mul}
-use Rattle.signed_sum.specs.Lists.{unless_empty}
-use Rattle.signed_sum.specs.Signs.{signed}
-use Rattle.signed_sum.specs.Sums.{without_one}
-use Rattle.simplicial_law.proofs.IntegralCongruence.{CongruentInt-neg, CongruentInt-signed, CongruentInt-sum, CongruentInt_from, CongruentInt_of, CongruentInt_refl, CongruentInt_sym, CongruentInt_trans}
-use Rattle.simplicial_law.specs.Integral.{CongruentInt, HasDegree, integral_coboundary}
+use Rattle.interval_cut_law.specs.Names.{cut_sum, operation_value, value_product}
+use Rattle.signed_sum.proofs.Names.{add-mul, neg-mul}
+use Rattle.signed_sum.specs.Names.{unless_empty, signed, without_one}
+use Rattle.simplicial_law.proofs.Names.{CongruentInt-neg, CongruentInt-signed, CongruentInt-sum, CongruentInt_from, CongruentInt_of, CongruentInt_refl, CongruentInt_sym, CongruentInt_trans}
+use Rattle.simplicial_law.specs.Names.{CongruentInt, HasDegree, integral_coboundary}
 use Rattle.steenrod_law.proofs.AdditiveMaps.{adds-coboundary, adds-neg, adds-over, adds-scale, adds-signed, adds-zero}
 use Rattle.steenrod_law.proofs.Binomials.{difference, difference-prime}
 use Rattle.table_reduction_law.proofs.PowerPairs.{sum_below}
 use Rattle.steenrod_law.proofs.ClosedValues.{closed-law}
-use Rattle.steenrod_law.proofs.Degrees.{of-power}
+use Rattle.steenrod_law.proofs.Degrees.{degree-even, of-power}
 use Rattle.steenrod_law.proofs.Forms.{AreTerms, IsFaceClosed, IsIntegralCocycle, IsMayFamily, IsPrime, SurjectionTerm, boundary_over, operation_of, value_over, word_sum}
 use Rattle.steenrod_law.proofs.Primes.{two-or-odd}
 use Rattle.steenrod_law.proofs.Staircase.{Alike, back-alike, minus-alike, sign-turn}
 use Rattle.steenrod_law.proofs.WordBoundary.{letters-copies, letters-first, relation}
 use Rattle.steenrod_law.proofs.WordCochains.{over-same, over-sum, word-cycle}
 use Rattle.steenrod_law.proofs.WordLemmas.{back-sum, minus-sum, power-back}
-use Rattle.steenrod_law.specs.Values.{cycle_less_one_power, opposite_sum, orbit_sum, sum_above, sum_value, turned_sum, word_cochains}
-use Rattle.steenrod_law.specs.Words.{HaveLength, IsOrbitTable, all_words, choice, copies, norm, step, turn_back, turn_back_less_one, turn_back_power, word_degree}
-use Rattle.table_reduction_law.specs.MayElements.{cycle}
+use Rattle.steenrod_law.specs.Names.{cycle_less_one_power, opposite_sum, orbit_sum, sum_above, sum_value, turned_sum, word_cochains, HaveLength, IsOrbitTable, all_words, choice, copies, norm, step, turn_back, turn_back_less_one, turn_back_power, word_degree}
+use Rattle.table_reduction_law.specs.Names.{cycle}
 
 -- powers of T on words
 
@@ -119,10 +114,6 @@ coboundary-same p s a b e = without_one-same p s (λ g. unless_empty g (a g)) (�
     part (x ∷ g) = e (x ∷ g)
 
 -- turns without signs
-
-degree-even : (q : ℕ) (w : List Bool) → word_degree (λ l. q) w ≡ length w * q
-degree-even q [] = omega arith
-degree-even q (l ∷ w) = let h = degree-even q w in omega arith
 
 plain-back : (p q : ℕ) → (p ≡ 2) ⊎ (p % 2 ≡ 1) → (h : List Bool → ℤ) → Alike p p (turn_back (λ l. 0) h) (turn_back (λ l. q) h)
 plain-back p q prime h [] e = CongruentInt_refl (h [])

@@ -1,20 +1,20 @@
 -- Binomial coefficients modulo a prime.
-use Rattle.std.proofs.Common.{◌≡◌, ℕ, zero, suc, ◌+◌, ◌%◌, ◌<◌, refl, sym, ◌∙◌, ap, arith, subst, ◌⊎◌, inl, inr}
-use Rattle.std.specs.Prelude.{ℤ, pos, ◌+ℤ◌, ◌*ℤ◌, neg_ℤ}
+use Rattle.std.proofs.Common.{◌≡◌, ℕ, zero, suc, ◌+◌, ◌%◌, ◌<◌, refl, sym, ◌∙◌, ap, arith, subst, ◌⊎◌, inl, inr, ℤ, pos, ◌+ℤ◌, ◌*ℤ◌, neg_ℤ}
 use Rattle.std.proofs.Math.IntN.{zero-*ℤ, *ℤ_comm, pos-*ℤ-pos}
 use Rattle.std.proofs.lemmas.Int.{ints}
-use Rattle.signed_sum.proofs.Ring.{add-mul, neg-mul, one-mul}
-use Rattle.signed_sum.proofs.SignLemmas.{signed-+, signed-neg, signed-parity, signed-signed}
-use Rattle.signed_sum.specs.Signs.{signed}
-use Rattle.simplicial_law.proofs.IntegralCongruence.{CongruentInt-neg, CongruentInt-signed, CongruentInt-sum, CongruentInt-times, CongruentInt_from, CongruentInt_multiple, CongruentInt_of, CongruentInt_refl, CongruentInt_trans}
-use Rattle.simplicial_law.specs.Integral.{CongruentInt}
+use Rattle.surjection_law.proofs.BoundaryPlaces.{signed-one}
+use Rattle.signed_sum.proofs.Names.{add-mul, neg-mul, one-mul, signed-+, signed-neg, signed-parity, signed-signed}
+use Rattle.signed_sum.specs.Names.{signed}
+use Rattle.simplicial_law.proofs.Names.{CongruentInt-neg, CongruentInt-signed, CongruentInt-sum, CongruentInt-times, CongruentInt_from, CongruentInt_multiple, CongruentInt_of, CongruentInt_refl, CongruentInt_trans}
+use Rattle.simplicial_law.specs.Names.{CongruentInt}
 use Rattle.steenrod_law.proofs.AdditiveMaps.{adds-neg}
 use Rattle.steenrod_law.proofs.Forms.{IsPrime}
 use Rattle.steenrod_law.proofs.Primes.{two-or-odd}
+use Rattle.steenrod_law.proofs.WordLemmas.{sum-front}
 use Rattle.steenrod_law.proofs.Staircase.{sign-two}
 use Rattle.table_reduction_law.proofs.BinomialLemmas.{absorb}
 use Rattle.table_reduction_law.proofs.PowerPairs.{sum_below}
-use Rattle.table_reduction_law.specs.Counts.{binomial}
+use Rattle.table_reduction_law.specs.Names.{binomial}
 
 -- binomial coefficients
 
@@ -123,10 +123,6 @@ abbrev pub difference : ℕ → (ℕ → ℤ) → ℤ
 difference zero a = a 0
 difference (suc n) a = difference n (λ k. a (suc k)) +ℤ neg_ℤ (difference n a)
 
-pub sum-front : (n : ℕ) (a : ℕ → ℤ) → sum_below (suc n) a ≡ a 0 +ℤ sum_below n (λ k. a (suc k))
-sum-front zero a = omega (arith, ints)
-sum-front (suc n) a = let h = sum-front n a in omega (arith, ints)
-
 difference-binomial : (n : ℕ) (a : ℕ → ℤ) → difference n a ≡ signed n (triangle_sum n (λ k. signed k (a k)))
 difference-binomial zero a = refl
 difference-binomial (suc n) a =
@@ -140,10 +136,6 @@ difference-binomial (suc n) a =
     let t = ap (λ z. signed n (x +ℤ z)) e in
     omega (arith, ints)
 
-sign-times : (k : ℕ) (z : ℤ) → signed k (pos 1) *ℤ z ≡ signed k z
-sign-times zero z = one-mul z
-sign-times (suc k) z = neg-mul (signed k (pos 1)) z ∙ ap neg_ℤ (sign-times k z)
-
 sign-twice : (k : ℕ) (z : ℤ) → signed k (signed k z) ≡ z
 sign-twice k z = signed-signed k k z ∙ signed-parity (k + k) 0 z (omega arith)
 
@@ -151,7 +143,7 @@ signs-sum : (m n : ℕ) (a : ℕ → ℤ) → weighted (λ k. signed (n + k) (po
 unfolding weighted
 signs-sum zero n a = refl
 signs-sum (suc m) n a =
-    let e = sign-times (n + 0) (signed (n + 0) (a 0)) ∙ sign-twice (n + 0) (a 0) in
+    let e = signed-one (n + 0) (signed (n + 0) (a 0)) ∙ sign-twice (n + 0) (a 0) in
     let h : weighted (λ k. signed (n + suc k) (pos 1)) m (λ k. signed (n + suc k) (a (suc k))) ≡ sum_below m (λ k. a (suc k)) =
     ap (λ (s : ℕ → ℕ). weighted (λ k. signed (s k) (pos 1)) m (λ k. signed (s k) (a (suc k)))) (λ i k. step k i) ∙ signs-sum m (suc n) (λ k. a (suc k)) in
     let f = sum-front m a in

@@ -1,34 +1,24 @@
 -- The laws of operations and products on classes of cochains of residues.
-use Rattle.std.proofs.Common.{◌≡◌, ℕ, zero, suc, ◌+◌, ◌*◌, ◌≤◌, ◌-◌, inl, inr, Bool, cond, List, [], ◌∷◌, ◌++◌, map, length, refl, sym, ◌∙◌, ap, arith, subst}
-use Rattle.std.specs.Prelude.{ℤ, pos, ◌+ℤ◌, ◌*ℤ◌, neg_ℤ}
+use Rattle.std.proofs.Common.{◌≡◌, ℕ, zero, suc, ◌+◌, ◌*◌, ◌≤◌, ◌-◌, inl, inr, Bool, cond, List, [], ◌∷◌, ◌++◌, map, length, refl, sym, ◌∙◌, ap, arith, subst, ℤ, pos, ◌+ℤ◌, ◌*ℤ◌, neg_ℤ, length-append}
 use Rattle.std.specs.List.{AllZip}
 use Rattle.std.proofs.Math.IntN.{pos-*ℤ-pos}
 use Rattle.std.proofs.lemmas.Int.{ints}
 use Rattle.std.proofs.lemmas.Bool.{cases_Bool}
-use Rattle.std.proofs.lemmas.List.{length-append, length-map}
+use Rattle.std.proofs.lemmas.List.{length-map}
 use Rattle.interval_cut_law.proofs.CochainLaws.{naturality_law}
-use Rattle.linear_law.proofs.CongruenceLemmas.{Congruent_of, Congruent_trans}
-use Rattle.linear_law.specs.Congruence.{Congruent, IsField, negated}
-use Rattle.linear_law.specs.Lists.{Each}
-use Rattle.linear_law.specs.Matrices.{matrix_times}
-use Rattle.linear_law.specs.ReducedBases.{IsSubspace, combination}
-use Rattle.linear_law.proofs.Matrices.{from_columns}
-use Rattle.signed_sum.specs.Lists.{is_degenerate}
-use Rattle.simplicial_law.proofs.Bases.{coboundaries, cocycles}
-use Rattle.simplicial_law.proofs.IntegralBridge.{integral_congruence_law}
-use Rattle.simplicial_law.proofs.IntegralCongruence.{CongruentInt-scale, CongruentInt-sum, CongruentInt_from, CongruentInt_of, CongruentInt_refl, CongruentInt_sym, CongruentInt_trans}
-use Rattle.simplicial_law.specs.Cochains.{Cochain, HasCoordinates, IsCoboundary, IsCocycle, coboundary}
-use Rattle.simplicial_law.specs.Integral.{CongruentInt, integral_coboundary}
-use Rattle.simplicial_law.specs.Simplices.{IsSimplex}
+use Rattle.linear_law.proofs.Names.{Congruent_of, Congruent_trans, from_columns}
+use Rattle.linear_law.specs.Names.{Congruent, IsField, negated, Each, matrix_times, IsSubspace, combination}
+use Rattle.signed_sum.specs.Names.{is_degenerate}
+use Rattle.simplicial_law.proofs.Names.{coboundaries, cocycles, integral_congruence_law, CongruentInt-scale, CongruentInt-sum, CongruentInt_from, CongruentInt_of, CongruentInt_refl, CongruentInt_sym, CongruentInt_trans}
+use Rattle.simplicial_law.specs.Names.{Cochain, HasCoordinates, IsCoboundary, IsCocycle, coboundary, CongruentInt, integral_coboundary, IsSimplex}
 use Rattle.steenrod_law.proofs.Classes.{cocycle-combination, on-classes}
 use Rattle.steenrod_law.proofs.Complexes.{IsNoSimplex, coboundary-extended, coboundary-residues, difference-same, extended-cochain, extended-cocycle, extended-simplex, residue_cochain-empty, residue_cochain-same, simplex_or_none, weak-closed, weak_of_simplex}
 use Rattle.steenrod_law.proofs.Forms.{AllCocycles, Cohomologous, InClass, IsCochain, Part, cup, operations, part_sum, products, products_with}
 use Rattle.steenrod_law.proofs.OperationLaws.{above_one, family_here, prime_here, pulled, residue-none, to_residues, value-same, vertices, whole_operation}
 use Rattle.steenrod_law.proofs.Products.{cup-closed, cup-degree, cup-on-classes}
 use Rattle.steenrod_law.proofs.WordCochains.{coboundary-cochain}
-use Rattle.steenrod_law.specs.Operations.{IsWeakSimplex, cochain_products, coefficient_products, cup_product, extended, may_operation, pull_back, residue_cochain, scaled_operation}
-use Rattle.steenrod_law.specs.Words.{IsOrbitTable}
-use Rattle.table_reduction_law.specs.MayElements.{may_element}
+use Rattle.steenrod_law.specs.Names.{IsWeakSimplex, cochain_products, coefficient_products, cup_product, extended, may_operation, pull_back, residue_cochain, scaled_operation, IsOrbitTable}
+use Rattle.table_reduction_law.specs.Names.{may_element}
 
 -- in degree 0 a coboundary is 0
 pub coboundary-vertex : (p : ℕ) (y : Cochain) (f : List ℕ) → length f ≡ 1 → y [] ≡ 0 → coboundary p y f ≡ 0
@@ -50,7 +40,7 @@ parts-sum facets q (c ∷ cs) (z ∷ zs) f k =
     let b = parts-sum facets q cs zs f k in
     omega (arith, ints)
 
-zip-map : {A X Y : Type 0} (R : A → Y → Type 0) (f : X → Y) (rs : List A) (xs : List X) → AllZip (λ a x. R a (f x)) rs xs → AllZip R rs (map f xs)
+pub zip-map : {A X Y : Type 0} (R : A → Y → Type 0) (f : X → Y) (rs : List A) (xs : List X) → AllZip (λ a x. R a (f x)) rs xs → AllZip R rs (map f xs)
 zip-map R f [] [] h = h
 zip-map R f [] (x ∷ xs) h = absurd h
 zip-map R f (a ∷ rs) [] h = absurd h

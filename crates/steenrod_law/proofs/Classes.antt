@@ -1,16 +1,12 @@
 -- D on cohomology.
-use Rattle.std.proofs.Common.{◌≡◌, ℕ, zero, suc, ◌*◌, ◌≤◌, Bool, List, [], ◌∷◌, length, refl, sym, ◌∙◌, ap, arith}
-use Rattle.std.specs.Prelude.{ℤ, pos, ◌+ℤ◌, ◌*ℤ◌}
+use Rattle.std.proofs.Common.{◌≡◌, ℕ, zero, suc, ◌*◌, ◌≤◌, Bool, List, [], ◌∷◌, length, refl, sym, ◌∙◌, ap, arith, ℤ, pos, ◌+ℤ◌, ◌*ℤ◌}
 use Rattle.std.proofs.Math.IntN.{zero-*ℤ, *ℤ-zero}
 use Rattle.std.proofs.lemmas.Int.{ints}
-use Rattle.interval_cut_law.specs.Operations.{operation_value}
-use Rattle.signed_sum.proofs.ListLemmas.{unless_empty-nothing}
-use Rattle.signed_sum.proofs.SignLemmas.{signed-zero}
-use Rattle.signed_sum.proofs.SumLemmas.{without_one-zero}
-use Rattle.signed_sum.specs.Signs.{signed}
-use Rattle.signed_sum.specs.Sums.{without_one}
-use Rattle.simplicial_law.proofs.IntegralCongruence.{CongruentInt-sum, CongruentInt-times, CongruentInt_from, CongruentInt_of, CongruentInt_refl, CongruentInt_trans}
-use Rattle.simplicial_law.specs.Integral.{CongruentInt, integral_coboundary}
+use Rattle.interval_cut_law.specs.Names.{operation_value}
+use Rattle.signed_sum.proofs.Names.{unless_empty-nothing, signed-zero, without_one-zero}
+use Rattle.signed_sum.specs.Names.{signed, without_one}
+use Rattle.simplicial_law.proofs.Names.{CongruentInt-sum, CongruentInt-times, CongruentInt_from, CongruentInt_of, CongruentInt_refl, CongruentInt_trans}
+use Rattle.simplicial_law.specs.Names.{CongruentInt, integral_coboundary}
 use Rattle.steenrod_law.proofs.AdditiveMaps.{adds-scale, adds-signed, coboundary-sum}
 use Rattle.steenrod_law.proofs.Additivity.{additive}
 use Rattle.steenrod_law.proofs.Degrees.{orbit_sum-size, staircase_sum-size}
@@ -20,8 +16,7 @@ use Rattle.steenrod_law.proofs.Scaling.{scales}
 use Rattle.steenrod_law.proofs.ValuesOnFaces.{AllAt, value-at}
 use Rattle.steenrod_law.proofs.WordBoundary.{some}
 use Rattle.steenrod_law.proofs.WordCochains.{coboundary-cochain, coboundary-twice, over-same}
-use Rattle.steenrod_law.specs.Values.{orbit_sum, staircase_sum}
-use Rattle.steenrod_law.specs.Words.{IsOrbitTable, copies}
+use Rattle.steenrod_law.specs.Names.{orbit_sum, staircase_sum, IsOrbitTable, copies}
 
 -- modulo p an operation depends on the cochain modulo p alone
 

@@ -1,13 +1,12 @@
 -- Words of cocycles.
-use Rattle.std.proofs.Common.{◌≡◌, ℕ, zero, suc, ◌+◌, ◌-◌, ◌≤◌, true, Bool, List, map, length, sym, ◌∙◌, ap, arith}
-use Rattle.std.specs.Prelude.{ℤ, pos, ◌+ℤ◌}
+use Rattle.std.proofs.Common.{◌≡◌, ℕ, zero, suc, ◌+◌, ◌-◌, ◌≤◌, true, false, Bool, cond, List, map, length, sym, ◌∙◌, ap, arith, ℤ, pos, ◌+ℤ◌}
 use Rattle.std.proofs.lemmas.Int.{ints}
-use Rattle.interval_cut_law.specs.Operations.{one_coboundary, operation_value}
-use Rattle.signed_sum.proofs.SignLemmas.{signed-parity, signed-signed, signed-zero}
-use Rattle.signed_sum.specs.Signs.{signed}
-use Rattle.simplicial_law.proofs.IntegralCongruence.{CongruentInt-signed, CongruentInt-sum, CongruentInt_of, CongruentInt_refl, CongruentInt_sym, CongruentInt_trans}
-use Rattle.simplicial_law.specs.Integral.{CongruentInt, integral_coboundary}
-use Rattle.linear_law.proofs.Matrices.{length-copies}
+use Rattle.interval_cut_law.specs.Names.{one_coboundary, operation_value}
+use Rattle.signed_sum.proofs.Names.{signed-parity, signed-signed, signed-zero}
+use Rattle.signed_sum.specs.Names.{signed}
+use Rattle.simplicial_law.proofs.Names.{CongruentInt-signed, CongruentInt-sum, CongruentInt_of, CongruentInt_refl, CongruentInt_sym, CongruentInt_trans}
+use Rattle.simplicial_law.specs.Names.{CongruentInt, integral_coboundary}
+use Rattle.linear_law.proofs.Names.{length-copies}
 use Rattle.steenrod_law.proofs.AdditiveMaps.{adds-zero}
 use Rattle.steenrod_law.proofs.Forms.{AreTerms, IsCochain, IsFaceClosed, IsIntegralCocycle, IsMayFamily, IsPrime, SurjectionTerm, boundary_over, operation_of, value_over}
 use Rattle.steenrod_law.proofs.Primes.{two-or-odd}
@@ -15,8 +14,7 @@ use Rattle.steenrod_law.proofs.Staircase.{top-step}
 use Rattle.steenrod_law.proofs.ValuesOnFaces.{value-none-at}
 use Rattle.steenrod_law.proofs.WordBoundary.{letters-copies, letters-normalized, relation, relation-first, some, sum-law}
 use Rattle.steenrod_law.proofs.WordCochains.{degrees-letters, over-same, over-sum, word-closed}
-use Rattle.steenrod_law.specs.Values.{sum_value, word_cochains}
-use Rattle.steenrod_law.specs.Words.{copies, step}
+use Rattle.steenrod_law.specs.Names.{sum_value, word_cochains, copies, step}
 
 pub same-unsigned : (p n : ℕ) (z : ℤ) → CongruentInt p (signed n z) (pos 0) → CongruentInt p z (pos 0)
 same-unsigned p n z h =
@@ -31,11 +29,15 @@ closed-law K fc p m q x a c s w k ca cc ks le hs =
     let f : List ℕ → ℤ = λ u. one_coboundary (map (λ l. q) w) (word_cochains a c w) (λ bs. operation_value p u bs s) in
     let r : ℤ = boundary_over x (λ u. operation_value p u (word_cochains a c w) s) +ℤ signed m (integral_coboundary (sum_value p x (word_cochains a c w)) s) in
     CongruentInt_trans
-    (CongruentInt_sym (sum-law p m x (map (λ l. q) w) (word_cochains a c w) s k (letters-normalized a c ca.cochain.plain cc.cochain.plain w) (degrees-letters (λ l. q) a c ca.cochain.degree cc.cochain.degree w) le hs))
+    (CongruentInt_of (sym (sum-law p m x (map (λ l. q) w) (word_cochains a c w) s k (letters-normalized a c ca.cochain.plain cc.cochain.plain w) (degrees-letters (λ l. q) a c ca.cochain.degree cc.cochain.degree w) le hs)))
     (CongruentInt_trans
     (over-same p m x f (λ u. pos 0) k
-    (λ u o e. word-closed p q a c w (λ bs. operation_value p u bs s) (λ pre post. value-none-at p p u s pre post (integral_coboundary a) (some p u le o) hs (λ g v. ca.closed g (fc g s v ks))) (λ pre post. value-none-at p p u s pre post (integral_coboundary c) (some p u le o) hs (λ g v. cc.closed g (fc g s v ks)))))
+    (λ u o e. word-closed p (λ l. q) a c w (λ bs. operation_value p u bs s) (λ l pre post. value-none-at p p u s pre post (integral_coboundary (cond l c a)) (some p u le o) hs (λ g v. closed-letter l g (fc g s v ks)))))
     (CongruentInt_of (adds-zero (value_over x) (over-sum x))))
+  where
+    closed-letter : (l : Bool) (g : List ℕ) → K g → CongruentInt p (integral_coboundary (cond l c a) g) (pos 0)
+    closed-letter true = cc.closed
+    closed-letter false = ca.closed
 
 boundary-top : (p d q : ℕ) (x : ℕ → List SurjectionTerm) (a : List ℕ → ℤ) (s : List ℕ) → IsPrime p → IsMayFamily p x → IsCochain q a → 1 ≤ length s → CongruentInt p (boundary_over (x d) (λ u. operation_value p u (word_cochains a a (copies p true)) s)) (pos 0)
 boundary-top p zero q x a s prime may ca hs =

@@ -1,31 +1,25 @@
 -- Cochains of residues on the simplices of a complex, as cochains with whole values.
-use Rattle.std.proofs.Common.{◌≡◌, ℕ, suc, ◌+◌, ◌<◌, ◌≤◌, ◌⊎◌, inl, inr, Bool, true, false, not, cond, ◌==◌, eqb, eq-eqb, ◌%◌, ◌&&◌, ◌||◌, List, [], ◌∷◌, length, refl, sym, ◌∙◌, ap, arith, subst}
-use Rattle.std.specs.Prelude.{ℤ, pos, negsuc, ◌+ℤ◌, neg_ℤ}
+use Rattle.std.proofs.Common.{◌≡◌, ℕ, suc, ◌+◌, ◌<◌, ◌≤◌, ◌⊎◌, inl, inr, Bool, true, false, not, cond, ◌==◌, eqb, eq-eqb, ◌%◌, ◌&&◌, ◌||◌, List, [], ◌∷◌, length, refl, sym, ◌∙◌, ap, arith, subst, ℤ, pos, negsuc, ◌+ℤ◌, neg_ℤ, ne_eqb}
 use Rattle.std.proofs.Math.Nat.{zero-mod}
 use Rattle.std.proofs.lemmas.Int.{ints}
-use Rattle.std.proofs.lemmas.Bool.{cases_Bool, ne_eqb, cases_eq}
+use Rattle.std.proofs.lemmas.Bool.{cases_Bool, cases_eq}
 use native.Mathlib.Decide.{ℕ_discrete}
-use Rattle.linear_law.proofs.CongruenceLemmas.{Congruent_mod}
-use Rattle.linear_law.specs.Congruence.{negated}
-use Rattle.linear_law.specs.Lists.{Among, Each, IsAscending}
-use Rattle.signed_sum.proofs.SumLemmas.{fun_ext}
-use Rattle.signed_sum.specs.Lists.{is_degenerate, unless_empty}
-use Rattle.signed_sum.specs.Sums.{without_one}
-use Rattle.simplicial_law.proofs.IntegralBridge.{integral_coboundary_law, integral_congruence_law, negated_whole}
-use Rattle.simplicial_law.proofs.IntegralCongruence.{CongruentInt-neg, CongruentInt-sum, CongruentInt_of, CongruentInt_refl, CongruentInt_sym, CongruentInt_trans}
-use Rattle.simplicial_law.specs.Cochains.{Cochain, IsCocycle, coboundary}
-use Rattle.simplicial_law.specs.Integral.{CongruentInt, integral_coboundary}
-use Rattle.simplicial_law.specs.Simplices.{IsSimplex}
+use Rattle.linear_law.proofs.Names.{Congruent_mod}
+use Rattle.linear_law.specs.Names.{negated, Among, Each, IsAscending}
+use Rattle.signed_sum.proofs.Names.{fun_ext}
+use Rattle.signed_sum.specs.Names.{is_degenerate, unless_empty, without_one}
+use Rattle.simplicial_law.proofs.Names.{integral_coboundary_law, integral_congruence_law, negated_whole, CongruentInt-neg, CongruentInt-sum, CongruentInt_of, CongruentInt_refl, CongruentInt_sym, CongruentInt_trans}
+use Rattle.simplicial_law.specs.Names.{Cochain, IsCocycle, coboundary, CongruentInt, integral_coboundary, IsSimplex}
 use Rattle.steenrod_law.proofs.Forms.{IsCochain, IsFaceClosed, IsIntegralCocycle, IsWeakFace, drop, none, take}
 use Rattle.steenrod_law.proofs.WordCochains.{coboundary-cochain}
-use Rattle.steenrod_law.specs.Operations.{IsRising, IsWeakSimplex, extended, residue, residue_cochain}
+use Rattle.steenrod_law.specs.Names.{IsNondecreasing, IsWeakSimplex, extended, residue, residue_cochain}
 
 Each-weak : (P : ℕ → Type 0) (f s : List ℕ) → IsWeakFace f s → Each P s → Each P f
 Each-weak P _ s none h = tt
 Each-weak P _ _ (take {x = x} {f = f} {s = s} w) h = (h.0, Each-weak P f (x ∷ s) w h)
 Each-weak P f _ (drop {x = x} {s = s} w) h = Each-weak P f s w h.1
 
-rising-weak : (f s : List ℕ) → IsWeakFace f s → IsRising s → IsRising f
+rising-weak : (f s : List ℕ) → IsWeakFace f s → IsNondecreasing s → IsNondecreasing f
 rising-weak _ s none h = tt
 rising-weak _ _ (take {x = x} {f = f} {s = s} w) h = (Each-weak (λ v. x ≤ v) f (x ∷ s) w (omega arith, h.0), rising-weak f (x ∷ s) w h)
 rising-weak f _ (drop {x = x} {s = s} w) h = rising-weak f s w h.1
@@ -42,7 +36,7 @@ Each-le : (v : ℕ) (vs : List ℕ) → Each (λ w. v < w) vs → Each (λ w. v 
 Each-le v [] h = tt
 Each-le v (w ∷ vs) h = (let k = h.0 in omega arith, Each-le v vs h.1)
 
-rising-ascending : (s : List ℕ) → IsAscending s → IsRising s
+rising-ascending : (s : List ℕ) → IsAscending s → IsNondecreasing s
 rising-ascending [] h = tt
 rising-ascending (v ∷ vs) h = (Each-le v vs h.0, rising-ascending vs h.1)
 
@@ -54,7 +48,7 @@ Each-lt : (v w : ℕ) (vs : List ℕ) → v < w → Each (λ u. w ≤ u) vs → 
 Each-lt v w [] l h = tt
 Each-lt v w (u ∷ vs) l h = (let k = h.0 in omega arith, Each-lt v w vs l h.1)
 
-ascending_of : (s : List ℕ) → IsRising s → is_degenerate s ≡ false → IsAscending s
+ascending_of : (s : List ℕ) → IsNondecreasing s → is_degenerate s ≡ false → IsAscending s
 ascending_of [] h d = tt
 ascending_of (v ∷ []) h d = (tt, tt)
 ascending_of (v ∷ w ∷ vs) h d = go (eqb v w) refl d (ascending_of (w ∷ vs) h.1)

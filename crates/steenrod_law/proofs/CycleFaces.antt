@@ -1,28 +1,19 @@
 -- The permutation law at the cycle: the last face goes to the front.
-use Rattle.std.proofs.Common.{◌≡◌, ℕ, zero, suc, ◌+◌, ◌*◌, ◌≤◌, cond, List, [], ◌∷◌, ◌++◌, map, length, refl, sym, ◌∙◌, ap, arith, append_assoc, length-append, ◌⊎◌, inl, inr, eq-eqb}
-use Rattle.std.specs.Prelude.{ℤ, pos, ◌*ℤ◌}
+use Rattle.std.proofs.Common.{◌≡◌, ℕ, zero, suc, ◌+◌, ◌*◌, ◌≤◌, cond, List, [], ◌∷◌, ◌++◌, map, length, refl, sym, ◌∙◌, ap, arith, append_assoc, length-append, ◌⊎◌, inl, inr, eq-eqb, ℤ, pos, ◌*ℤ◌, ne_eqb, pred}
 use native.Mathlib.Decide.{ℕ_discrete}
 use Rattle.std.proofs.Math.IntN.{zero-*ℤ, *ℤ-zero, *ℤ_comm}
-use Rattle.std.proofs.lemmas.Bool.{ne_eqb}
 use Rattle.std.proofs.lemmas.List.{length-map}
-use Rattle.std.specs.Prelude.{pred}
 use Rattle.interval_cut_law.proofs.CochainLaws.{cut_sum-signed}
 use Rattle.interval_cut_law.proofs.GapWords.{less-yes}
 use Rattle.interval_cut_law.proofs.Relabellings.{relabelling_law}
-use Rattle.interval_cut_law.specs.Cuts.{cut_faces, cut_sum, cuts, sign_exponent, vertex_at}
-use Rattle.interval_cut_law.specs.Operations.{operation_value, value_product}
-use Rattle.interval_cut_law.specs.Relabelling.{degrees_passed, exchange_exponent, face_at, relabelled_faces}
-use Rattle.signed_sum.proofs.ListLemmas.{less-no, occurs-01, occurs-cons, occurs-later, occurs-mid}
-use Rattle.signed_sum.proofs.Ring.{mul_assoc}
-use Rattle.signed_sum.proofs.SignLemmas.{signed-signed, signed-zero}
-use Rattle.signed_sum.specs.Lists.{less, numbers_from, occurs}
-use Rattle.signed_sum.specs.Signs.{signed}
-use Rattle.signed_sum.specs.Sums.{total}
-use Rattle.simplicial_law.specs.Integral.{HasDegree, HaveDegrees, degree}
-use Rattle.surjection_law.specs.Surjections.{IsOnto, IsRelabelling}
+use Rattle.interval_cut_law.specs.Names.{cut_faces, cut_sum, cuts, sign_exponent, vertex_at, operation_value, value_product, degrees_passed, exchange_exponent, face_at, relabelled_faces}
+use Rattle.signed_sum.proofs.Names.{less-no, occurs-01, occurs-cons, occurs-later, occurs-mid, mul_assoc, signed-signed, signed-zero}
+use Rattle.signed_sum.specs.Names.{less, numbers_from, occurs, signed, total}
+use Rattle.simplicial_law.specs.Names.{HasDegree, HaveDegrees, degree}
+use Rattle.surjection_law.specs.Names.{IsOnto, IsRelabelling}
 use Rattle.table_reduction_law.proofs.Permutations.{moves-cycle, uncycle}
 use Rattle.table_reduction_law.proofs.ReductionBoundary.{numbers_from-length}
-use Rattle.table_reduction_law.specs.MayElements.{cycle}
+use Rattle.table_reduction_law.specs.Names.{cycle}
 
 cycle-last : (p : ℕ) → cycle p p ≡ 1
 cycle-last p = ap (λ t. cond t 1 (suc p)) (eq-eqb p p refl)
@@ -35,10 +26,6 @@ uncycle-first p = refl
 
 uncycle-other : (p v : ℕ) → (v ≡ 1 → ⊥) → uncycle p v ≡ pred v
 uncycle-other p v n = ap (λ t. cond t p (pred v)) (ne_eqb v 1 n)
-
-less_one-suc : (v : ℕ) → 1 ≤ v → suc (pred v) ≡ v
-less_one-suc zero h = absurd (omega (arith, h))
-less_one-suc (suc v) h = refl
 
 -- a turned surjection takes the same values
 has-map : (t : ℕ → ℕ) (w : ℕ) (u : List ℕ) → occurs w u ≡ 1 → occurs (t w) (map t u) ≡ 1

@@ -1,10 +1,8 @@
 -- The degrees of D and of the primitives.
-use Rattle.std.proofs.Common.{◌≡◌, ℕ, zero, suc, ◌+◌, ◌-◌, ◌*◌, ◌%◌, ◌≤◌, true, false, Bool, cond, ◌==◌, List, [], ◌∷◌, ◌++◌, map, length, refl, sym, ◌∙◌, ap, arith, inl, inr, length-append, eq-eqb}
-use Rattle.std.specs.Prelude.{ℤ, pos, ◌*ℤ◌}
+use Rattle.std.proofs.Common.{◌≡◌, ℕ, zero, suc, ◌+◌, ◌-◌, ◌*◌, ◌%◌, ◌≤◌, true, false, Bool, cond, ◌==◌, List, [], ◌∷◌, ◌++◌, map, length, refl, sym, ◌∙◌, ap, arith, inl, inr, length-append, eq-eqb, ℤ, pos, ◌*ℤ◌, ne_eqb}
 use native.Mathlib.Decide.{ℕ_discrete}
 use Rattle.std.proofs.Math.IntN.{zero-*ℤ, *ℤ-zero}
 use Rattle.std.proofs.lemmas.Int.{ints}
-use Rattle.std.proofs.lemmas.Bool.{ne_eqb}
 use Rattle.std.proofs.lemmas.Bool.Decides.{eqb_tells}
 use Rattle.std.proofs.lemmas.List.{length-map}
 use Rattle.interval_cut_law.proofs.BoundaryLaws.{degeneracy_law, product_normalized}
@@ -13,27 +11,22 @@ use Rattle.interval_cut_law.proofs.FaceBoundary.{more}
 use Rattle.interval_cut_law.proofs.WalkBoundary.{occurs-cell_values}
 use Rattle.interval_cut_law.proofs.WalkSums.{IsWalk}
 use Rattle.interval_cut_law.proofs.Walks.{Cell, cell_value, cell_values, cell_vertex, edge, edge_count, ends, next, walk_exponent, walk_face, walk_faces, walk_sum, walk_term}
-use Rattle.interval_cut_law.specs.Operations.{operation_value, value_product}
-use Rattle.signed_sum.proofs.ListLemmas.{numbers_from-distinct, occurs-later, occurs-mid, occurs-self, one_if}
-use Rattle.signed_sum.proofs.SignLemmas.{signed-zero}
-use Rattle.signed_sum.specs.Lists.{IsDistinct, is_degenerate, numbers_from, occurs}
-use Rattle.signed_sum.specs.Signs.{signed}
-use Rattle.simplicial_law.specs.Integral.{HaveDegrees, integral_coboundary}
-use Rattle.linear_law.proofs.Matrices.{length-copies}
+use Rattle.interval_cut_law.specs.Names.{operation_value, value_product}
+use Rattle.signed_sum.proofs.Names.{numbers_from-distinct, occurs-later, occurs-mid, occurs-self, one_if, signed-zero, degree-append}
+use Rattle.signed_sum.specs.Names.{IsDistinct, is_degenerate, numbers_from, occurs, signed}
+use Rattle.simplicial_law.specs.Names.{HaveDegrees, integral_coboundary}
+use Rattle.linear_law.proofs.Names.{length-copies}
 use Rattle.steenrod_law.proofs.CycleFaces.{onto-cycle, sum_of}
 use Rattle.steenrod_law.proofs.Forms.{AreTerms, HasDegreeBelow, IsCochain, IsMayFamily, IsPrime, SurjectionTerm, operation_of, value_over, word_sum}
 use Rattle.steenrod_law.proofs.Staircase.{degree-copies}
 use Rattle.steenrod_law.proofs.WordBoundary.{letters-copies, letters-normalized, some}
 use Rattle.steenrod_law.proofs.WordCochains.{coboundary-cochain, degree-sum, degrees-letters}
-use Rattle.steenrod_law.proofs.WordLemmas.{degree-append}
-use Rattle.steenrod_law.specs.Values.{cycle_less_one_power, opposite_sum, orbit_sum, staircase_sum, sum_above, sum_to, sum_value, turned_sum, word_cochains}
-use Rattle.steenrod_law.specs.Words.{HaveLength, IsOrbitTable, choice, contraction, copies, letter_degree, norm, staircase, step, turn_back, turn_back_less_one, turn_back_power, word_degree}
-use Rattle.surjection_law.specs.Boundary.{caesura_count}
-use Rattle.surjection_law.specs.Surjections.{IsOnto}
-use Rattle.table_reduction_law.proofs.ReductionBoundary.{numbers_from-length}
-use Rattle.table_reduction_law.specs.MayElements.{cycle}
+use Rattle.steenrod_law.specs.Names.{cycle_less_one_power, opposite_sum, orbit_sum, staircase_sum, sum_above, sum_to, sum_value, turned_sum, word_cochains, HaveLength, IsOrbitTable, choice, contraction, copies, letter_degree, norm, staircase, step, turn_back, turn_back_less_one, turn_back_power, word_degree}
+use Rattle.surjection_law.proofs.Caesuras.{caesura_law}
+use Rattle.surjection_law.specs.Names.{caesura_count, IsOnto}
+use Rattle.table_reduction_law.specs.Names.{cycle}
 
--- faces and caesuras, counted
+-- the places of faces, counted
 
 face_total : List ℕ → List Cell → ℕ
 face_total [] c = 0
@@ -73,60 +66,6 @@ face_total-cells ks (next v x ∷ c) q s =
     let a = face_total-cons ks (next v x) c q in
     let b = s v (occurs-mid v [] (cell_values c)) in
     let ih = face_total-cells ks c q (λ z y. s z (occurs-later z (v ∷ []) (cell_values c) y)) in
-    omega arith
-
-has_total : List ℕ → List ℕ → ℕ
-has_total [] u = 0
-has_total (k ∷ ks) u = occurs k u + has_total ks u
-
-has_total-cons : (ks : List ℕ) (v : ℕ) (u : List ℕ) → IsDistinct ks → has_total ks (v ∷ u) + occurs v ks * occurs v u ≡ has_total ks u + occurs v ks
-unfolding has_total
-has_total-cons [] v u q = omega arith
-has_total-cons (k ∷ ks) v u q =
-    let ih = has_total-cons ks v u q.1 in
-    elim (eqb_tells v k) [
-      | inl e ↦
-          let a : occurs k (v ∷ u) ≡ 1 = ap (λ t. cond t 1 (occurs k u)) (eq-eqb k v (sym e.1)) in
-          let b : occurs v (k ∷ ks) * occurs v u ≡ 1 * occurs v u = ap (λ t. cond t 1 (occurs v ks) * occurs v u) e.0 in
-          let b2 : occurs v (k ∷ ks) ≡ 1 = ap (λ t. cond t 1 (occurs v ks)) e.0 in
-          let z : occurs v ks ≡ 0 = ap (λ j. occurs j ks) e.1 ∙ q.0 in
-          let z2 : occurs v ks * occurs v u ≡ 0 * occurs v u = ap (λ j. j * occurs v u) z in
-          let y : occurs v u ≡ occurs k u = ap (λ j. occurs j u) e.1 in
-          omega arith
-      | inr n ↦
-          let a : occurs k (v ∷ u) ≡ occurs k u = ap (λ t. cond t 1 (occurs k u)) (ne_eqb k v (λ e. n.1 (sym e))) in
-          let b : occurs v (k ∷ ks) * occurs v u ≡ occurs v ks * occurs v u = ap (λ t. cond t 1 (occurs v ks) * occurs v u) n.0 in
-          let b2 : occurs v (k ∷ ks) ≡ occurs v ks = ap (λ t. cond t 1 (occurs v ks)) n.0 in
-          omega arith
-    ]
-
-has_total-none : (ks : List ℕ) → has_total ks [] ≡ 0
-unfolding has_total
-has_total-none [] = refl
-has_total-none (k ∷ ks) = let h = has_total-none ks in omega arith
-
-has_total-caesuras : (ks u : List ℕ) → IsDistinct ks → ((v : ℕ) → occurs v u ≡ 1 → occurs v ks ≡ 1) → has_total ks u + caesura_count u ≡ length u
-has_total-caesuras ks [] q s = let z = has_total-none ks in omega arith
-has_total-caesuras ks (v ∷ u) q s =
-    let a = has_total-cons ks v u q in
-    let b = s v (occurs-mid v [] u) in
-    let b2 : occurs v ks * occurs v u ≡ 1 * occurs v u = ap (λ j. j * occurs v u) b in
-    let ih = has_total-caesuras ks u q (λ z y. s z (occurs-later z (v ∷ []) u y)) in
-    omega arith
-
-has_total-all : (ks u : List ℕ) → ((k : ℕ) → occurs k ks ≡ 1 → occurs k u ≡ 1) → has_total ks u ≡ length ks
-unfolding has_total
-has_total-all [] u s = refl
-has_total-all (k ∷ ks) u s =
-    let a = s k (occurs-mid k [] ks) in
-    let b = has_total-all ks u (λ z y. s z (occurs-later z (k ∷ []) ks y)) in
-    omega arith
-
-pub caesuras-count : (r : ℕ) (u : List ℕ) → IsOnto r u → r + caesura_count u ≡ length u
-caesuras-count r u onto =
-    let a = has_total-caesuras (numbers_from 1 r) u (numbers_from-distinct 1 r) (λ v h. sym (onto v) ∙ h) in
-    let b = has_total-all (numbers_from 1 r) u (λ k h. onto k ∙ h) in
-    let c = numbers_from-length 1 r in
     omega arith
 
 -- products
@@ -178,7 +117,7 @@ value-size r (v ∷ u) (x ∷ s) qs cs onto le hs d lq ne =
         let a = counts-faces (numbers_from 1 r) c in
         let b = face_total-cells (numbers_from 1 r) c (numbers_from-distinct 1 r) (λ z y. sym (onto z) ∙ ap (occurs z) (sym k.ending) ∙ sym (occurs-cell_values z c k.closed) ∙ y) in
         let q = ap length k.ending in
-        let w = caesuras-count r (v ∷ u) onto in
+        let w = caesura_law.places r (v ∷ u) onto in
         omega arith
 
 pub over-none : (p m : ℕ) (x : List SurjectionTerm) (h : List ℕ → ℤ) → AreTerms p m x → ((u : List ℕ) → IsOnto p u → caesura_count u ≡ m → h u ≡ pos 0) → value_over x h ≡ pos 0
@@ -208,8 +147,8 @@ of-turned : (p m : ℕ) (x : List SurjectionTerm) → 1 ≤ p → AreTerms p m x
 of-turned p m [] le k = tt
 of-turned p m (t ∷ x) le k =
     let o = onto-cycle p t.0 le k.0 in
-    let a = caesuras-count p t.0 k.0 in
-    let b = caesuras-count p (map (cycle p) t.0) o in
+    let a = caesura_law.places p t.0 k.0 in
+    let b = caesura_law.places p (map (cycle p) t.0) o in
     let c = length-map t.0 (cycle p) in
     let e = k.1 in
     (o, omega arith, of-turned p m x le k.2)
@@ -280,7 +219,7 @@ pub word_sum-none : (p : ℕ) (ms : List (List Bool)) (h : List Bool → ℤ) �
 word_sum-none p [] h k e = refl
 word_sum-none p (w ∷ ms) h k e = let a = word_sum-none p ms h k.1 e in let b = e w k.0 in omega (arith, ints)
 
-degree-even : (q : ℕ) (w : List Bool) → word_degree (λ l. q) w ≡ length w * q
+pub degree-even : (q : ℕ) (w : List Bool) → word_degree (λ l. q) w ≡ length w * q
 degree-even q [] = omega arith
 degree-even q (l ∷ w) = let h = degree-even q w in omega arith
 

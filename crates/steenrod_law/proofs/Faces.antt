@@ -1,17 +1,11 @@
 -- Operations go with maps of vertices.
-use Rattle.std.proofs.Common.{◌≡◌, ℕ, zero, suc, ◌≤◌, List, [], ◌∷◌, map, length, refl, ◌∙◌, ap, arith}
-use Rattle.std.specs.Prelude.{ℤ, ◌+ℤ◌, ◌*ℤ◌}
+use Rattle.std.proofs.Common.{◌≡◌, ℕ, zero, suc, ◌≤◌, List, [], ◌∷◌, map, length, refl, ◌∙◌, ap, arith, ℤ}
 use Rattle.interval_cut_law.proofs.CochainLaws.{naturality_law}
-use Rattle.interval_cut_law.specs.Operations.{operation_value}
-use Rattle.steenrod_law.proofs.Forms.{AreTerms, IsMayFamily, IsPrime, SurjectionTerm, operation_of, value_over}
+use Rattle.interval_cut_law.specs.Names.{operation_value}
+use Rattle.steenrod_law.proofs.Forms.{IsMayFamily, IsPrime, SurjectionTerm, operation_of}
 use Rattle.steenrod_law.proofs.WordBoundary.{some}
-use Rattle.steenrod_law.specs.Words.{copies}
-use Rattle.surjection_law.specs.Boundary.{caesura_count}
-use Rattle.surjection_law.specs.Surjections.{IsOnto}
-
-over-equal : (p m : ℕ) (x : List SurjectionTerm) (h g : List ℕ → ℤ) → AreTerms p m x → ((u : List ℕ) → IsOnto p u → caesura_count u ≡ m → h u ≡ g u) → value_over x h ≡ value_over x g
-over-equal p m [] h g k e = refl
-over-equal p m (t ∷ x) h g k e = (λ i. (t.1 *ℤ e t.0 k.0 k.1 i) +ℤ over-equal p m x h g k.2 e i)
+use Rattle.steenrod_law.proofs.WordCochains.{over-equal}
+use Rattle.steenrod_law.specs.Names.{copies}
 
 map-copies : (f : (List ℕ → ℤ) → List ℕ → ℤ) (k : ℕ) (a : List ℕ → ℤ) → map f (copies k a) ≡ copies k (f a)
 map-copies f zero a = refl

@@ -1,14 +1,10 @@
 -- Cochains with whole values on the simplices that a test K tells, and classes of them: forms for proofs.
-use Rattle.std.proofs.Common.{Bool, ◌≡◌, ℕ, zero, suc, ◌+◌, ◌%◌, ◌<◌, ◌≤◌, ◌⊎◌, List, [], ◌∷◌, map, length}
-use Rattle.std.specs.Prelude.{ℤ, pos, ◌+ℤ◌, ◌*ℤ◌, neg_ℤ}
-use Rattle.interval_cut_law.specs.Operations.{operation_value}
-use Rattle.signed_sum.specs.Permutations.{cycle, turned}
-use Rattle.signed_sum.specs.Sums.{IsNormalized, total, value_at}
-use Rattle.simplicial_law.specs.Integral.{CongruentInt, HasDegree, integral_coboundary}
-use Rattle.steenrod_law.specs.Values.{sum_value}
-use Rattle.steenrod_law.specs.Words.{copies}
-use Rattle.surjection_law.specs.Boundary.{caesura_count, surjection_boundary}
-use Rattle.surjection_law.specs.Surjections.{IsOnto}
+use Rattle.std.proofs.Common.{Bool, ◌≡◌, ℕ, zero, suc, ◌+◌, ◌%◌, ◌<◌, ◌≤◌, ◌⊎◌, List, [], ◌∷◌, map, length, ℤ, pos, ◌+ℤ◌, ◌*ℤ◌, neg_ℤ}
+use Rattle.interval_cut_law.specs.Names.{operation_value}
+use Rattle.signed_sum.specs.Names.{cycle, turned, IsNormalized, total, value_at}
+use Rattle.simplicial_law.specs.Names.{CongruentInt, HasDegree, integral_coboundary}
+use Rattle.steenrod_law.specs.Names.{sum_value, copies}
+use Rattle.surjection_law.specs.Names.{caesura_count, surjection_boundary, IsOnto}
 
 abbrev pub SurjectionTerm : Type 0
 SurjectionTerm = List ℕ × ℤ

@@ -1,30 +1,20 @@
 -- Pull-backs along order-preserving simplicial maps.
-use Rattle.std.proofs.Common.{Bool, ◌≡◌, ℕ, zero, suc, ◌+◌, ◌*◌, ◌-◌, inl, inr, cond, List, [], ◌∷◌, map, length, refl, sym, ◌∙◌, ap, arith, subst, true, false}
-use Rattle.std.specs.Prelude.{ℤ, pos}
+use Rattle.std.proofs.Common.{Bool, ◌≡◌, ℕ, zero, suc, ◌+◌, ◌*◌, ◌-◌, inl, inr, cond, List, [], ◌∷◌, map, length, refl, sym, ◌∙◌, ap, arith, subst, true, false, ℤ, pos}
 use Rattle.std.specs.List.{AllZip}
 use Rattle.std.proofs.lemmas.Int.{ints}
 use Rattle.std.proofs.lemmas.Bool.{cases_Bool}
 use Rattle.std.proofs.lemmas.List.{length-map}
-use Rattle.linear_law.proofs.CongruenceLemmas.{Congruent_of, Congruent_scale, Congruent_sym, Congruent_trans}
-use Rattle.linear_law.specs.Congruence.{Congruent, IsField, negated}
-use Rattle.linear_law.specs.Lists.{Each}
-use Rattle.linear_law.specs.Matrices.{matrix_times}
-use Rattle.linear_law.specs.ReducedBases.{combination}
-use Rattle.linear_law.proofs.Matrices.{coordinates-alike, from_columns}
-use Rattle.signed_sum.proofs.SumLemmas.{fun_ext}
-use Rattle.signed_sum.specs.Lists.{is_degenerate, unless_empty}
-use Rattle.signed_sum.specs.Sums.{without_one}
-use Rattle.simplicial_law.proofs.Bases.{coboundaries, cocycles}
-use Rattle.simplicial_law.proofs.IntegralCongruence.{CongruentInt_of, CongruentInt_sym, CongruentInt_trans}
-use Rattle.simplicial_law.specs.Cochains.{AgreesOnSimplices, Cochain, HasCoordinates, IsCoboundary, IsCocycle, IsCohomologyBasis, coboundary}
-use Rattle.simplicial_law.specs.Integral.{CongruentInt, integral_coboundary}
-use Rattle.simplicial_law.specs.Simplices.{IsSimplex}
+use Rattle.linear_law.proofs.Names.{Congruent_of, Congruent_scale, Congruent_sym, Congruent_trans, coordinates-alike, from_columns}
+use Rattle.linear_law.specs.Names.{Congruent, IsField, negated, Each, matrix_times, combination}
+use Rattle.signed_sum.proofs.Names.{fun_ext}
+use Rattle.signed_sum.specs.Names.{is_degenerate, unless_empty, without_one}
+use Rattle.simplicial_law.proofs.Names.{coboundaries, cocycles, CongruentInt_of, CongruentInt_sym, CongruentInt_trans}
+use Rattle.simplicial_law.specs.Names.{AgreesOnSimplices, Cochain, HasCoordinates, IsCoboundary, IsCocycle, IsCohomologyBasis, coboundary, CongruentInt, integral_coboundary, IsSimplex}
 use Rattle.steenrod_law.proofs.ClassLaws.{coboundary-vertex, matrix-law}
 use Rattle.steenrod_law.proofs.Complexes.{coboundary-extended, extended-cochain, simplex_of_weak}
 use Rattle.steenrod_law.proofs.OperationLaws.{above_one, may_operation-closed, pull_back-operation, pulled, to_residues, vertices}
 use Rattle.steenrod_law.proofs.WordCochains.{coboundary-cochain}
-use Rattle.steenrod_law.specs.Operations.{IsSimplicial, extended, may_operation, pull_back, scaled_operation}
-use Rattle.steenrod_law.specs.Words.{IsOrbitTable}
+use Rattle.steenrod_law.specs.Names.{IsSimplicial, extended, may_operation, pull_back, scaled_operation, IsOrbitTable}
 
 -- the coboundary at an image
 without_one-under : (f : ℕ → ℕ) (s : List ℕ) (h : List ℕ → ℤ) → without_one (map f s) h ≡ without_one s (λ g. h (map f g))
@@ -37,9 +27,6 @@ coboundary-under f b s = without_one-under f s (λ g. unless_empty g (b g)) ∙ 
     same : (g : List ℕ) → unless_empty (map f g) (b (map f g)) ≡ unless_empty g (b (map f g))
     same [] = refl
     same (x ∷ g) = refl
-
-abbrev none_or : Bool → ℕ
-none_or b = cond b 0 0
 
 module _ (f : ℕ → ℕ) (from to : List (List ℕ)) (p : ℕ) (field : IsField p) (simplicial : IsSimplicial f from to) where
   pub pull_back-coboundary : (q : ℕ) (y : Cochain) → AgreesOnSimplices from (q + 1) p (coboundary p (pull_back f y)) (pull_back f (coboundary p y))
@@ -74,12 +61,16 @@ module _ (f : ℕ → ℕ) (from to : List (List ℕ)) (p : ℕ) (field : IsFiel
             (Congruent_trans (h.at (map f s) (simplex_of_weak to n (map f s) (simplicial n s on) l d)) (Congruent_of (sym (ap (λ c. cond c 0 (b (map f s))) d))))
       ]
 
-  pull_back-nothing : (s : List ℕ) → pull_back f (λ t. 0) s ≡ 0
-  pull_back-nothing s = go (is_degenerate (map f s))
+  -- the pull-back is linear in the value at the image
+  pull_back-at : (a : Cochain) (s : List ℕ) → pull_back f a s ≡ cond (is_degenerate (map f s)) 0 1 * a (map f s)
+  pull_back-at a s = go (is_degenerate (map f s))
     where
-      go : (b : Bool) → none_or b ≡ 0
-      go true = refl
-      go false = refl
+      go : (b : Bool) → cond b 0 (a (map f s)) ≡ cond b 0 1 * a (map f s)
+      go true = omega arith
+      go false = omega arith
+
+  pull_back-nothing : (s : List ℕ) → pull_back f (λ t. 0) s ≡ 0
+  pull_back-nothing s = let e = pull_back-at (λ t. 0) s in omega arith
 
   pub pull_back-cocycle : (q : ℕ) (a : Cochain) → IsCocycle to q p a → IsCocycle from q p (pull_back f a)
   pull_back-cocycle q a z = record {
@@ -111,27 +102,19 @@ module _ (f : ℕ → ℕ) (from to : List (List ℕ)) (p : ℕ) (field : IsFiel
   pull_back-combination : (cs : List ℕ) (zs : List Cochain) (s : List ℕ) → pull_back f (combination cs zs) s ≡ combination cs (map (pull_back f) zs) s
   pull_back-combination [] zs s = pull_back-nothing s
   pull_back-combination (c ∷ cs) [] s = pull_back-nothing s
-  pull_back-combination (c ∷ cs) (z ∷ zs) s = go (is_degenerate (map f s)) refl (pull_back-combination cs zs s)
-    where
-      go : (b : Bool) → is_degenerate (map f s) ≡ b → cond (is_degenerate (map f s)) 0 (combination cs zs (map f s)) ≡ combination cs (map (pull_back f) zs) s →
-          cond (is_degenerate (map f s)) 0 (c * z (map f s) + combination cs zs (map f s)) ≡ c * cond (is_degenerate (map f s)) 0 (z (map f s)) + combination cs (map (pull_back f) zs) s
-      go true e h =
-          let x = ap (λ b. cond b 0 (c * z (map f s) + combination cs zs (map f s))) e in
-          let y = ap (λ b. cond b 0 (combination cs zs (map f s))) e in
-          let w = ap (λ b. c * cond b 0 (z (map f s))) e in
-          omega arith
-      go false e h =
-          let x = ap (λ b. cond b 0 (c * z (map f s) + combination cs zs (map f s))) e in
-          let y = ap (λ b. cond b 0 (combination cs zs (map f s))) e in
-          let w = ap (λ b. c * cond b 0 (z (map f s))) e in
-          omega arith
+  pull_back-combination (c ∷ cs) (z ∷ zs) s =
+      let whole = pull_back-at (combination (c ∷ cs) (z ∷ zs)) s in
+      let first = ap (λ j. c * j) (pull_back-at z s) in
+      let rest = pull_back-at (combination cs zs) s in
+      let ih = pull_back-combination cs zs s in
+      omega arith
 
   pull_back-minus : (a b : Cochain) (s : List ℕ) → pull_back f (λ t. a t + negated p (b t)) s ≡ pull_back f a s + negated p (pull_back f b s)
-  pull_back-minus a b s = go (is_degenerate (map f s))
-    where
-      go : (c : Bool) → cond c 0 (a (map f s) + (p - 1) * b (map f s)) ≡ cond c 0 (a (map f s)) + (p - 1) * cond c 0 (b (map f s))
-      go true = omega arith
-      go false = refl
+  pull_back-minus a b s =
+      let whole = pull_back-at (λ t. a t + negated p (b t)) s in
+      let first = pull_back-at a s in
+      let rest = ap (λ j. (p - 1) * j) (pull_back-at b s) in
+      omega arith
 
   pub pull_back-matrix : (q : ℕ) (zs ws : List Cochain) (As : List (List ℕ)) → AllZip (λ column u. HasCoordinates from q p zs u column) As (map (pull_back f) ws) →
       (w : Cochain) (cs : List ℕ) → HasCoordinates to q p ws w cs → HasCoordinates from q p zs (pull_back f w) (matrix_times p (length zs) As cs)
@@ -156,11 +139,7 @@ module _ (f : ℕ → ℕ) (from to : List (List ℕ)) (p : ℕ) (field : IsFiel
   }
     where
       out : (s : List ℕ) → pull_back f (scaled_operation p d c q a) s ≡ c * pull_back f (may_operation p d q a) s
-      out s = go (is_degenerate (map f s))
-        where
-          go : (b : Bool) → cond b 0 (c * may_operation p d q a (map f s)) ≡ c * cond b 0 (may_operation p d q a (map f s))
-          go true = omega arith
-          go false = refl
+      out s = let whole = pull_back-at (scaled_operation p d c q a) s in let part = ap (λ j. c * j) (pull_back-at (may_operation p d q a) s) in omega arith
 
   pub matrices-commute : (d c q n : ℕ) (ms : List (List Bool)) → IsOrbitTable p ms → (zs us zs' us' : List Cochain) (ops induced_q ops' induced_n : List (List ℕ)) →
       Each (IsCocycle from q p) zs → IsCohomologyBasis from n p us → Each (IsCocycle to q p) zs' →

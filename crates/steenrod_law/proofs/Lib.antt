@@ -3,7 +3,6 @@ pub mod Primes
 pub mod AdditiveMaps
 pub mod WordLemmas
 pub mod Staircase
-pub mod WordTurns
 pub mod Binomials
 pub mod OrbitTables
 pub mod CycleFaces

@@ -1,25 +1,17 @@
 -- The laws of the May operations on cochains of residues.
-use Rattle.std.proofs.Common.{◌≡◌, ℕ, zero, suc, ◌+◌, ◌*◌, ◌<◌, ◌≤◌, ◌-◌, ◌⊎◌, inl, inr, ◌==◌, ◌&&◌, not, eqb, eq-eqb, Bool, true, false, cond, List, [], ◌∷◌, map, length, refl, sym, ◌∙◌, ap, arith}
-use Rattle.std.specs.Prelude.{ℤ, pos, ◌+ℤ◌, ◌*ℤ◌}
+use Rattle.std.proofs.Common.{◌≡◌, ℕ, zero, suc, ◌+◌, ◌*◌, ◌<◌, ◌≤◌, ◌-◌, ◌⊎◌, inl, inr, ◌==◌, ◌&&◌, not, eqb, eq-eqb, Bool, true, false, cond, List, [], ◌∷◌, map, length, refl, sym, ◌∙◌, ap, arith, ℤ, pos, ◌+ℤ◌, ◌*ℤ◌, eqb-true}
 use Rattle.std.proofs.Math.IntN.{pos-*ℤ-pos, *ℤ-zero}
 use Rattle.std.proofs.Math.Nat.{pow-succ', pow-zero, zero-mod}
 use Rattle.std.proofs.lemmas.Int.{ints}
-use Rattle.std.proofs.lemmas.Bool.{cases_Bool, eqb-true, or_cases, or_left, or_right}
+use Rattle.std.proofs.lemmas.Bool.{cases_Bool, false≢true, or_cases, or_left, or_right}
 use Rattle.std.proofs.lemmas.List.{length-map}
 use Rattle.fp_field.specs.Element.{sign_power}
-use Rattle.interval_cut_law.specs.Operations.{operation_value}
-use Rattle.linear_law.specs.Congruence.{Congruent, IsField, negated}
-use Rattle.signed_sum.proofs.ListLemmas.{unless_empty-nothing}
-use Rattle.signed_sum.proofs.SignLemmas.{signed-zero}
-use Rattle.signed_sum.proofs.SumLemmas.{fun_ext}
-use Rattle.signed_sum.specs.Lists.{is_degenerate, unless_empty}
-use Rattle.signed_sum.specs.Signs.{signed}
-use Rattle.signed_sum.specs.Sums.{without_one}
-use Rattle.simplicial_law.proofs.IntegralBridge.{integral_congruence_law, negated_whole}
-use Rattle.simplicial_law.proofs.IntegralCongruence.{CongruentInt-neg, CongruentInt-scale, CongruentInt-signed, CongruentInt-sum, CongruentInt_of, CongruentInt_refl, CongruentInt_sym, CongruentInt_trans}
-use Rattle.simplicial_law.specs.Cochains.{AgreesOnSimplices, Cochain, IsCocycle, coboundary}
-use Rattle.simplicial_law.specs.Integral.{CongruentInt, integral_coboundary}
-use Rattle.simplicial_law.specs.Simplices.{IsSimplex}
+use Rattle.interval_cut_law.specs.Names.{operation_value}
+use Rattle.linear_law.specs.Names.{Congruent, IsField, negated}
+use Rattle.signed_sum.proofs.Names.{signed-zero, fun_ext}
+use Rattle.signed_sum.specs.Names.{is_degenerate, unless_empty, signed, without_one}
+use Rattle.simplicial_law.proofs.Names.{integral_congruence_law, negated_whole, CongruentInt-neg, CongruentInt-scale, CongruentInt-signed, CongruentInt-sum, CongruentInt_of, CongruentInt_refl, CongruentInt_sym, CongruentInt_trans}
+use Rattle.simplicial_law.specs.Names.{AgreesOnSimplices, Cochain, IsCocycle, coboundary, CongruentInt, integral_coboundary, no_cochain, IsSimplex}
 use Rattle.steenrod_law.proofs.AdditiveMaps.{adds-zero}
 use Rattle.steenrod_law.proofs.Additivity.{additive}
 use Rattle.steenrod_law.proofs.Classes.{operation-mod}
@@ -36,10 +28,8 @@ use Rattle.steenrod_law.proofs.Staircase.{stair-alike, stair-sum}
 use Rattle.steenrod_law.proofs.ValuesOnFaces.{value-none-at}
 use Rattle.steenrod_law.proofs.WordBoundary.{some}
 use Rattle.steenrod_law.proofs.WordCochains.{over-same, over-sum}
-use Rattle.steenrod_law.specs.Operations.{IsWeakSimplex, extended, may_operation, orbit_primitive, pull_back, residue, residue_cochain, staircase_primitive}
-use Rattle.steenrod_law.specs.Values.{orbit_sum, staircase_sum, sum_above, sum_to, sum_value, word_cochains}
-use Rattle.steenrod_law.specs.Words.{HaveLength, IsOrbitTable, staircase}
-use Rattle.table_reduction_law.specs.MayElements.{may_element}
+use Rattle.steenrod_law.specs.Names.{IsWeakSimplex, extended, may_operation, orbit_primitive, pull_back, residue, residue_cochain, staircase_primitive, orbit_sum, staircase_sum, sum_above, sum_to, sum_value, word_cochains, HaveLength, IsOrbitTable, staircase}
+use Rattle.table_reduction_law.specs.Names.{may_element}
 
 -- the operation on cochains with whole values
 abbrev pub whole_operation : ℕ → ℕ → (List ℕ → ℤ) → List ℕ → ℤ
@@ -171,22 +161,22 @@ module _ (p : ℕ) (field : IsField p) where
 
   -- complexes on which the cochains are 0
 
-  zero-there : (facets : List (List ℕ)) (q : ℕ) (a : Cochain) → ((s : List ℕ) → IsSimplex facets q s → a s ≡ 0) → (f : List ℕ) → IsWeakSimplex facets f → extended q a f ≡ pos 0
+  zero-there : (facets : List (List ℕ)) (q : ℕ) (a : Cochain) → AgreesOnSimplices facets q p a no_cochain → (f : List ℕ) → IsWeakSimplex facets f → CongruentInt p (extended q a f) (pos 0)
   zero-there facets q a z f k = elim (simplex_or_none facets q f k) [
-    | inl s ↦ extended-simplex facets q a f s ∙ ap pos (z f s)
-    | inr n ↦ n.zero_there (extended q a) (extended-cochain q a)
+    | inl s ↦ CongruentInt_trans (CongruentInt_of (extended-simplex facets q a f s)) (integral_congruence_law.whole p (a f) 0 (z.at f s))
+    | inr n ↦ CongruentInt_of (n.zero_there (extended q a) (extended-cochain q a))
   ]
 
   word-none : (facets : List (List ℕ)) (m : ℕ) (x : List SurjectionTerm) (a b : List ℕ → ℤ) (w : List Bool) (s : List ℕ) → AreTerms p m x → length w ≡ p → IsWeakSimplex facets s → 1 ≤ length s →
-      ((f : List ℕ) → IsWeakSimplex facets f → a f ≡ pos 0) → ((f : List ℕ) → IsWeakSimplex facets f → b f ≡ pos 0) → CongruentInt p (sum_value p x (word_cochains a b w) s) (pos 0)
+      ((f : List ℕ) → IsWeakSimplex facets f → CongruentInt p (a f) (pos 0)) → ((f : List ℕ) → IsWeakSimplex facets f → CongruentInt p (b f) (pos 0)) → CongruentInt p (sum_value p x (word_cochains a b w) s) (pos 0)
   word-none facets m x a b [] s t e k h za zb = absurd (let l = positive_here in omega (arith, l, e))
   word-none facets m x a b (l ∷ w) s t e k h za zb =
       CongruentInt_trans
       (over-same p m x (λ u. operation_value p u (word_cochains a b (l ∷ w)) s) (λ u. pos 0) t
-      (λ u o c. value-none-at p p u s [] (word_cochains a b w) (cond l b a) (some p u positive_here o) h (λ f v. CongruentInt_of (either l f (weak-closed facets f s v k)))))
+      (λ u o c. value-none-at p p u s [] (word_cochains a b w) (cond l b a) (some p u positive_here o) h (λ f v. either l f (weak-closed facets f s v k))))
       (CongruentInt_of (adds-zero (value_over x) (over-sum x)))
     where
-      either : (l : Bool) (f : List ℕ) → IsWeakSimplex facets f → cond l b a f ≡ pos 0
+      either : (l : Bool) (f : List ℕ) → IsWeakSimplex facets f → CongruentInt p (cond l b a f) (pos 0)
       either true f q = zb f q
       either false f q = za f q
 
@@ -195,7 +185,7 @@ module _ (p : ℕ) (field : IsField p) where
   total-none (w ∷ ms) h k e = CongruentInt-sum (e w k.0) (total-none ms h k.1 e)
 
   pub orbit-subcomplex : (facets : List (List ℕ)) (d q n : ℕ) (ms : List (List Bool)) (a c : Cochain) → IsOrbitTable p ms →
-      ((s : List ℕ) → IsSimplex facets q s → a s ≡ 0) → ((s : List ℕ) → IsSimplex facets q s → c s ≡ 0) → (s : List ℕ) → IsSimplex facets n s → Congruent p (orbit_primitive p d q ms a c s) 0
+      AgreesOnSimplices facets q p a no_cochain → AgreesOnSimplices facets q p c no_cochain → (s : List ℕ) → IsSimplex facets n s → Congruent p (orbit_primitive p d q ms a c s) 0
   orbit-subcomplex facets d q n ms a c orbits za zc s on =
       let h = vertices facets n s on in
       to_residues (CongruentInt_trans (residue_cochain-same p (orbit_sum p d (may_element p) ms (extended q a) (extended q c)) s above_one h)
@@ -206,21 +196,23 @@ module _ (p : ℕ) (field : IsField p) where
   weak-refl [] = none
   weak-refl (x ∷ s) = take (drop (weak-refl s))
 
-  faces-none : (f : List ℕ) (h : List ℕ → ℤ) → ((g : List ℕ) → IsWeakFace g f → h g ≡ pos 0) → without_one f h ≡ pos 0
-  faces-none [] h e = refl
+  faces-none : (f : List ℕ) (h : List ℕ → ℤ) → ((g : List ℕ) → IsWeakFace g f → CongruentInt p (h g) (pos 0)) → CongruentInt p (without_one f h) (pos 0)
+  faces-none [] h e = CongruentInt_refl (pos 0)
   faces-none (x ∷ f) h e =
-      let a = e f (drop (weak-refl f)) in
-      let b = faces-none f (λ g. h (x ∷ g)) (λ g w. e (x ∷ g) (take (drop w))) in
-      omega (arith, ints)
+      CongruentInt-sum (e f (drop (weak-refl f))) (CongruentInt-neg (faces-none f (λ g. h (x ∷ g)) (λ g w. e (x ∷ g) (take (drop w)))))
 
-  coboundary-none : (facets : List (List ℕ)) (b : List ℕ → ℤ) → ((f : List ℕ) → IsWeakSimplex facets f → b f ≡ pos 0) → (f : List ℕ) → IsWeakSimplex facets f → integral_coboundary b f ≡ pos 0
-  coboundary-none facets b z f k = faces-none f (λ g. unless_empty g (b g)) (λ g w. ap (unless_empty g) (z g (weak-closed facets g f w k)) ∙ unless_empty-nothing g)
+  coboundary-none : (facets : List (List ℕ)) (b : List ℕ → ℤ) → ((f : List ℕ) → IsWeakSimplex facets f → CongruentInt p (b f) (pos 0)) → (f : List ℕ) → IsWeakSimplex facets f → CongruentInt p (integral_coboundary b f) (pos 0)
+  coboundary-none facets b z f k = faces-none f (λ g. unless_empty g (b g)) (λ g w. filled g (z g (weak-closed facets g f w k)))
+    where
+      filled : (g : List ℕ) → CongruentInt p (b g) (pos 0) → CongruentInt p (unless_empty g (b g)) (pos 0)
+      filled [] e = CongruentInt_refl (pos 0)
+      filled (x ∷ g) e = e
 
   steps-none : (d : ℕ) (f : ℕ → ℤ) → ((j : ℕ) → CongruentInt p (f j) (pos 0)) → CongruentInt p (sum_to d f) (pos 0)
   steps-none zero f e = e 0
   steps-none (suc d) f e = CongruentInt-sum (steps-none d f e) (e (suc d))
 
-  pub staircase-subcomplex : (facets : List (List ℕ)) (d q n : ℕ) (y : Cochain) → ((s : List ℕ) → IsSimplex facets q s → y s ≡ 0) → (s : List ℕ) → IsSimplex facets n s → Congruent p (staircase_primitive p d q y s) 0
+  pub staircase-subcomplex : (facets : List (List ℕ)) (d q n : ℕ) (y : Cochain) → AgreesOnSimplices facets q p y no_cochain → (s : List ℕ) → IsSimplex facets n s → Congruent p (staircase_primitive p d q y s) 0
   staircase-subcomplex facets d q n y zy s on =
       let h = vertices facets n s on in
       let z = zero-there facets q y zy in
@@ -246,36 +238,16 @@ is_degenerate-under f (x ∷ y ∷ g) d = elim (or_cases (eqb x y) (is_degenerat
 ]
 
 pub pulled : (f : ℕ → ℕ) (q : ℕ) (a : Cochain) (g : List ℕ) → extended q a (map f g) ≡ extended q (pull_back f a) g
-pulled f q a g = go (length g == suc q) (cases_Bool (is_degenerate g))
+pulled f q a g =
+    ap (λ n. cond ((n == suc q) && not (is_degenerate (map f g))) (pos (a (map f g))) (pos 0)) (length-map g f)
+    ∙ go (length g == suc q) (is_degenerate g) (is_degenerate (map f g)) (a (map f g)) (is_degenerate-under f g)
   where
-    same : extended q a (map f g) ≡ cond ((length g == suc q) && not (is_degenerate (map f g))) (pos (a (map f g))) (pos 0)
-    same = ap (λ n. cond ((n == suc q) && not (is_degenerate (map f g))) (pos (a (map f g))) (pos 0)) (length-map g f)
-
-    inner : (b : Bool) → cond (not b) (pos (a (map f g))) (pos 0) ≡ pos (cond b 0 (a (map f g)))
-    inner true = refl
-    inner false = refl
-
-    go : (b : Bool) → (is_degenerate g ≡ true) ⊎ (is_degenerate g ≡ false) → extended q a (map f g) ≡ extended q (pull_back f a) g
-    go b (inl d) = same
-        ∙ ap (λ c. cond ((length g == suc q) && not c) (pos (a (map f g))) (pos 0)) (is_degenerate-under f g d) ∙ both (length g == suc q)
-        ∙ sym (ap (λ c. cond ((length g == suc q) && not c) (pos (pull_back f a g)) (pos 0)) d ∙ both2 (length g == suc q))
-      where
-        both : (b : Bool) → cond (b && false) (pos (a (map f g))) (pos 0) ≡ pos 0
-        both true = refl
-        both false = refl
-
-        both2 : (b : Bool) → cond (b && false) (pos (pull_back f a g)) (pos 0) ≡ pos 0
-        both2 true = refl
-        both2 false = refl
-    go b (inr d) = same ∙ outer (length g == suc q) ∙ sym (ap (λ c. cond ((length g == suc q) && not c) (pos (pull_back f a g)) (pos 0)) d ∙ outer2 (length g == suc q))
-      where
-        outer : (b : Bool) → cond (b && not (is_degenerate (map f g))) (pos (a (map f g))) (pos 0) ≡ cond b (pos (pull_back f a g)) (pos 0)
-        outer true = inner (is_degenerate (map f g))
-        outer false = refl
-
-        outer2 : (b : Bool) → cond (b && true) (pos (pull_back f a g)) (pos 0) ≡ cond b (pos (pull_back f a g)) (pos 0)
-        outer2 true = refl
-        outer2 false = refl
+    go : (long d e : Bool) (n : ℕ) → (d ≡ true → e ≡ true) → cond (long && not e) (pos n) (pos 0) ≡ cond (long && not d) (pos (cond e 0 n)) (pos 0)
+    go false d e n h = refl
+    go true true true n h = refl
+    go true true false n h = absurd (false≢true (h refl))
+    go true false true n h = refl
+    go true false false n h = refl
 
 pub pull_back-operation : (p : ℕ) → IsField p → (f : ℕ → ℕ) (d q : ℕ) (a : Cochain) (s : List ℕ) → 1 ≤ length s → Congruent p (may_operation p d q (pull_back f a) s) (pull_back f (may_operation p d q a) s)
 pull_back-operation p field f d q a s h = elim (cases_Bool (is_degenerate (map f s))) [

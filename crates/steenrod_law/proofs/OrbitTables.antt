@@ -1,91 +1,125 @@
--- The orbit words of 2, 3 and 5.
-use Rattle.std.proofs.Common.{◌≡◌, true, false, Bool, List, [], ◌∷◌, refl, arith}
-use Rattle.std.specs.Prelude.{ℤ, pos, ◌+ℤ◌}
+-- The words of the listed masks are an orbit table: the words of p letters are, up to their order, the two
+-- constant words and the turns of the words of the masks.
+use Rattle.std.proofs.Common.{◌≡◌, ℕ, zero, suc, ◌+◌, ◌*◌, ◌/◌, ◌%◌, ◌==◌, ◌&&◌, Bool, true, false, cond, List, [], ◌∷◌, ◌++◌, map, length, refl, sym, ◌∙◌, ap, arith, ℤ, pos, ◌+ℤ◌, IsTrue}
+use Rattle.std.specs.List.{flat_map}
+use Rattle.std.proofs.lemmas.Bool.{and_parts, cases_Bool, false≢true}
 use Rattle.std.proofs.lemmas.Int.{ints}
 use Rattle.fp_field.proofs.ServedLemmas.{for_served}
-use Rattle.steenrod_law.proofs.Forms.{word_sum}
-use Rattle.steenrod_law.specs.Laws.{OrbitTables}
-use Rattle.steenrod_law.specs.Words.{IsOrbitTable, all_words, copies, norm, orbit_words_of_2, orbit_words_of_3, orbit_words_of_5}
+use Rattle.signed_sum.specs.Names.{letters, signed, total}
+use Rattle.fp_field.specs.Orbits.{orbit_masks, orbit_words}
+use Rattle.fp_field.specs.Served.{served}
+use Rattle.signed_sum.proofs.Names.{total-append, total-map}
+use Rattle.steenrod_law.specs.Names.{OrbitWordsLaw, HaveLength, IsOrbitTable, all_words, copies, norm, turn_back_power, word_degree}
 
-once_2 : (h : List Bool → ℤ) → all_words 2 h ≡ (h (copies 2 false) +ℤ h (copies 2 true)) +ℤ word_sum orbit_words_of_2 (norm (λ l. 0) 2 h)
-once_2 h = omega (arith, ints)
+-- equal words, and lists of words that are equal up to their order
 
-once_3 : (h : List Bool → ℤ) → all_words 3 h ≡ (h (copies 3 false) +ℤ h (copies 3 true)) +ℤ word_sum orbit_words_of_3 (norm (λ l. 0) 3 h)
-once_3 h = omega (arith, ints)
+abbrev is_word : List Bool → List Bool → Bool
+is_word [] [] = true
+is_word [] (m ∷ v) = false
+is_word (l ∷ w) [] = false
+is_word (true ∷ w) (true ∷ v) = is_word w v
+is_word (true ∷ w) (false ∷ v) = false
+is_word (false ∷ w) (true ∷ v) = false
+is_word (false ∷ w) (false ∷ v) = is_word w v
 
-half_false : (h : List Bool → ℤ) → all_words 4 (λ w. h (false ∷ w)) ≡ ((((((h (false ∷ false ∷ false ∷ false ∷ false ∷ []) +ℤ (((h (false ∷ false ∷ false ∷ false ∷ true ∷ []) +ℤ h (false ∷ false ∷ false ∷ true ∷ false ∷ [])) +ℤ h (false ∷ false ∷ true ∷ false ∷ false ∷ [])) +ℤ h (false ∷ true ∷ false ∷ false ∷ false ∷ []))) +ℤ ((h (false ∷ false ∷ false ∷ true ∷ true ∷ []) +ℤ h (false ∷ false ∷ true ∷ true ∷ false ∷ [])) +ℤ h (false ∷ true ∷ true ∷ false ∷ false ∷ []))) +ℤ ((h (false ∷ true ∷ false ∷ false ∷ true ∷ []) +ℤ h (false ∷ false ∷ true ∷ false ∷ true ∷ [])) +ℤ h (false ∷ true ∷ false ∷ true ∷ false ∷ []))) +ℤ (h (false ∷ false ∷ true ∷ true ∷ true ∷ []) +ℤ h (false ∷ true ∷ true ∷ true ∷ false ∷ []))) +ℤ (h (false ∷ true ∷ false ∷ true ∷ true ∷ []) +ℤ h (false ∷ true ∷ true ∷ false ∷ true ∷ []))) +ℤ h (false ∷ true ∷ true ∷ true ∷ true ∷ []))
-half_false h = omega (arith, ints)
+is_word-same : (w v : List Bool) → is_word w v ≡ true → w ≡ v
+is_word-same [] [] e = refl
+is_word-same [] (m ∷ v) e = absurd (false≢true e)
+is_word-same (l ∷ w) [] e = absurd (false≢true e)
+is_word-same (true ∷ w) (true ∷ v) e = ap (λ u. true ∷ u) (is_word-same w v e)
+is_word-same (true ∷ w) (false ∷ v) e = absurd (false≢true e)
+is_word-same (false ∷ w) (true ∷ v) e = absurd (false≢true e)
+is_word-same (false ∷ w) (false ∷ v) e = ap (λ u. false ∷ u) (is_word-same w v e)
 
-half_true : (h : List Bool → ℤ) → all_words 4 (λ w. h (true ∷ w)) ≡ ((((((h (true ∷ true ∷ true ∷ true ∷ true ∷ []) +ℤ h (true ∷ false ∷ false ∷ false ∷ false ∷ [])) +ℤ (h (true ∷ true ∷ false ∷ false ∷ false ∷ []) +ℤ h (true ∷ false ∷ false ∷ false ∷ true ∷ []))) +ℤ (h (true ∷ false ∷ true ∷ false ∷ false ∷ []) +ℤ h (true ∷ false ∷ false ∷ true ∷ false ∷ []))) +ℤ ((h (true ∷ true ∷ true ∷ false ∷ false ∷ []) +ℤ h (true ∷ true ∷ false ∷ false ∷ true ∷ [])) +ℤ h (true ∷ false ∷ false ∷ true ∷ true ∷ []))) +ℤ ((h (true ∷ true ∷ false ∷ true ∷ false ∷ []) +ℤ h (true ∷ false ∷ true ∷ false ∷ true ∷ [])) +ℤ h (true ∷ false ∷ true ∷ true ∷ false ∷ []))) +ℤ (((h (true ∷ true ∷ true ∷ true ∷ false ∷ []) +ℤ h (true ∷ true ∷ true ∷ false ∷ true ∷ [])) +ℤ h (true ∷ true ∷ false ∷ true ∷ true ∷ [])) +ℤ h (true ∷ false ∷ true ∷ true ∷ true ∷ [])))
-half_true h = omega (arith, ints)
+abbrev has_word : List Bool → List (List Bool) → Bool
+has_word w [] = false
+has_word w (v ∷ vs) = cond (is_word w v) true (has_word w vs)
 
-orbit_0 : (h : List Bool → ℤ) → norm (λ l. 0) 5 h (true ∷ false ∷ false ∷ false ∷ false ∷ []) ≡ (((h (false ∷ false ∷ false ∷ false ∷ true ∷ []) +ℤ h (false ∷ false ∷ false ∷ true ∷ false ∷ [])) +ℤ h (false ∷ false ∷ true ∷ false ∷ false ∷ [])) +ℤ h (false ∷ true ∷ false ∷ false ∷ false ∷ [])) +ℤ h (true ∷ false ∷ false ∷ false ∷ false ∷ [])
-orbit_0 h = omega (arith, ints)
+abbrev without_word : List Bool → List (List Bool) → List (List Bool)
+without_word w [] = []
+without_word w (v ∷ vs) = cond (is_word w v) vs (v ∷ without_word w vs)
 
-orbit_1 : (h : List Bool → ℤ) → norm (λ l. 0) 5 h (true ∷ true ∷ false ∷ false ∷ false ∷ []) ≡ ((h (false ∷ false ∷ false ∷ true ∷ true ∷ []) +ℤ h (false ∷ false ∷ true ∷ true ∷ false ∷ [])) +ℤ h (false ∷ true ∷ true ∷ false ∷ false ∷ [])) +ℤ (h (true ∷ true ∷ false ∷ false ∷ false ∷ []) +ℤ h (true ∷ false ∷ false ∷ false ∷ true ∷ []))
-orbit_1 h = omega (arith, ints)
+abbrev are_words : List (List Bool) → List (List Bool) → Bool
+are_words [] [] = true
+are_words [] (v ∷ vs) = false
+are_words (w ∷ ws) vs = has_word w vs && are_words ws (without_word w vs)
 
-orbit_2 : (h : List Bool → ℤ) → norm (λ l. 0) 5 h (true ∷ false ∷ true ∷ false ∷ false ∷ []) ≡ ((h (false ∷ true ∷ false ∷ false ∷ true ∷ []) +ℤ h (false ∷ false ∷ true ∷ false ∷ true ∷ [])) +ℤ h (false ∷ true ∷ false ∷ true ∷ false ∷ [])) +ℤ (h (true ∷ false ∷ true ∷ false ∷ false ∷ []) +ℤ h (true ∷ false ∷ false ∷ true ∷ false ∷ []))
-orbit_2 h = omega (arith, ints)
+module _ (h : List Bool → ℤ) where
+  total-without : (w : List Bool) (vs : List (List Bool)) → has_word w vs ≡ true → total h vs ≡ h w +ℤ total h (without_word w vs)
+  total-without w [] e = absurd (false≢true e)
+  total-without w (v ∷ vs) e = go (is_word w v) (is_word-same w v) (total-without w vs) e
+    where
+      go : (b : Bool) → (b ≡ true → w ≡ v) → (has_word w vs ≡ true → total h vs ≡ h w +ℤ total h (without_word w vs)) → cond b true (has_word w vs) ≡ true → h v +ℤ total h vs ≡ h w +ℤ total h (cond b vs (v ∷ without_word w vs))
+      go true same ih e = ap (λ u. h u +ℤ total h vs) (sym (same refl))
+      go false same ih e = let r = ih e in omega (arith, ints)
 
-orbit_3 : (h : List Bool → ℤ) → norm (λ l. 0) 5 h (true ∷ true ∷ true ∷ false ∷ false ∷ []) ≡ (h (false ∷ false ∷ true ∷ true ∷ true ∷ []) +ℤ h (false ∷ true ∷ true ∷ true ∷ false ∷ [])) +ℤ ((h (true ∷ true ∷ true ∷ false ∷ false ∷ []) +ℤ h (true ∷ true ∷ false ∷ false ∷ true ∷ [])) +ℤ h (true ∷ false ∷ false ∷ true ∷ true ∷ []))
-orbit_3 h = omega (arith, ints)
+  total-words : (ws vs : List (List Bool)) → are_words ws vs ≡ true → total h ws ≡ total h vs
+  total-words [] [] e = refl
+  total-words [] (v ∷ vs) e = absurd (false≢true e)
+  total-words (w ∷ ws) vs e =
+      let both = and_parts (has_word w vs) (are_words ws (without_word w vs)) e in
+      ap (λ z. h w +ℤ z) (total-words ws (without_word w vs) both.1) ∙ sym (total-without w vs both.0)
 
-orbit_4 : (h : List Bool → ℤ) → norm (λ l. 0) 5 h (true ∷ true ∷ false ∷ true ∷ false ∷ []) ≡ (h (false ∷ true ∷ false ∷ true ∷ true ∷ []) +ℤ h (false ∷ true ∷ true ∷ false ∷ true ∷ [])) +ℤ ((h (true ∷ true ∷ false ∷ true ∷ false ∷ []) +ℤ h (true ∷ false ∷ true ∷ false ∷ true ∷ [])) +ℤ h (true ∷ false ∷ true ∷ true ∷ false ∷ []))
-orbit_4 h = omega (arith, ints)
+-- all words, and the turns of one, as lists
 
-orbit_5 : (h : List Bool → ℤ) → norm (λ l. 0) 5 h (true ∷ true ∷ true ∷ true ∷ false ∷ []) ≡ h (false ∷ true ∷ true ∷ true ∷ true ∷ []) +ℤ (((h (true ∷ true ∷ true ∷ true ∷ false ∷ []) +ℤ h (true ∷ true ∷ true ∷ false ∷ true ∷ [])) +ℤ h (true ∷ true ∷ false ∷ true ∷ true ∷ [])) +ℤ h (true ∷ false ∷ true ∷ true ∷ true ∷ []))
-orbit_5 h = omega (arith, ints)
+abbrev words : ℕ → List (List Bool)
+words zero = [] ∷ []
+words (suc k) = map (λ w. false ∷ w) (words k) ++ map (λ w. true ∷ w) (words k)
 
-join : (x y a b f0 f1 f2 f3 f4 f5 t0 t1 t2 t3 t4 t5 n0 n1 n2 n3 n4 n5 : ℤ) → x ≡ ((((((a +ℤ f0) +ℤ f1) +ℤ f2) +ℤ f3) +ℤ f4) +ℤ f5) → y ≡ ((((((b +ℤ t0) +ℤ t1) +ℤ t2) +ℤ t3) +ℤ t4) +ℤ t5) → n0 ≡ f0 +ℤ t0 → n1 ≡ f1 +ℤ t1 → n2 ≡ f2 +ℤ t2 → n3 ≡ f3 +ℤ t3 → n4 ≡ f4 +ℤ t4 → n5 ≡ f5 +ℤ t5 → x +ℤ y ≡ (a +ℤ b) +ℤ (n0 +ℤ (n1 +ℤ (n2 +ℤ (n3 +ℤ (n4 +ℤ (n5 +ℤ pos 0))))))
-join x y a b f0 f1 f2 f3 f4 f5 t0 t1 t2 t3 t4 t5 n0 n1 n2 n3 n4 n5 hx hy k0 k1 k2 k3 k4 k5 = omega (arith, ints)
+all_words-listed : (k : ℕ) (h : List Bool → ℤ) → all_words k h ≡ total h (words k)
+all_words-listed zero h = omega (arith, ints)
+all_words-listed (suc k) h =
+    (λ i. all_words-listed k (λ w. h (false ∷ w)) i +ℤ all_words-listed k (λ w. h (true ∷ w)) i)
+    ∙ sym (total-append h (map (λ w. false ∷ w) (words k)) (map (λ w. true ∷ w) (words k))
+    ∙ (λ i. total-map h (λ w. false ∷ w) (words k) i +ℤ total-map h (λ w. true ∷ w) (words k) i))
 
-once_5 : (h : List Bool → ℤ) → all_words 5 h ≡ (h (copies 5 false) +ℤ h (copies 5 true)) +ℤ word_sum orbit_words_of_5 (norm (λ l. 0) 5 h)
-once_5 h =
-    join (all_words 4 (λ w. h (false ∷ w)))
-    (all_words 4 (λ w. h (true ∷ w)))
-    (h (false ∷ false ∷ false ∷ false ∷ false ∷ []))
-    (h (true ∷ true ∷ true ∷ true ∷ true ∷ []))
-    (((h (false ∷ false ∷ false ∷ false ∷ true ∷ []) +ℤ h (false ∷ false ∷ false ∷ true ∷ false ∷ [])) +ℤ h (false ∷ false ∷ true ∷ false ∷ false ∷ [])) +ℤ h (false ∷ true ∷ false ∷ false ∷ false ∷ []))
-    ((h (false ∷ false ∷ false ∷ true ∷ true ∷ []) +ℤ h (false ∷ false ∷ true ∷ true ∷ false ∷ [])) +ℤ h (false ∷ true ∷ true ∷ false ∷ false ∷ []))
-    ((h (false ∷ true ∷ false ∷ false ∷ true ∷ []) +ℤ h (false ∷ false ∷ true ∷ false ∷ true ∷ [])) +ℤ h (false ∷ true ∷ false ∷ true ∷ false ∷ []))
-    (h (false ∷ false ∷ true ∷ true ∷ true ∷ []) +ℤ h (false ∷ true ∷ true ∷ true ∷ false ∷ []))
-    (h (false ∷ true ∷ false ∷ true ∷ true ∷ []) +ℤ h (false ∷ true ∷ true ∷ false ∷ true ∷ []))
-    (h (false ∷ true ∷ true ∷ true ∷ true ∷ []))
-    (h (true ∷ false ∷ false ∷ false ∷ false ∷ []))
-    (h (true ∷ true ∷ false ∷ false ∷ false ∷ []) +ℤ h (true ∷ false ∷ false ∷ false ∷ true ∷ []))
-    (h (true ∷ false ∷ true ∷ false ∷ false ∷ []) +ℤ h (true ∷ false ∷ false ∷ true ∷ false ∷ []))
-    ((h (true ∷ true ∷ true ∷ false ∷ false ∷ []) +ℤ h (true ∷ true ∷ false ∷ false ∷ true ∷ [])) +ℤ h (true ∷ false ∷ false ∷ true ∷ true ∷ []))
-    ((h (true ∷ true ∷ false ∷ true ∷ false ∷ []) +ℤ h (true ∷ false ∷ true ∷ false ∷ true ∷ [])) +ℤ h (true ∷ false ∷ true ∷ true ∷ false ∷ []))
-    (((h (true ∷ true ∷ true ∷ true ∷ false ∷ []) +ℤ h (true ∷ true ∷ true ∷ false ∷ true ∷ [])) +ℤ h (true ∷ true ∷ false ∷ true ∷ true ∷ [])) +ℤ h (true ∷ false ∷ true ∷ true ∷ true ∷ []))
-    (norm (λ l. 0) 5 h (true ∷ false ∷ false ∷ false ∷ false ∷ []))
-    (norm (λ l. 0) 5 h (true ∷ true ∷ false ∷ false ∷ false ∷ []))
-    (norm (λ l. 0) 5 h (true ∷ false ∷ true ∷ false ∷ false ∷ []))
-    (norm (λ l. 0) 5 h (true ∷ true ∷ true ∷ false ∷ false ∷ []))
-    (norm (λ l. 0) 5 h (true ∷ true ∷ false ∷ true ∷ false ∷ []))
-    (norm (λ l. 0) 5 h (true ∷ true ∷ true ∷ true ∷ false ∷ []))
-    (half_false h)
-    (half_true h)
-    (orbit_0 h)
-    (orbit_1 h)
-    (orbit_2 h)
-    (orbit_3 h)
-    (orbit_4 h)
-    (orbit_5 h)
+abbrev first_last : List Bool → List Bool
+first_last [] = []
+first_last (l ∷ w) = w ++ (l ∷ [])
 
-two_words : IsOrbitTable 2 orbit_words_of_2
-two_words = record { long = (refl, tt); once = once_2 }
+abbrev turned_word : ℕ → List Bool → List Bool
+turned_word zero w = w
+turned_word (suc k) w = turned_word k (first_last w)
 
-three_words : IsOrbitTable 3 orbit_words_of_3
-three_words = record { long = (refl, (refl, tt)); once = once_3 }
+abbrev turns : ℕ → List Bool → List (List Bool)
+turns zero w = []
+turns (suc k) w = turned_word k w ∷ turns k w
 
-five_words : IsOrbitTable 5 orbit_words_of_5
-five_words = record { long = (refl, (refl, (refl, (refl, (refl, (refl, tt)))))); once = once_5 }
+power-turned : (k : ℕ) (h : List Bool → ℤ) (w : List Bool) → turn_back_power (λ l. 0) k h w ≡ h (turned_word k w)
+power-turned zero h w = refl
+power-turned (suc k) h [] = power-turned k h []
+power-turned (suc k) h (l ∷ w) =
+    let none : 0 * word_degree (λ m. 0) w ≡ 0 = omega arith in
+    ap (λ e. signed e (turn_back_power (λ m. 0) k h (w ++ (l ∷ [])))) none ∙ power-turned k h (w ++ (l ∷ []))
 
-pub orbit_tables : OrbitTables
-orbit_tables = record {
-  two = two_words;
-  three = three_words;
-  five = five_words;
-  all_served = λ p h. for_served (λ p. (ms : List (List Bool)) × IsOrbitTable p ms) p (orbit_words_of_2, two_words) (orbit_words_of_3, three_words) (orbit_words_of_5, five_words) h;
+norm-turns : (k : ℕ) (h : List Bool → ℤ) (w : List Bool) → norm (λ l. 0) k h w ≡ total h (turns k w)
+norm-turns zero h w = refl
+norm-turns (suc k) h w = let a = norm-turns k h w in let b = power-turned k h w in omega (arith, ints)
+
+norms-turns : (p : ℕ) (h : List Bool → ℤ) (ms : List (List Bool)) → total (norm (λ l. 0) p h) ms ≡ total h (flat_map (turns p) ms)
+norms-turns p h [] = refl
+norms-turns p h (w ∷ ms) = (λ i. norm-turns p h w i +ℤ norms-turns p h ms i) ∙ sym (total-append h (turns p w) (flat_map (turns p) ms))
+
+-- the words of the masks
+
+long : (p : ℕ) (masks : List ℕ) → HaveLength p (map (letters p) masks)
+long p [] = tt
+long p (mask ∷ masks) = (as_long p mask, long p masks)
+  where
+    as_long : (k m : ℕ) → length (letters k m) ≡ k
+    as_long zero m = refl
+    as_long (suc k) m = ap suc (as_long k (m / 2))
+
+pub orbit_words_law : OrbitWordsLaw
+orbit_words_law p h = record {
+  long = long p (orbit_masks p);
+  once = λ f. (
+      let orbits : List (List Bool) = flat_map (turns p) (orbit_words p) in
+      let a = all_words-listed p f in
+      let b = total-words f (words p) (copies p false ∷ copies p true ∷ orbits) (all_reached p h) in
+      let c = norms-turns p f (orbit_words p) in
+      omega (arith, ints));
 }
+  where
+    all_reached : (p : ℕ) → IsTrue (served p) → are_words (words p) (copies p false ∷ copies p true ∷ flat_map (turns p) (orbit_words p)) ≡ true
+    all_reached p h = for_served (λ m. are_words (words m) (copies m false ∷ copies m true ∷ flat_map (turns m) (orbit_words m)) ≡ true) p refl refl refl h

@@ -1,31 +1,22 @@
 -- Matrices of squares, powers and Bockstein powers.
-use Rattle.std.proofs.Common.{◌≡◌, ℕ, zero, suc, ◌+◌, ◌-◌, ◌*◌, ◌^◌, ◌<◌, Bool, List, [], ◌∷◌, length, sym, ◌∙◌, ap, arith}
-use Rattle.std.specs.Prelude.{ℤ, pos, ◌+ℤ◌, ◌*ℤ◌, neg_ℤ}
+use Rattle.std.proofs.Common.{◌≡◌, ℕ, zero, suc, ◌+◌, ◌-◌, ◌*◌, ◌^◌, ◌<◌, Bool, List, [], ◌∷◌, length, refl, sym, ◌∙◌, ap, arith, ℤ, pos, ◌+ℤ◌, ◌*ℤ◌, neg_ℤ}
 use Rattle.std.specs.List.{AllZip}
 use Rattle.std.proofs.Math.IntN.{pos-*ℤ-pos}
 use Rattle.std.proofs.Math.Nat.{pow-succ', pow-zero}
 use Rattle.std.proofs.lemmas.Int.{ints}
 use Rattle.fp_field.proofs.ServedLemmas.{served_field}
+use Rattle.fp_field.specs.Orbits.{orbit_words}
 use Rattle.fp_field.specs.Element.{IsScale, factorial, half}
-use Rattle.linear_law.proofs.CongruenceLemmas.{Congruent_mul, Congruent_of, Congruent_refl, Congruent_scale, Congruent_sym, Congruent_trans}
-use Rattle.linear_law.proofs.Primes.{two_field}
-use Rattle.linear_law.specs.Congruence.{Congruent, IsField, negated}
-use Rattle.linear_law.specs.Lists.{Each}
-use Rattle.linear_law.specs.Matrices.{matrix_times}
-use Rattle.linear_law.proofs.Matrices.{coordinates-alike}
-use Rattle.signed_sum.proofs.Ring.{mul-add, mul-neg, mul_assoc, one-mul}
-use Rattle.simplicial_law.proofs.Bases.{coboundaries, cocycles}
-use Rattle.simplicial_law.proofs.IntegralBridge.{integral_congruence_law}
-use Rattle.simplicial_law.proofs.IntegralCongruence.{CongruentInt_from, CongruentInt_of, CongruentInt_trans}
-use Rattle.simplicial_law.specs.Cochains.{AgreesOnSimplices, Cochain, HasCoordinates, IsCocycle}
-use Rattle.simplicial_law.specs.Integral.{CongruentInt}
+use Rattle.linear_law.proofs.Names.{Congruent_mul, Congruent_of, Congruent_refl, Congruent_scale, Congruent_sym, Congruent_trans, two_field, coordinates-alike}
+use Rattle.linear_law.specs.Names.{Congruent, IsField, negated, Each, matrix_times}
+use Rattle.signed_sum.proofs.Names.{mul-add, mul-neg, mul_assoc, one-mul}
+use Rattle.simplicial_law.proofs.Names.{coboundaries, cocycles, integral_congruence_law, CongruentInt_from, CongruentInt_of, CongruentInt_trans}
+use Rattle.simplicial_law.specs.Names.{AgreesOnSimplices, Cochain, HasCoordinates, IsCocycle, CongruentInt}
 use Rattle.steenrod_law.proofs.ClassLaws.{matrix-law}
 use Rattle.steenrod_law.proofs.OperationLaws.{above_one, to_residues}
-use Rattle.steenrod_law.proofs.OrbitTables.{orbit_tables}
+use Rattle.steenrod_law.proofs.OrbitTables.{orbit_words_law}
 use Rattle.steenrod_law.proofs.Primes.{prime_of_field}
-use Rattle.steenrod_law.specs.Laws.{SteenrodMatrixLaw}
-use Rattle.steenrod_law.specs.Operations.{IsBocksteinPower, IsPower, IsSquare, may_operation, power_degree, scaled_operation}
-use Rattle.steenrod_law.specs.Words.{IsOrbitTable, orbit_words_of_2}
+use Rattle.steenrod_law.specs.Names.{SteenrodMatrixLaw, IsBocksteinPower, IsPower, IsSquare, may_operation, power_degree, scaled_operation, IsOrbitTable}
 
 module _ (p : ℕ) (field : IsField p) where
   -- products are cancelled factor by factor
@@ -90,16 +81,14 @@ module _ (p : ℕ) (field : IsField p) where
 pub steenrod_matrix_law : SteenrodMatrixLaw
 steenrod_matrix_law = record {
   squares = λ facets k q zs bs us columns cocycles h g z b cs coordinates r.
-      carried 2 two_field facets (q + k) (q - k) 1 q orbit_words_of_2 (IsSquare facets k q) orbit_tables.two
-      (λ z b r. record { at = λ s on. Congruent_trans (r.at s on) (Congruent_of (omega arith)) }) us zs bs columns cocycles h g z b cs coordinates r;
+      carried 2 two_field facets (q + k) (q - k) 1 q (orbit_words 2) (IsSquare facets k q) (orbit_words_law 2 refl)
+      (λ z b r. record { at = λ s on. Congruent_trans (r.value.at s on) (Congruent_of (omega arith)) }) us zs bs columns cocycles h g z b cs coordinates r;
   powers = λ facets p s q zs bs us columns is_served cocycles h g z b cs coordinates r. (
       let field = served_field p is_served in
-      let ms = orbit_tables.all_served p is_served in
-      carried p field facets (q + 2 * s * (p - 1)) (power_degree p s q) r.scale q ms.0 (IsPower facets p s q) ms.1
+      carried p field facets (q + 2 * s * (p - 1)) (power_degree p s q) r.scale q (orbit_words p) (IsPower facets p s q) (orbit_words_law p is_served)
       (λ z b w. power-as p field facets s q r.scale z b r.is_scale w) us zs bs columns cocycles h g z b cs coordinates r);
   bockstein_powers = λ facets p s q zs bs us columns is_served cocycles h g z b cs coordinates r. (
       let field = served_field p is_served in
-      let ms = orbit_tables.all_served p is_served in
-      carried p field facets (q + 2 * s * (p - 1) + 1) (power_degree p s q - 1) (negated p r.scale) q ms.0 (IsBocksteinPower facets p s q) ms.1
+      carried p field facets (q + 2 * s * (p - 1) + 1) (power_degree p s q - 1) (negated p r.scale) q (orbit_words p) (IsBocksteinPower facets p s q) (orbit_words_law p is_served)
       (λ z b w. bockstein-as p field facets s q r.scale z b r.is_scale w) us zs bs columns cocycles h g z b cs coordinates r);
 }

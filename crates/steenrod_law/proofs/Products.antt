@@ -1,24 +1,21 @@
 -- The cup product on cohomology.
-use Rattle.std.proofs.Common.{◌≤◌, length, ◌≡◌, ℕ, zero, suc, ◌+◌, List, [], ◌∷◌, refl, ◌∙◌, ap, arith}
-use Rattle.std.specs.Prelude.{ℤ, pos, ◌+ℤ◌, ◌*ℤ◌}
+use Rattle.std.proofs.Common.{◌≤◌, length, ◌≡◌, ℕ, zero, suc, ◌+◌, List, [], ◌∷◌, refl, ◌∙◌, ap, arith, ℤ, pos, ◌+ℤ◌, ◌*ℤ◌}
 use Rattle.std.proofs.Math.IntN.{*ℤ-zero}
 use Rattle.std.proofs.lemmas.Int.{ints}
 use Rattle.interval_cut_law.proofs.BoundaryLaws.{degeneracy_law, product_normalized}
 use Rattle.interval_cut_law.proofs.CochainLaws.{cut_sum-sum}
 use Rattle.interval_cut_law.proofs.Degeneracy.{product_rule}
-use Rattle.interval_cut_law.specs.Cuts.{cut_sum}
-use Rattle.interval_cut_law.specs.Operations.{value_product}
-use Rattle.signed_sum.proofs.Ring.{add-mul, mul-add}
-use Rattle.signed_sum.proofs.SignLemmas.{signed-parity, signed-signed, signed-zero}
-use Rattle.signed_sum.specs.Signs.{signed}
-use Rattle.simplicial_law.proofs.IntegralCongruence.{CongruentInt-signed, CongruentInt-sum, CongruentInt_from, CongruentInt_of, CongruentInt_refl, CongruentInt_sym, CongruentInt_trans}
-use Rattle.simplicial_law.specs.Integral.{CongruentInt, integral_coboundary}
+use Rattle.interval_cut_law.specs.Names.{cut_sum, value_product}
+use Rattle.signed_sum.proofs.Names.{add-mul, mul-add, signed-parity, signed-signed, signed-zero}
+use Rattle.signed_sum.specs.Names.{signed}
+use Rattle.simplicial_law.proofs.Names.{CongruentInt-signed, CongruentInt-sum, CongruentInt_from, CongruentInt_of, CongruentInt_refl, CongruentInt_sym, CongruentInt_trans}
+use Rattle.simplicial_law.specs.Names.{CongruentInt, integral_coboundary}
 use Rattle.steenrod_law.proofs.AdditiveMaps.{adds-scale, adds-signed, adds-zero, coboundary-sum}
 use Rattle.steenrod_law.proofs.Classes.{Cohomologous-sum, Cohomologous_of, Cohomologous_trans, cocycle-bound, cocycle-combination, cocycle-zero, degree-signed}
 use Rattle.steenrod_law.proofs.Degrees.{value-size}
 use Rattle.steenrod_law.proofs.Forms.{Cohomologous, HasDegreeBelow, InClass, IsBoundary, IsCochain, IsFaceClosed, IsIntegralCocycle, IsWeakFace, Part, cup, part_sum, products, products_with}
 use Rattle.steenrod_law.proofs.ValuesOnFaces.{value-at, value-none-at}
-use Rattle.surjection_law.specs.Surjections.{IsOnto}
+use Rattle.surjection_law.specs.Names.{IsOnto}
 
 onto : IsOnto 2 (1 ∷ 2 ∷ [])
 onto v = refl

@@ -1,19 +1,18 @@
 -- D of a coboundary is a coboundary.
-use Rattle.std.proofs.Common.{◌≡◌, ℕ, suc, ◌-◌, ◌≤◌, Bool, List, map, length, sym, ◌∙◌, ap, arith}
-use Rattle.std.specs.Prelude.{ℤ, ◌+ℤ◌}
-use Rattle.interval_cut_law.specs.Operations.{one_coboundary, operation_value}
-use Rattle.signed_sum.specs.Signs.{signed}
-use Rattle.simplicial_law.proofs.IntegralCongruence.{CongruentInt_of, CongruentInt_sym, CongruentInt_trans}
-use Rattle.simplicial_law.specs.Integral.{CongruentInt, integral_coboundary}
+use Rattle.std.proofs.Common.{◌≡◌, ℕ, suc, ◌-◌, ◌≤◌, Bool, List, map, length, sym, ◌∙◌, ap, arith, ℤ, ◌+ℤ◌}
+use Rattle.interval_cut_law.specs.Names.{one_coboundary, operation_value}
+use Rattle.signed_sum.specs.Names.{signed, word_boundary}
+use Rattle.simplicial_law.proofs.Names.{CongruentInt_of, CongruentInt_sym, CongruentInt_trans}
+use Rattle.simplicial_law.specs.Names.{CongruentInt, integral_coboundary}
 use Rattle.steenrod_law.proofs.AdditiveMaps.{adds-coboundary, adds-over, adds-signed, adds-sum_to, coboundary-sum}
 use Rattle.steenrod_law.proofs.Forms.{IsCochain, IsMayFamily, IsPrime, SurjectionTerm, boundary_over, operation_of}
 use Rattle.steenrod_law.proofs.Primes.{two-or-odd}
 use Rattle.steenrod_law.proofs.Staircase.{stair-sum, whole-stair}
-use Rattle.steenrod_law.proofs.WordBoundary.{letters-copies, letters-normalized, relation, relation-first, sum-law}
-use Rattle.steenrod_law.proofs.WordCochains.{coboundary-cochain, coboundary-twice, degrees-letters, over-same, value-none, word-bound}
-use Rattle.steenrod_law.proofs.WordLemmas.{bound-sum}
-use Rattle.steenrod_law.specs.Values.{staircase_sum, sum_to, sum_value, word_cochains}
-use Rattle.steenrod_law.specs.Words.{letter_degree, staircase, word_boundary}
+use Rattle.steenrod_law.proofs.ValuesOnFaces.{value-none-at}
+use Rattle.steenrod_law.proofs.WordBoundary.{letters-copies, letters-normalized, relation, relation-first, some, sum-law}
+use Rattle.steenrod_law.proofs.WordCochains.{coboundary-cochain, coboundary-twice, degrees-letters, over-same, word-bound}
+use Rattle.steenrod_law.specs.Names.{staircase_sum, sum_to, sum_value, word_cochains, letter_degree, staircase, boundary_value}
+use Rattle.signed_sum.proofs.Names.{value_at-sum}
 
 pub representatives : (p d n : ℕ) (x : ℕ → List SurjectionTerm) (y : List ℕ → ℤ) (s : List ℕ) → IsPrime p → IsMayFamily p x → IsCochain n y → 1 ≤ length s →
     CongruentInt p (operation_of p (x d) (integral_coboundary y) s) (integral_coboundary (staircase_sum p n d x y) s)
@@ -42,17 +41,17 @@ representatives p d n x y s prime may cy hs =
     B : ℕ → List Bool → ℤ
     B m w = boundary_over (x m) (λ u. operation_value p u (word_cochains y b w) s)
 
-    law : (m : ℕ) (w : List Bool) → length w ≡ p → CongruentInt p (word_boundary n (V m) w) (B m w +ℤ signed m (dV m w))
+    law : (m : ℕ) (w : List Bool) → length w ≡ p → CongruentInt p (boundary_value n (V m) w) (B m w +ℤ signed m (dV m w))
     law m w e =
-        let f : List ℕ → ℤ = λ u. word_boundary n (λ v. operation_value p u (word_cochains y b v) s) w in
+        let f : List ℕ → ℤ = λ u. boundary_value n (λ v. operation_value p u (word_cochains y b v) s) w in
         let g : List ℕ → ℤ = λ u. one_coboundary (map (letter_degree n) w) (word_cochains y b w) (λ bs. operation_value p u bs s) in
         CongruentInt_trans
-        (CongruentInt_of (adds-over (λ h. word_boundary n h w) (λ h1 h2. bound-sum n w h1 h2) (x m) (λ u v. operation_value p u (word_cochains y b v) s)))
+        (CongruentInt_of (adds-over (λ h. boundary_value n h w) (λ h1 h2. value_at-sum h1 h2 (word_boundary n w)) (x m) (λ u v. operation_value p u (word_cochains y b v) s)))
         (CongruentInt_trans
         (over-same p m (x m) f g (may.terms m)
         (λ u o c. CongruentInt_sym
-        (word-bound p n y w (λ bs. operation_value p u bs s) (λ pre post. value-none p p u s pre post (integral_coboundary b) (λ t. CongruentInt_of (coboundary-twice y t))))))
-        (sum-law p m (x m) (map (letter_degree n) w) (word_cochains y b w) s (may.terms m) (letters-normalized y b cy.plain cb.plain w) (degrees-letters (letter_degree n) y b cy.degree cb.degree w) pos_p hs))
+        (word-bound p n y w (λ bs. operation_value p u bs s) (λ pre post. value-none-at p p u s pre post (integral_coboundary b) (some p u pos_p o) hs (λ t v. CongruentInt_of (coboundary-twice y t))))))
+        (CongruentInt_of (sum-law p m (x m) (map (letter_degree n) w) (word_cochains y b w) s (may.terms m) (letters-normalized y b cy.plain cb.plain w) (degrees-letters (letter_degree n) y b cy.degree cb.degree w) pos_p hs)))
 
     out : sum_to d (λ i. signed (d - i) (staircase p n d i (dV (d - i)))) ≡ integral_coboundary (staircase_sum p n d x y) s
     out =

@@ -1,19 +1,16 @@
 -- The staircase of words.
-use Rattle.std.proofs.Common.{◌≡◌, ℕ, zero, suc, ◌-◌, ◌*◌, ◌%◌, ◌≤◌, true, false, Bool, List, [], ◌∷◌, ◌++◌, length, refl, sym, ◌∙◌, ap, arith, length-append, ◌⊎◌, inl, inr, subst}
-use Rattle.std.specs.Prelude.{ℤ, pos, ◌+ℤ◌, ◌*ℤ◌, neg_ℤ}
+use Rattle.std.proofs.Common.{◌≡◌, ℕ, zero, suc, ◌-◌, ◌*◌, ◌%◌, ◌≤◌, true, false, Bool, List, [], ◌∷◌, ◌++◌, length, refl, sym, ◌∙◌, ap, arith, length-append, ◌⊎◌, inl, inr, subst, ℤ, pos, ◌+ℤ◌, ◌*ℤ◌, neg_ℤ}
 use Rattle.std.proofs.Math.IntN.{zero-*ℤ, suc_ℤ-*ℤ, *ℤ_comm}
 use Rattle.std.proofs.lemmas.Int.{ints}
-use Rattle.signed_sum.proofs.SignLemmas.{signed-parity, signed-zero}
-use Rattle.signed_sum.specs.Signs.{signed}
-use Rattle.simplicial_law.proofs.IntegralCongruence.{CongruentInt-neg, CongruentInt-signed, CongruentInt-sum, CongruentInt_from, CongruentInt_multiple, CongruentInt_of, CongruentInt_refl, CongruentInt_sym, CongruentInt_trans}
-use Rattle.simplicial_law.specs.Integral.{CongruentInt}
-use Rattle.linear_law.proofs.Matrices.{length-copies}
+use Rattle.signed_sum.proofs.Names.{signed-parity, signed-zero, bound-false, bound-true}
+use Rattle.signed_sum.specs.Names.{signed}
+use Rattle.simplicial_law.proofs.Names.{CongruentInt-neg, CongruentInt-signed, CongruentInt-sum, CongruentInt_from, CongruentInt_multiple, CongruentInt_of, CongruentInt_refl, CongruentInt_sym, CongruentInt_trans}
+use Rattle.simplicial_law.specs.Names.{CongruentInt}
+use Rattle.linear_law.proofs.Names.{length-copies}
 use Rattle.steenrod_law.proofs.AdditiveMaps.{adds-signed, adds-zero}
 use Rattle.steenrod_law.proofs.Primes.{prime_of_field, two-or-odd}
 use Rattle.steenrod_law.proofs.WordLemmas.{bound-step, homotopy, step-step, step-sum}
-use Rattle.steenrod_law.specs.Laws.{StaircaseLaw}
-use Rattle.steenrod_law.specs.Values.{sum_to}
-use Rattle.steenrod_law.specs.Words.{choice, contraction, copies, letter_degree, norm, staircase, step, turn_back, turn_back_less_one, turn_back_power, word_boundary, word_degree}
+use Rattle.steenrod_law.specs.Names.{StaircaseLaw, sum_to, choice, contraction, copies, letter_degree, norm, staircase, step, turn_back, turn_back_less_one, turn_back_power, boundary_value, word_degree}
 
 -- h and g agree on words of m letters
 abbrev pub Alike : ℕ → ℕ → (List Bool → ℤ) → (List Bool → ℤ) → Type 0
@@ -124,36 +121,36 @@ module _ (p n : ℕ) (prime : (p ≡ 2) ⊎ (p % 2 ≡ 1)) (two : 2 ≤ p) (d : 
       (stair-alike j h (λ w. pos 0) e)
       (CongruentInt_of (adds-zero (staircase p n d j) (stair-sum j)))
 
-  bound-top : (k : ℕ) (h : List Bool → ℤ) → word_boundary n h (copies k true) ≡ pos 0
+  bound-top : (k : ℕ) (h : List Bool → ℤ) → boundary_value n h (copies k true) ≡ pos 0
   bound-top zero h = refl
-  bound-top (suc k) h = ap (signed (suc n)) (bound-top k (λ v. h (true ∷ v))) ∙ signed-zero (suc n)
+  bound-top (suc k) h = bound-true n h (copies k true) ∙ ap (signed (suc n)) (bound-top k (λ v. h (true ∷ v))) ∙ signed-zero (suc n)
 
-  first-bound : (k : ℕ) (h : List Bool → ℤ) → word_boundary n h (false ∷ copies k true) ≡ h (copies (suc k) true)
-  first-bound k h = let z = ap (signed n) (bound-top k (λ v. h (false ∷ v))) ∙ signed-zero n in omega (arith, ints)
+  first-bound : (k : ℕ) (h : List Bool → ℤ) → boundary_value n h (false ∷ copies k true) ≡ h (copies (suc k) true)
+  first-bound k h = let a = bound-false n h (copies k true) in let z = ap (signed n) (bound-top k (λ v. h (false ∷ v))) ∙ signed-zero n in omega (arith, ints)
 
-  rise : (j : ℕ) → ((g : List Bool → ℤ) → CongruentInt p (staircase p n d j (word_boundary n (step (letter_degree n) p (d - j) g))) (pos 0)) → (h : List Bool → ℤ) →
-      CongruentInt p (staircase p n d (suc j) (word_boundary n h)) (staircase p n d j (step (letter_degree n) p (d - j) h))
+  rise : (j : ℕ) → ((g : List Bool → ℤ) → CongruentInt p (staircase p n d j (boundary_value n (step (letter_degree n) p (d - j) g))) (pos 0)) → (h : List Bool → ℤ) →
+      CongruentInt p (staircase p n d (suc j) (boundary_value n h)) (staircase p n d j (step (letter_degree n) p (d - j) h))
   rise j below h =
       let f : (List Bool → ℤ) → ℤ = λ g. staircase p n d j (step (letter_degree n) p (d - j) g) in
-      let f-sum : f (λ w. contraction (word_boundary n h) w +ℤ word_boundary n (contraction h) w) ≡ f (contraction (word_boundary n h)) +ℤ f (word_boundary n (contraction h)) =
-      ap (staircase p n d j) (λ i w. step-sum (letter_degree n) p (d - j) (contraction (word_boundary n h)) (word_boundary n (contraction h)) w i)
-      ∙ stair-sum j (step (letter_degree n) p (d - j) (contraction (word_boundary n h))) (step (letter_degree n) p (d - j) (word_boundary n (contraction h))) in
-      let one : CongruentInt p (f (λ w. contraction (word_boundary n h) w +ℤ word_boundary n (contraction h) w)) (f h) =
-      stair-alike j (step (letter_degree n) p (d - j) (λ w. contraction (word_boundary n h) w +ℤ word_boundary n (contraction h) w)) (step (letter_degree n) p (d - j) h)
-      (step-alike p (letter_degree n) p p (d - j) (λ w. contraction (word_boundary n h) w +ℤ word_boundary n (contraction h) w) h (λ w e. CongruentInt_of (whole w e))) in
-      let e : f (word_boundary n (contraction h)) ≡ staircase p n d j (word_boundary n (step (letter_degree n) p (d - j) (contraction h))) = sym (ap (staircase p n d j) (λ i w. bound-step n p (d - j) (contraction h) w i)) in
+      let f-sum : f (λ w. contraction (boundary_value n h) w +ℤ boundary_value n (contraction h) w) ≡ f (contraction (boundary_value n h)) +ℤ f (boundary_value n (contraction h)) =
+      ap (staircase p n d j) (λ i w. step-sum (letter_degree n) p (d - j) (contraction (boundary_value n h)) (boundary_value n (contraction h)) w i)
+      ∙ stair-sum j (step (letter_degree n) p (d - j) (contraction (boundary_value n h))) (step (letter_degree n) p (d - j) (boundary_value n (contraction h))) in
+      let one : CongruentInt p (f (λ w. contraction (boundary_value n h) w +ℤ boundary_value n (contraction h) w)) (f h) =
+      stair-alike j (step (letter_degree n) p (d - j) (λ w. contraction (boundary_value n h) w +ℤ boundary_value n (contraction h) w)) (step (letter_degree n) p (d - j) h)
+      (step-alike p (letter_degree n) p p (d - j) (λ w. contraction (boundary_value n h) w +ℤ boundary_value n (contraction h) w) h (λ w e. CongruentInt_of (whole w e))) in
+      let e : f (boundary_value n (contraction h)) ≡ staircase p n d j (boundary_value n (step (letter_degree n) p (d - j) (contraction h))) = sym (ap (staircase p n d j) (λ i w. bound-step n p (d - j) (contraction h) w i)) in
       let rest = below (contraction h) in
-      let rest2 : CongruentInt p (f (word_boundary n (contraction h))) (pos 0) = CongruentInt_trans (CongruentInt_of e) rest in
+      let rest2 : CongruentInt p (f (boundary_value n (contraction h))) (pos 0) = CongruentInt_trans (CongruentInt_of e) rest in
       CongruentInt_from
       (CongruentInt-sum one (CongruentInt-neg rest2))
       (omega (arith, ints))
     where
-      whole : (w : List Bool) → length w ≡ p → contraction (word_boundary n h) w +ℤ word_boundary n (contraction h) w ≡ h w
+      whole : (w : List Bool) → length w ≡ p → contraction (boundary_value n h) w +ℤ boundary_value n (contraction h) w ≡ h w
       whole [] e = absurd (omega (arith, e, two))
       whole (l ∷ w) e = homotopy n h l w
 
   -- the boundary of a stair is the step of the one before it
-  pub climb : (j : ℕ) → suc j ≤ d → (h : List Bool → ℤ) → CongruentInt p (staircase p n d (suc j) (word_boundary n h)) (staircase p n d j (step (letter_degree n) p (d - j) h))
+  pub climb : (j : ℕ) → suc j ≤ d → (h : List Bool → ℤ) → CongruentInt p (staircase p n d (suc j) (boundary_value n h)) (staircase p n d j (step (letter_degree n) p (d - j) h))
   climb zero le h =
       rise zero
       (λ g.
@@ -174,15 +171,15 @@ module _ (p n : ℕ) (prime : (p ≡ 2) ⊎ (p % 2 ≡ 1)) (two : 2 ≤ p) (d : 
 
   -- V, with a boundary of its own dV and what the boundary of its sum gives, B
   module _ (V dV B : ℕ → List Bool → ℤ)
-      (law : (m : ℕ) (w : List Bool) → length w ≡ p → CongruentInt p (word_boundary n (V m) w) (B m w +ℤ signed m (dV m w)))
+      (law : (m : ℕ) (w : List Bool) → length w ≡ p → CongruentInt p (boundary_value n (V m) w) (B m w +ℤ signed m (dV m w)))
       (up : (m : ℕ) (w : List Bool) → length w ≡ p → CongruentInt p (B (suc m) w) (step (letter_degree n) p (suc m) (V m) w))
       (base : (w : List Bool) → length w ≡ p → CongruentInt p (B 0 w) (pos 0)) where
-    level-law : (j m : ℕ) → CongruentInt p (signed m (staircase p n d j (dV m)) +ℤ staircase p n d j (B m)) (staircase p n d j (word_boundary n (V m)))
+    level-law : (j m : ℕ) → CongruentInt p (signed m (staircase p n d j (dV m)) +ℤ staircase p n d j (B m)) (staircase p n d j (boundary_value n (V m)))
     level-law j m =
         CongruentInt_trans
         (CongruentInt_of
         (ap (λ z. z +ℤ staircase p n d j (B m)) (sym (adds-signed (staircase p n d j) (stair-sum j) m (dV m))) ∙ sym (stair-sum j (λ w. signed m (dV m w)) (B m))))
-        (stair-alike j (λ w. signed m (dV m w) +ℤ B m w) (word_boundary n (V m)) (λ w e. CongruentInt_from (CongruentInt_sym (law m w e)) (omega (arith, ints))))
+        (stair-alike j (λ w. signed m (dV m w) +ℤ B m w) (boundary_value n (V m)) (λ w e. CongruentInt_from (CongruentInt_sym (law m w e)) (omega (arith, ints))))
 
     level : (j : ℕ) → j ≤ d → CongruentInt p (sum_to j (λ i. signed (d - i) (staircase p n d i (dV (d - i)))) +ℤ staircase p n d j (B (d - j))) (V d (copies p true))
     level zero le =

@@ -1,14 +1,12 @@
 -- A value depends on the values of the cochains on the faces of the simplex alone.
-use Rattle.std.proofs.Common.{ℕ, ◌≤◌, true, false, Bool, cond, ◌==◌, List, [], ◌∷◌, ◌++◌, length, sym, ◌∙◌, ap, arith}
-use Rattle.std.specs.Prelude.{ℤ, pos}
+use Rattle.std.proofs.Common.{ℕ, ◌≤◌, true, false, Bool, cond, ◌==◌, List, [], ◌∷◌, ◌++◌, length, sym, ◌∙◌, ap, arith, ℤ, pos}
 use Rattle.interval_cut_law.proofs.CochainLaws.{cut_sum-zero}
 use Rattle.interval_cut_law.proofs.CutsAsWalks.{cut_sum-walk_sum}
 use Rattle.interval_cut_law.proofs.Walks.{Cell, edge, next, walk_exponent, walk_face, walk_faces, walk_sum, walk_term}
-use Rattle.interval_cut_law.specs.Cuts.{cut_sum}
-use Rattle.interval_cut_law.specs.Operations.{operation_value, value_product}
-use Rattle.signed_sum.specs.Lists.{numbers_from}
-use Rattle.simplicial_law.proofs.IntegralCongruence.{CongruentInt-signed, CongruentInt-sum, CongruentInt-times, CongruentInt_of, CongruentInt_refl, CongruentInt_trans}
-use Rattle.simplicial_law.specs.Integral.{CongruentInt}
+use Rattle.interval_cut_law.specs.Names.{cut_sum, operation_value, value_product}
+use Rattle.signed_sum.specs.Names.{numbers_from}
+use Rattle.simplicial_law.proofs.Names.{CongruentInt-signed, CongruentInt-sum, CongruentInt-times, CongruentInt_of, CongruentInt_refl, CongruentInt_trans}
+use Rattle.simplicial_law.specs.Names.{CongruentInt}
 use Rattle.steenrod_law.proofs.Forms.{IsWeakFace, drop, none, take}
 use Rattle.steenrod_law.proofs.WordCochains.{product-none}
 
@@ -57,13 +55,13 @@ at-refl : (p : ℕ) (s : List ℕ) (cs : List (List ℕ → ℤ)) → AllAt p s 
 at-refl p s [] = tt
 at-refl p s (a ∷ cs) = ((λ f w. CongruentInt_refl (a f)), at-refl p s cs)
 
-at-mid : (p : ℕ) (s : List ℕ) (pre post : List (List ℕ → ℤ)) (z : List ℕ → ℤ) → ((f : List ℕ) → IsWeakFace f s → CongruentInt p (z f) (pos 0)) → AllAt p s (pre ++ (z ∷ post)) (pre ++ ((λ f. pos 0) ∷ post))
-at-mid p s [] post z e = (e, at-refl p s post)
-at-mid p s (a ∷ pre) post z e = ((λ f w. CongruentInt_refl (a f)), at-mid p s pre post z e)
+pub at-mid : (p : ℕ) (s : List ℕ) (pre post : List (List ℕ → ℤ)) (z y : List ℕ → ℤ) → ((f : List ℕ) → IsWeakFace f s → CongruentInt p (z f) (y f)) → AllAt p s (pre ++ (z ∷ post)) (pre ++ (y ∷ post))
+at-mid p s [] post z y e = (e, at-refl p s post)
+at-mid p s (a ∷ pre) post z y e = ((λ f w. CongruentInt_refl (a f)), at-mid p s pre post z y e)
 
 pub value-none-at : (p r : ℕ) (u s : List ℕ) (pre post : List (List ℕ → ℤ)) (z : List ℕ → ℤ) → 1 ≤ length u → 1 ≤ length s → ((f : List ℕ) → IsWeakFace f s → CongruentInt p (z f) (pos 0)) →
     CongruentInt p (operation_value r u (pre ++ (z ∷ post)) s) (pos 0)
 value-none-at p r u s pre post z hu hs e =
     CongruentInt_trans
-    (value-at p r u s (pre ++ (z ∷ post)) (pre ++ ((λ f. pos 0) ∷ post)) hu hs (at-mid p s pre post z e))
+    (value-at p r u s (pre ++ (z ∷ post)) (pre ++ ((λ f. pos 0) ∷ post)) hu hs (at-mid p s pre post z (λ f. pos 0) e))
     (CongruentInt_of (ap (λ h. cut_sum h r u s) (λ i fs. product-none pre post fs i) ∙ cut_sum-zero r u s))

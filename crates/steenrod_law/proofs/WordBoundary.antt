@@ -1,21 +1,16 @@
 -- The boundary law and the relations, on the values of May elements on words.
-use Rattle.std.proofs.Common.{◌≡◌, ℕ, zero, suc, ◌+◌, ◌%◌, ◌≤◌, true, false, Bool, List, [], ◌∷◌, length, refl, sym, ◌∙◌, ap, arith}
-use Rattle.std.specs.Prelude.{ℤ, pos, ◌+ℤ◌, neg_ℤ}
+use Rattle.std.proofs.Common.{◌≡◌, ℕ, zero, suc, ◌+◌, ◌%◌, ◌≤◌, true, false, Bool, List, [], ◌∷◌, length, refl, sym, ◌∙◌, ap, arith, ℤ, pos, ◌+ℤ◌, neg_ℤ}
 use Rattle.interval_cut_law.proofs.BoundaryLaws.{cochain_boundary_law}
-use Rattle.interval_cut_law.specs.Normalized.{AreNormalized}
-use Rattle.interval_cut_law.specs.Operations.{one_coboundary, operation_value}
-use Rattle.signed_sum.specs.Signs.{signed}
-use Rattle.signed_sum.specs.Sums.{IsNormalized, value_at}
-use Rattle.simplicial_law.proofs.IntegralCongruence.{CongruentInt_of, CongruentInt_trans}
-use Rattle.simplicial_law.specs.Integral.{CongruentInt, HaveDegrees, integral_coboundary}
+use Rattle.interval_cut_law.specs.Names.{AreNormalized, one_coboundary, operation_value}
+use Rattle.signed_sum.specs.Names.{signed, IsNormalized, value_at}
+use Rattle.simplicial_law.proofs.Names.{CongruentInt_of, CongruentInt_trans}
+use Rattle.simplicial_law.specs.Names.{CongruentInt, HaveDegrees, integral_coboundary}
 use Rattle.steenrod_law.proofs.AdditiveMaps.{adds-coboundary, adds-over, adds-signed}
 use Rattle.steenrod_law.proofs.Forms.{AreTerms, IsCochain, IsMayFamily, SurjectionTerm, boundary_over, turn_less, turned_total, value_over}
-use Rattle.steenrod_law.proofs.WordCochains.{over-same, over-sum, word-cycle, word-turn_sum}
+use Rattle.steenrod_law.proofs.WordCochains.{over-equal, over-same, over-sum, word-cycle, word-turn_sum}
 use Rattle.steenrod_law.proofs.WordLemmas.{minus-sum, norm-sum}
-use Rattle.steenrod_law.specs.Values.{sum_value, word_cochains}
-use Rattle.steenrod_law.specs.Words.{choice, copies, norm, step, turn_back_less_one}
-use Rattle.surjection_law.specs.Boundary.{surjection_boundary}
-use Rattle.surjection_law.specs.Surjections.{IsOnto}
+use Rattle.steenrod_law.specs.Names.{sum_value, word_cochains, choice, copies, norm, step, turn_back_less_one}
+use Rattle.surjection_law.specs.Names.{surjection_boundary, IsOnto}
 
 pub some : (p : ℕ) (u : List ℕ) → 1 ≤ p → IsOnto p u → 1 ≤ length u
 some zero u le onto = absurd (omega (arith, le))
@@ -29,16 +24,13 @@ letters-normalized a b pa pb (true ∷ w) = (pb, letters-normalized a b pa pb w)
 
 -- the boundary law, summed over x
 pub sum-law : (p m : ℕ) (x : List SurjectionTerm) (qs : List ℕ) (cs : List (List ℕ → ℤ)) (s : List ℕ) → AreTerms p m x → AreNormalized cs → HaveDegrees qs cs → 1 ≤ p → 1 ≤ length s →
-    CongruentInt p (value_over x (λ u. one_coboundary qs cs (λ bs. operation_value p u bs s))) (boundary_over x (λ u. operation_value p u cs s) +ℤ signed m (integral_coboundary (sum_value p x cs) s))
+    value_over x (λ u. one_coboundary qs cs (λ bs. operation_value p u bs s)) ≡ boundary_over x (λ u. operation_value p u cs s) +ℤ signed m (integral_coboundary (sum_value p x cs) s)
 sum-law p m x qs cs s k n d le hs =
-    CongruentInt_trans
-    (over-same p m x (λ u. one_coboundary qs cs (λ bs. operation_value p u bs s)) (λ u. value_at (λ v. operation_value p v cs s) (surjection_boundary u) +ℤ signed m (integral_coboundary (λ t. operation_value p u cs t) s)) k
-    (λ u o e. CongruentInt_of
-    (cochain_boundary_law p u s qs cs n d o hs (some p u le o) ∙ ap (λ j. value_at (λ v. operation_value p v cs s) (surjection_boundary u) +ℤ signed j (integral_coboundary (λ t. operation_value p u cs t) s)) e)))
-    (CongruentInt_of
-    (over-sum x (λ u. value_at (λ v. operation_value p v cs s) (surjection_boundary u)) (λ u. signed m (integral_coboundary (λ t. operation_value p u cs t) s))
+    over-equal p m x (λ u. one_coboundary qs cs (λ bs. operation_value p u bs s)) (λ u. value_at (λ v. operation_value p v cs s) (surjection_boundary u) +ℤ signed m (integral_coboundary (λ t. operation_value p u cs t) s)) k
+    (λ u o e. cochain_boundary_law p u s qs cs n d o hs (some p u le o) ∙ ap (λ j. value_at (λ v. operation_value p v cs s) (surjection_boundary u) +ℤ signed j (integral_coboundary (λ t. operation_value p u cs t) s)) e)
+    ∙ over-sum x (λ u. value_at (λ v. operation_value p v cs s) (surjection_boundary u)) (λ u. signed m (integral_coboundary (λ t. operation_value p u cs t) s))
     ∙ ap (λ z. boundary_over x (λ u. operation_value p u cs s) +ℤ z)
-    (adds-signed (value_over x) (over-sum x) m (λ u. integral_coboundary (λ t. operation_value p u cs t) s) ∙ ap (signed m) (adds-coboundary (value_over x) (over-sum x) (λ u t. operation_value p u cs t) s))))
+    (adds-signed (value_over x) (over-sum x) m (λ u. integral_coboundary (λ t. operation_value p u cs t) s) ∙ ap (signed m) (adds-coboundary (value_over x) (over-sum x) (λ u t. operation_value p u cs t) s))
 
 module _ (p : ℕ) (deg : Bool → ℕ) (a b : List ℕ → ℤ) (ca : IsCochain (deg false) a) (cb : IsCochain (deg true) b) (s : List ℕ) (pos_p : 1 ≤ p) (hs : 1 ≤ length s) (x : ℕ → List SurjectionTerm) (may : IsMayFamily p x) where
   -- the boundary of x_(m+1) is a step of the words

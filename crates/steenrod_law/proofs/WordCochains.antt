@@ -1,32 +1,23 @@
 -- Words of cochains.
-use Rattle.std.proofs.Common.{◌≡◌, ℕ, zero, suc, ◌+◌, ◌*◌, ◌≤◌, true, false, Bool, cond, List, [], ◌∷◌, ◌++◌, map, length, refl, sym, ◌∙◌, ap, arith, subst}
-use Rattle.std.specs.Prelude.{ℤ, pos, ◌+ℤ◌, ◌*ℤ◌}
+use Rattle.std.proofs.Common.{◌≡◌, ℕ, zero, suc, ◌+◌, ◌*◌, ◌≤◌, true, false, Bool, cond, List, [], ◌∷◌, ◌++◌, map, length, refl, sym, ◌∙◌, ap, arith, subst, ℤ, pos, ◌+ℤ◌, ◌*ℤ◌, pred}
 use Rattle.std.proofs.Math.IntN.{zero-*ℤ, *ℤ-zero}
 use Rattle.std.proofs.lemmas.Int.{ints}
 use Rattle.std.proofs.lemmas.Bool.{or_left}
 use Rattle.std.proofs.lemmas.List.{map-append}
-use Rattle.std.specs.Prelude.{pred}
 use Rattle.interval_cut_law.proofs.BoundaryLaws.{degeneracy_law, product_normalized}
 use Rattle.interval_cut_law.proofs.CochainLaws.{cut_sum-zero}
 use Rattle.interval_cut_law.proofs.Residues.{residue_law}
-use Rattle.interval_cut_law.specs.Cuts.{cut_sum}
-use Rattle.interval_cut_law.specs.Operations.{one_coboundary, operation_value, value_product}
-use Rattle.signed_sum.proofs.LawProofs.{without_one-without_one}
-use Rattle.signed_sum.proofs.Ring.{mul-add, mul_comm, one-mul}
-use Rattle.signed_sum.proofs.SignLemmas.{signed-zero}
-use Rattle.signed_sum.specs.Lists.{is_degenerate, unless_empty}
-use Rattle.signed_sum.specs.Signs.{signed}
-use Rattle.signed_sum.specs.Sums.{without_one}
-use Rattle.simplicial_law.proofs.IntegralCongruence.{CongruentInt-signed, CongruentInt-sum, CongruentInt-times, CongruentInt_of, CongruentInt_refl, CongruentInt_trans}
-use Rattle.simplicial_law.specs.Integral.{AllCongruent, CongruentInt, HasDegree, HaveDegrees, integral_coboundary, tensor_boundary}
+use Rattle.interval_cut_law.specs.Names.{cut_sum, one_coboundary, operation_value, value_product}
+use Rattle.signed_sum.proofs.Names.{without_one-without_one, mul-add, mul_comm, one-mul, signed-zero, bound-false, bound-true}
+use Rattle.signed_sum.specs.Names.{is_degenerate, unless_empty, signed, without_one}
+use Rattle.simplicial_law.proofs.Names.{CongruentInt-signed, CongruentInt-sum, CongruentInt-times, CongruentInt_of, CongruentInt_refl, CongruentInt_trans}
+use Rattle.simplicial_law.specs.Names.{AllCongruent, CongruentInt, HasDegree, HaveDegrees, integral_coboundary, tensor_boundary}
 use Rattle.steenrod_law.proofs.CycleFaces.{onto-cycle, sum_of, value-cycle}
 use Rattle.steenrod_law.proofs.Forms.{AreTerms, IsCochain, SurjectionTerm, turned_total, value_over}
 use Rattle.steenrod_law.proofs.Staircase.{Alike, back-alike}
-use Rattle.steenrod_law.specs.Values.{word_cochains}
-use Rattle.steenrod_law.specs.Words.{letter_degree, norm, turn_back, turn_back_power, word_boundary, word_degree}
-use Rattle.surjection_law.specs.Boundary.{caesura_count}
-use Rattle.surjection_law.specs.Surjections.{IsOnto}
-use Rattle.table_reduction_law.specs.MayElements.{cycle, turned}
+use Rattle.steenrod_law.specs.Names.{word_cochains, letter_degree, norm, turn_back, turn_back_power, boundary_value, word_degree}
+use Rattle.surjection_law.specs.Names.{caesura_count, IsOnto}
+use Rattle.table_reduction_law.specs.Names.{cycle, turned}
 
 -- the coboundary twice
 
@@ -62,27 +53,13 @@ coboundary-cochain n y c = record {
         let q = signed-zero (pred (length f)) in
         omega (arith, ints)
 
--- a cochain that is nothing modulo p
-
-allsame-refl : (p : ℕ) (cs : List (List ℕ → ℤ)) → AllCongruent p cs cs
-allsame-refl p [] = tt
-allsame-refl p (a ∷ cs) = ((λ f. CongruentInt_refl (a f)), allsame-refl p cs)
-
-allsame-mid : (p : ℕ) (pre post : List (List ℕ → ℤ)) (z : List ℕ → ℤ) → ((f : List ℕ) → CongruentInt p (z f) (pos 0)) → AllCongruent p (pre ++ (z ∷ post)) (pre ++ ((λ f. pos 0) ∷ post))
-allsame-mid p [] post z e = (e, allsame-refl p post)
-allsame-mid p (a ∷ pre) post z e = ((λ f. CongruentInt_refl (a f)), allsame-mid p pre post z e)
+-- a cochain that is nothing
 
 pub product-none : (pre post : List (List ℕ → ℤ)) (fs : List (List ℕ)) → value_product (pre ++ ((λ f. pos 0) ∷ post)) fs ≡ pos 0
 product-none [] post [] = refl
 product-none [] post (f ∷ fs) = zero-*ℤ (value_product post fs)
 product-none (a ∷ pre) post [] = refl
 product-none (a ∷ pre) post (f ∷ fs) = ap (λ z. a f *ℤ z) (product-none pre post fs) ∙ *ℤ-zero (a f)
-
-pub value-none : (p r : ℕ) (u s : List ℕ) (pre post : List (List ℕ → ℤ)) (z : List ℕ → ℤ) → ((f : List ℕ) → CongruentInt p (z f) (pos 0)) → CongruentInt p (operation_value r u (pre ++ (z ∷ post)) s) (pos 0)
-value-none p r u s pre post z e =
-    CongruentInt_trans
-    (residue_law p r u s (pre ++ (z ∷ post)) (pre ++ ((λ f. pos 0) ∷ post)) (allsame-mid p pre post z e))
-    (CongruentInt_of (ap (λ h. cut_sum h r u s) (λ i fs. product-none pre post fs i) ∙ cut_sum-zero r u s))
 
 -- the cochains of a word
 
@@ -140,37 +117,38 @@ over-same p m (t ∷ x) h g k e =
     CongruentInt-sum
     (CongruentInt-times (CongruentInt_refl t.1) (e t.0 k.0 k.1)) (over-same p m x h g k.2 e)
 
+pub over-equal : (p m : ℕ) (x : List SurjectionTerm) (h g : List ℕ → ℤ) → AreTerms p m x → ((u : List ℕ) → IsOnto p u → caesura_count u ≡ m → h u ≡ g u) → value_over x h ≡ value_over x g
+over-equal p m [] h g k e = refl
+over-equal p m (t ∷ x) h g k e = (λ i. (t.1 *ℤ e t.0 k.0 k.1 i) +ℤ over-equal p m x h g k.2 e i)
+
 -- the boundary of a word
 
 pub word-bound : (p n : ℕ) (y : List ℕ → ℤ) (w : List Bool) (h : List (List ℕ → ℤ) → ℤ) → ((pre post : List (List ℕ → ℤ)) → CongruentInt p (h (pre ++ (integral_coboundary (integral_coboundary y) ∷ post))) (pos 0)) →
-    CongruentInt p (one_coboundary (map (letter_degree n) w) (word_cochains y (integral_coboundary y) w) h) (word_boundary n (λ v. h (word_cochains y (integral_coboundary y) v)) w)
+    CongruentInt p (one_coboundary (map (letter_degree n) w) (word_cochains y (integral_coboundary y) w) h) (boundary_value n (λ v. h (word_cochains y (integral_coboundary y) v)) w)
 word-bound p n y [] h k = CongruentInt_refl (pos 0)
 word-bound p n y (false ∷ w) h k =
-    CongruentInt-sum
+    CongruentInt_trans
+    (CongruentInt-sum
     (CongruentInt_refl (h (integral_coboundary y ∷ word_cochains y (integral_coboundary y) w)))
     (CongruentInt-signed n
-    (word-bound p n y w (λ bs. h (y ∷ bs)) (λ pre post. k (y ∷ pre) post)))
+    (word-bound p n y w (λ bs. h (y ∷ bs)) (λ pre post. k (y ∷ pre) post))))
+    (CongruentInt_of (sym (bound-false n (λ v. h (word_cochains y (integral_coboundary y) v)) w)))
 word-bound p n y (true ∷ w) h k =
     let b : List ℕ → ℤ = integral_coboundary y in
     let x : ℤ = signed (suc n) (one_coboundary (map (letter_degree n) w) (word_cochains y b w) (λ bs. h (b ∷ bs))) in
-    let z : ℤ = signed (suc n) (word_boundary n (λ v. h (b ∷ word_cochains y b v)) w) in
+    let z : ℤ = signed (suc n) (boundary_value n (λ v. h (b ∷ word_cochains y b v)) w) in
     let ih = CongruentInt-signed (suc n) (word-bound p n y w (λ bs. h (b ∷ bs)) (λ pre post. k (b ∷ pre) post)) in
     CongruentInt_trans
     (CongruentInt-sum (k [] (word_cochains y b w)) ih)
-    (CongruentInt_of (omega (arith, ints)))
+    (CongruentInt_of (let e = bound-true n (λ v. h (word_cochains y b v)) w in omega (arith, ints)))
 
 -- closed letters
-pub word-closed : (p q : ℕ) (a c : List ℕ → ℤ) (w : List Bool) (h : List (List ℕ → ℤ) → ℤ) →
-    ((pre post : List (List ℕ → ℤ)) → CongruentInt p (h (pre ++ (integral_coboundary a ∷ post))) (pos 0)) → ((pre post : List (List ℕ → ℤ)) → CongruentInt p (h (pre ++ (integral_coboundary c ∷ post))) (pos 0)) →
-    CongruentInt p (one_coboundary (map (λ l. q) w) (word_cochains a c w) h) (pos 0)
-word-closed p q a c [] h k j = CongruentInt_refl (pos 0)
-word-closed p q a c (false ∷ w) h k j =
-    let ih = CongruentInt-signed q (word-closed p q a c w (λ bs. h (a ∷ bs)) (λ pre post. k (a ∷ pre) post) (λ pre post. j (a ∷ pre) post)) in
+pub word-closed : (p : ℕ) (deg : Bool → ℕ) (a c : List ℕ → ℤ) (w : List Bool) (h : List (List ℕ → ℤ) → ℤ) →
+    ((l : Bool) (pre post : List (List ℕ → ℤ)) → CongruentInt p (h (pre ++ (integral_coboundary (cond l c a) ∷ post))) (pos 0)) →
+    CongruentInt p (one_coboundary (map deg w) (word_cochains a c w) h) (pos 0)
+word-closed p deg a c [] h k = CongruentInt_refl (pos 0)
+word-closed p deg a c (l ∷ w) h k =
+    let ih = CongruentInt-signed (deg l) (word-closed p deg a c w (λ bs. h (cond l c a ∷ bs)) (λ m pre post. k m (cond l c a ∷ pre) post)) in
     CongruentInt_trans
-    (CongruentInt-sum (k [] (word_cochains a c w)) ih)
-    (CongruentInt_of (let z = signed-zero q in omega (arith, ints)))
-word-closed p q a c (true ∷ w) h k j =
-    let ih = CongruentInt-signed q (word-closed p q a c w (λ bs. h (c ∷ bs)) (λ pre post. k (c ∷ pre) post) (λ pre post. j (c ∷ pre) post)) in
-    CongruentInt_trans
-    (CongruentInt-sum (j [] (word_cochains a c w)) ih)
-    (CongruentInt_of (let z = signed-zero q in omega (arith, ints)))
+    (CongruentInt-sum (k l [] (word_cochains a c w)) ih)
+    (CongruentInt_of (let z = signed-zero (deg l) in omega (arith, ints)))

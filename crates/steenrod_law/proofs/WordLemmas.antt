@@ -1,19 +1,15 @@
--- Words: turns, boundaries and `shorten`.
-use Rattle.std.proofs.Common.{◌≡◌, ℕ, zero, suc, ◌+◌, ◌*◌, ◌%◌, true, false, Bool, List, [], ◌∷◌, ◌++◌, length, refl, sym, ◌∙◌, ap, arith, append_assoc, append-nil}
-use Rattle.std.specs.Prelude.{ℤ, pos, ◌+ℤ◌, neg_ℤ}
+-- Words: turns, steps, boundaries and the contraction.
+use Rattle.std.proofs.Common.{◌≡◌, ℕ, zero, suc, ◌+◌, ◌-◌, ◌*◌, ◌%◌, true, false, Bool, List, [], ◌∷◌, ◌++◌, length, take, drop, refl, sym, ◌∙◌, ap, arith, append_assoc, append-nil, length-drop, ℤ, pos, ◌+ℤ◌, ◌-ℤ◌, ◌*ℤ◌, neg_ℤ, length-take-le, take-append-drop}
 use Rattle.std.proofs.lemmas.Int.{ints}
-use Rattle.signed_sum.proofs.SignLemmas.{signed-+, signed-neg, signed-parity, signed-signed, signed-zero}
-use Rattle.signed_sum.specs.Signs.{signed}
-use Rattle.steenrod_law.specs.Words.{choice, contraction, letter_degree, norm, step, turn_back, turn_back_less_one, turn_back_power, word_boundary, word_degree}
+use Rattle.signed_sum.proofs.Names.{one-mul, signed-+, signed-neg, signed-parity, signed-signed, signed-zero, value_at-nothing, value_at-sub, value_at-sum, at_turn, at_turned, at_turned-end, bound-false, bound-true, bound-turn, bound-twice, degree-append, times-signed, turned-round as turned-whole, turns-through, two-even, whole-word}
+use Rattle.signed_sum.specs.Names.{signed, value_at, power_sum, last_letter, letters_before_last, word_boundary, word_turn}
+use Rattle.steenrod_law.specs.Names.{WordLaws, boundary_value, choice, contraction, letter_degree, norm, step, turn_back, turn_back_less_one, turn_back_power, word_degree}
+use Rattle.table_reduction_law.proofs.PowerPairs.{sum_below}
 
-pub degree-append : (deg : Bool → ℕ) (w v : List Bool) → word_degree deg (w ++ v) ≡ word_degree deg w + word_degree deg v
-degree-append deg [] v = omega arith
-degree-append deg (l ∷ w) v = let h = degree-append deg w v in omega arith
-
--- a product of neighbours is even
-pub two-even : (a : ℕ) → (a * suc a) % 2 ≡ 0
-two-even zero = refl
-two-even (suc a) = let h = two-even a in omega arith
+-- the sum from 0 on
+pub sum-front : (n : ℕ) (a : ℕ → ℤ) → sum_below (suc n) a ≡ a 0 +ℤ sum_below n (λ k. a (suc k))
+sum-front zero a = omega (arith, ints)
+sum-front (suc n) a = let h = sum-front n a in omega (arith, ints)
 
 module _ (deg : Bool → ℕ) where
   pub back-sum : (h g : List Bool → ℤ) (w : List Bool) → turn_back deg (λ v. h v +ℤ g v) w ≡ turn_back deg h w +ℤ turn_back deg g w
@@ -115,109 +111,123 @@ module _ (deg : Bool → ℕ) where
       go (suc a) zero q = norm-minus p h w ∙ zero-minus p e
       go (suc a) (suc b) q = absurd (omega (arith, q))
 
+  twice-signed : (n : ℕ) (z : ℤ) → signed n (signed n z) ≡ z
+  twice-signed n z = signed-signed n n z ∙ signed-parity (n + n) 0 z (omega arith)
+
+  -- the two turns are inverse
+  pub there-back : (h : List Bool → ℤ) (w : List Bool) → turn_back deg (at_turned deg h) w ≡ h w
+  there-back h [] = one-mul (h [])
+  there-back h (l ∷ w) = ap (signed (deg l * word_degree deg w)) (at_turned-end deg h l w) ∙ twice-signed (deg l * word_degree deg w) (h (l ∷ w))
+
+  pub back-there : (h : List Bool → ℤ) (w : List Bool) → at_turned deg (turn_back deg h) w ≡ h w
+  back-there h [] = one-mul (h [])
+  back-there h (l ∷ w) =
+      let e = deg (last_letter l w) * word_degree deg (letters_before_last l w) in
+      let whole = letters_before_last l w ++ (last_letter l w ∷ []) in
+      times-signed e (signed e (h whole)) ∙ twice-signed e (h whole) ∙ ap h (whole-word l w)
+
+  -- j turns are as good as the other inverse turns
+  others-through : (a b : List Bool) (h : List Bool → ℤ) → at_turn (word_turn deg) (length b) h (a ++ b) ≡ turn_back_power deg (length a) h (a ++ b)
+  others-through a b h =
+      let d = word_degree deg a + word_degree deg b in
+      let even = two-even d in
+      let t = turns-through deg a b d refl in
+      let parity : (word_degree deg b * suc d) % 2 ≡ (word_degree deg a * suc d) % 2 = (let s : word_degree deg a * suc d + word_degree deg b * suc d ≡ d * suc d = omega arith in omega arith) in
+      (λ i. (t i).1 *ℤ h (t i).0)
+      ∙ times-signed (word_degree deg b * suc d) (h (b ++ a))
+      ∙ signed-parity (word_degree deg b * suc d) (word_degree deg a * suc d) (h (b ++ a)) parity
+      ∙ sym (power-through a b h d refl)
+
+  others : (j k : ℕ) (h : List Bool → ℤ) (w : List Bool) → length w ≡ j + k → at_turn (word_turn deg) j h w ≡ turn_back_power deg k h w
+  others j k h w e =
+      let a : length (take k w) ≡ k = length-take-le k w (omega arith) in
+      let b : length (drop k w) ≡ j = length-drop k w ∙ omega arith in
+      let whole = take-append-drop k w in
+      (λ i. at_turn (word_turn deg) (sym b i) h (sym whole i)) ∙ others-through (take k w) (drop k w) h ∙ (λ i. turn_back_power deg (a i) h (whole i))
+
+  norm-sum_below : (k : ℕ) (h : List Bool → ℤ) (w : List Bool) → norm deg k h w ≡ sum_below k (λ i. turn_back_power deg i h w)
+  norm-sum_below zero h w = refl
+  norm-sum_below (suc k) h w = ap (λ z. z +ℤ turn_back_power deg k h w) (norm-sum_below k h w)
+
+  below : (k : ℕ) (f : ℕ → ℤ) (h : List Bool → ℤ) (w : List Bool) → ((j : ℕ) → suc j + (k - suc j) ≡ k → at_turn (word_turn deg) j h w ≡ f j) → value_at h (power_sum (word_turn deg) k w) ≡ sum_below k f
+  below zero f h w e = refl
+  below (suc k) f h w e =
+      let a = below k f h w (λ j q. e j (omega arith)) in
+      let b = e k (omega arith) in
+      omega (arith, ints)
+
+  turned-round : (k : ℕ) (f : ℕ → ℤ) → sum_below k (λ j. f (k - j)) ≡ sum_below k (λ j. f (suc j))
+  turned-round zero f = refl
+  turned-round (suc k) f =
+      let a = sum-front k (λ j. f (suc k - j)) in
+      let z : suc k - 0 ≡ suc k = omega arith in
+      let b = ap f z in
+      let c : sum_below k (λ j. f (suc k - suc j)) ≡ sum_below k (λ j. f (k - j)) = ap (λ (g : ℕ → ℕ). sum_below k (λ j. f (g j))) (λ i j. less j i) in
+      let ih = turned-round k f in
+      omega (arith, ints)
+    where
+      less : (j : ℕ) → suc k - suc j ≡ k - j
+      less j = omega arith
+
+  pub turn-norm : (h : List Bool → ℤ) (w : List Bool) → value_at h (power_sum (word_turn deg) (length w) w) ≡ norm deg (length w) h w
+  turn-norm h w =
+      let k : ℕ = length w in
+      let f : ℕ → ℤ = λ i. turn_back_power deg i h w in
+      let a = below k (λ j. f (k - j)) h w (λ j q. others j (k - j) h w (omega arith)) in
+      let b = turned-round k f in
+      let c = sum-front k f in
+      let d = power-whole w h in
+      let e = norm-sum_below k h w in
+      omega (arith, ints)
+
 module _ (n : ℕ) where
-  pub bound-sum : (w : List Bool) (h g : List Bool → ℤ) → word_boundary n (λ v. h v +ℤ g v) w ≡ word_boundary n h w +ℤ word_boundary n g w
-  bound-sum [] h g = refl
-  bound-sum (false ∷ w) h g =
-      let a = bound-sum w (λ v. h (false ∷ v)) (λ v. g (false ∷ v)) in
-      let b = ap (signed n) a ∙ signed-+ n (word_boundary n (λ v. h (false ∷ v)) w) (word_boundary n (λ v. g (false ∷ v)) w) in
-      omega (arith, ints)
-  bound-sum (true ∷ w) h g = ap (signed (suc n)) (bound-sum w (λ v. h (true ∷ v)) (λ v. g (true ∷ v))) ∙ signed-+ (suc n) (word_boundary n (λ v. h (true ∷ v)) w) (word_boundary n (λ v. g (true ∷ v)) w)
-
-  pub bound-neg : (w : List Bool) (h : List Bool → ℤ) → word_boundary n (λ v. neg_ℤ (h v)) w ≡ neg_ℤ (word_boundary n h w)
-  bound-neg [] h = refl
-  bound-neg (false ∷ w) h =
-      let b = ap (signed n) (bound-neg w (λ v. h (false ∷ v))) ∙ signed-neg n (word_boundary n (λ v. h (false ∷ v)) w) in
-      omega (arith, ints)
-  bound-neg (true ∷ w) h = ap (signed (suc n)) (bound-neg w (λ v. h (true ∷ v))) ∙ signed-neg (suc n) (word_boundary n (λ v. h (true ∷ v)) w)
-
-  pub bound-zero : (w : List Bool) → word_boundary n (λ v. pos 0) w ≡ pos 0
-  bound-zero [] = refl
-  bound-zero (false ∷ w) = let b = ap (signed n) (bound-zero w) ∙ signed-zero n in omega (arith, ints)
-  bound-zero (true ∷ w) = ap (signed (suc n)) (bound-zero w) ∙ signed-zero (suc n)
-
-  pub bound-signed : (k : ℕ) (w : List Bool) (h : List Bool → ℤ) → word_boundary n (λ v. signed k (h v)) w ≡ signed k (word_boundary n h w)
-  bound-signed zero w h = refl
-  bound-signed (suc k) w h = bound-neg w (λ v. signed k (h v)) ∙ ap neg_ℤ (bound-signed k w h)
-
-  -- each word of a boundary has one degree more
-  bound-cong : (w : List Bool) (h g : List Bool → ℤ) → ((v : List Bool) → word_degree (letter_degree n) v ≡ suc (word_degree (letter_degree n) w) → h v ≡ g v) → word_boundary n h w ≡ word_boundary n g w
-  bound-cong [] h g e = refl
-  bound-cong (false ∷ w) h g e =
-      (λ i. e (true ∷ w) (omega arith) i +ℤ signed n (bound-cong w (λ v. h (false ∷ v)) (λ v. g (false ∷ v)) (λ v q. e (false ∷ v) (omega arith)) i))
-  bound-cong (true ∷ w) h g e = ap (signed (suc n)) (bound-cong w (λ v. h (true ∷ v)) (λ v. g (true ∷ v)) (λ v q. e (true ∷ v) (omega arith)))
-
-  bound-append : (w r : List Bool) (h : List Bool → ℤ) → word_boundary n h (w ++ r) ≡ word_boundary n (λ v. h (v ++ r)) w +ℤ signed (word_degree (letter_degree n) w) (word_boundary n (λ v. h (w ++ v)) r)
-  bound-append [] r h = omega (arith, ints)
-  bound-append (false ∷ w) r h =
-      let b = ap (signed n) (bound-append w r (λ v. h (false ∷ v))) ∙ signed-+ n (word_boundary n (λ v. h (false ∷ (v ++ r))) w) (signed (word_degree (letter_degree n) w) (word_boundary n (λ v. h (false ∷ (w ++ v))) r)) in
-      let c = signed-signed n (word_degree (letter_degree n) w) (word_boundary n (λ v. h (false ∷ (w ++ v))) r) in
-      omega (arith, ints)
-  bound-append (true ∷ w) r h =
-      ap (signed (suc n)) (bound-append w r (λ v. h (true ∷ v)))
-      ∙ signed-+ (suc n) (word_boundary n (λ v. h (true ∷ (v ++ r))) w) (signed (word_degree (letter_degree n) w) (word_boundary n (λ v. h (true ∷ (w ++ v))) r))
-      ∙ ap (λ z. signed (suc n) (word_boundary n (λ v. h (true ∷ (v ++ r))) w) +ℤ z) (signed-signed (suc n) (word_degree (letter_degree n) w) (word_boundary n (λ v. h (true ∷ (w ++ v))) r))
-
   -- the boundary goes past a turn
-  pub bound-back : (h : List Bool → ℤ) (w : List Bool) → word_boundary n (turn_back (letter_degree n) h) w ≡ turn_back (letter_degree n) (word_boundary n h) w
-  bound-back h [] = refl
-  bound-back h (false ∷ w) =
-      let d : ℕ = word_degree (letter_degree n) w in
-      let x : ℤ = word_boundary n (λ v. h (v ++ (false ∷ []))) w in
-      let y : ℤ = h (w ++ (true ∷ [])) in
-      let a : word_boundary n (λ v. turn_back (letter_degree n) h (false ∷ v)) w ≡ signed (n * suc d) x =
-      bound-cong w (λ v. turn_back (letter_degree n) h (false ∷ v)) (λ v. signed (n * suc d) (h (v ++ (false ∷ [])))) (λ v q. ap (λ k. signed (n * k) (h (v ++ (false ∷ [])))) q)
-      ∙ bound-signed (n * suc d) w (λ v. h (v ++ (false ∷ []))) in
-      let b = ap (signed n) a ∙ signed-signed n (n * suc d) x ∙ signed-parity (n + n * suc d) (n * d) x (omega arith) in
-      let e = bound-append w (false ∷ []) h in
-      let z = signed-zero n in
-      let y0 : y +ℤ signed n (pos 0) ≡ y = omega (arith, ints) in
-      let f = ap (signed (n * d)) (e ∙ ap (λ k. x +ℤ signed d k) y0) ∙ signed-+ (n * d) x (signed d y) in
-      let g = signed-signed (n * d) d y ∙ signed-parity (n * d + d) (suc n * d) y (omega arith) in
-      omega (arith, ints)
-  bound-back h (true ∷ w) =
-      let d : ℕ = word_degree (letter_degree n) w in
-      let x : ℤ = word_boundary n (λ v. h (v ++ (true ∷ []))) w in
-      let a : word_boundary n (λ v. turn_back (letter_degree n) h (true ∷ v)) w ≡ signed (suc n * suc d) x =
-      bound-cong w (λ v. turn_back (letter_degree n) h (true ∷ v)) (λ v. signed (suc n * suc d) (h (v ++ (true ∷ [])))) (λ v q. ap (λ k. signed (suc n * k) (h (v ++ (true ∷ [])))) q)
-      ∙ bound-signed (suc n * suc d) w (λ v. h (v ++ (true ∷ []))) in
-      let b = ap (signed (suc n)) a ∙ signed-signed (suc n) (suc n * suc d) x ∙ signed-parity (suc n + suc n * suc d) (suc n * d) x (omega arith) in
-      let e = bound-append w (true ∷ []) h in
-      let z = ap (signed d) (signed-zero (suc n)) ∙ signed-zero d in
-      let x0 : word_boundary n h (w ++ (true ∷ [])) ≡ x = omega (arith, ints) in
-      let f = ap (signed (suc n * d)) x0 in
-      b ∙ sym f
+  bound-back : (h : List Bool → ℤ) (w : List Bool) → boundary_value n (turn_back (letter_degree n) h) w ≡ turn_back (letter_degree n) (boundary_value n h) w
+  bound-back h w =
+      let deg = letter_degree n in
+      sym (there-back deg (boundary_value n (turn_back deg h)) w)
+      ∙ ap (λ g. turn_back deg g w) (λ i v. bound-turn n (turn_back deg h) v i)
+      ∙ ap (λ g. turn_back deg (boundary_value n g) w) (λ i v. back-there deg h v i)
 
-  -- the boundary and `shorten`
-  pub homotopy : (h : List Bool → ℤ) (l : Bool) (w : List Bool) → contraction (word_boundary n h) (l ∷ w) +ℤ word_boundary n (contraction h) (l ∷ w) ≡ h (l ∷ w)
-  homotopy h true w = omega (arith, ints)
-  homotopy h false w = let z = ap (signed n) (bound-zero w) ∙ signed-zero n in omega (arith, ints)
-
-  back-add : (h g : List Bool → ℤ) (w : List Bool) → turn_back (letter_degree n) (λ v. h v +ℤ g v) w ≡ turn_back (letter_degree n) h w +ℤ turn_back (letter_degree n) g w
-  back-add = back-sum (letter_degree n)
-
-  bound-minus : (h : List Bool → ℤ) (w : List Bool) → word_boundary n (turn_back_less_one (letter_degree n) h) w ≡ turn_back_less_one (letter_degree n) (word_boundary n h) w
-  bound-minus h w =
-      let a = bound-sum w (turn_back (letter_degree n) h) (λ v. neg_ℤ (h v)) in
-      let b = bound-neg w h in
-      let c = bound-back h w in
+  -- the boundary and the contraction
+  pub homotopy : (h : List Bool → ℤ) (l : Bool) (w : List Bool) → contraction (boundary_value n h) (l ∷ w) +ℤ boundary_value n (contraction h) (l ∷ w) ≡ h (l ∷ w)
+  homotopy h true w = let a = bound-false n h w in let b = bound-true n (contraction h) w in omega (arith, ints)
+  homotopy h false w =
+      let a = bound-false n (contraction h) w in
+      let z = ap (signed n) (value_at-nothing (word_boundary n w)) ∙ signed-zero n in
       omega (arith, ints)
 
-  bound-power : (k : ℕ) (h : List Bool → ℤ) (w : List Bool) → word_boundary n (turn_back_power (letter_degree n) k h) w ≡ turn_back_power (letter_degree n) k (word_boundary n h) w
+  bound-minus : (h : List Bool → ℤ) (w : List Bool) → boundary_value n (turn_back_less_one (letter_degree n) h) w ≡ turn_back_less_one (letter_degree n) (boundary_value n h) w
+  bound-minus h w = value_at-sub (turn_back (letter_degree n) h) h (word_boundary n w) ∙ ap (λ z. z -ℤ boundary_value n h w) (bound-back h w)
+
+  bound-power : (k : ℕ) (h : List Bool → ℤ) (w : List Bool) → boundary_value n (turn_back_power (letter_degree n) k h) w ≡ turn_back_power (letter_degree n) k (boundary_value n h) w
   bound-power zero h w = refl
   bound-power (suc k) h w = bound-back (turn_back_power (letter_degree n) k h) w ∙ ap (λ f. turn_back (letter_degree n) f w) (λ i v. bound-power k h v i)
 
-  bound-norm : (k : ℕ) (h : List Bool → ℤ) (w : List Bool) → word_boundary n (norm (letter_degree n) k h) w ≡ norm (letter_degree n) k (word_boundary n h) w
-  bound-norm zero h w = bound-zero w
+  bound-norm : (k : ℕ) (h : List Bool → ℤ) (w : List Bool) → boundary_value n (norm (letter_degree n) k h) w ≡ norm (letter_degree n) k (boundary_value n h) w
+  bound-norm zero h w = value_at-nothing (word_boundary n w)
   bound-norm (suc k) h w =
-      let a = bound-sum w (norm (letter_degree n) k h) (turn_back_power (letter_degree n) k h) in
+      let a = value_at-sum (norm (letter_degree n) k h) (turn_back_power (letter_degree n) k h) (word_boundary n w) in
       let b = bound-norm k h w in
       let c = bound-power k h w in
       omega (arith, ints)
 
-  pub bound-step : (p m : ℕ) (h : List Bool → ℤ) (w : List Bool) → word_boundary n (step (letter_degree n) p m h) w ≡ step (letter_degree n) p m (word_boundary n h) w
+  pub bound-step : (p m : ℕ) (h : List Bool → ℤ) (w : List Bool) → boundary_value n (step (letter_degree n) p m h) w ≡ step (letter_degree n) p m (boundary_value n h) w
   bound-step p m h w = go (m % 2)
     where
-      go : (c : ℕ) → word_boundary n (λ v. choice c (norm (letter_degree n) p h v) (turn_back_less_one (letter_degree n) h v)) w ≡ choice c (norm (letter_degree n) p (word_boundary n h) w) (turn_back_less_one (letter_degree n) (word_boundary n h) w)
+      go : (c : ℕ) → boundary_value n (λ v. choice c (norm (letter_degree n) p h v) (turn_back_less_one (letter_degree n) h v)) w ≡ choice c (norm (letter_degree n) p (boundary_value n h) w) (turn_back_less_one (letter_degree n) (boundary_value n h) w)
       go zero = bound-norm p h w
       go (suc c) = bound-minus h w
+
+pub word_laws : WordLaws
+word_laws = record {
+  there_back = there-back;
+  back_there = back-there;
+  whole = turned-whole;
+  norms = turn-norm;
+  twice = bound-twice;
+  turns = bound-turn;
+  steps = bound-step;
+  nothing = λ deg m h w. step-step deg (length w) m h w refl;
+  contracts = homotopy;
+}

@@ -1,52 +1,47 @@
 -- The laws of the Steenrod operations.
-use Rattle.std.specs.Prelude.{◌≡◌, ℕ, ◌+◌, ◌*◌, ◌-◌, ◌≤◌, Bool, List, [], ◌∷◌, ◌++◌, length, map, sum, ℤ, pos, ◌+ℤ◌, suc, IsTrue, ◌<◌}
+use Rattle.std.specs.Prelude.{◌≡◌, ℕ, ◌+◌, ◌*◌, ◌-◌, ◌≤◌, Bool, List, [], ◌∷◌, ◌++◌, length, map, sum, ℤ, pos, ◌+ℤ◌, ◌*ℤ◌, suc, IsTrue, ◌<◌}
 use Rattle.std.specs.List.{AllZip}
 use Rattle.fp_field.specs.Element.{sign_power}
+use Rattle.fp_field.specs.Orbits.{orbit_words}
 use Rattle.fp_field.specs.Served.{served}
-use Rattle.linear_law.specs.Congruence.{Congruent, IsField, negated}
-use Rattle.linear_law.specs.Lists.{Each}
-use Rattle.linear_law.specs.Matrices.{matrix_times}
-use Rattle.linear_law.specs.ReducedBases.{combination}
-use Rattle.simplicial_law.specs.Simplices.{IsSimplex}
-use Rattle.simplicial_law.specs.Cochains.{AgreesOnSimplices, Cochain, HasCoordinates, IsCoboundary, IsCocycle, IsCohomologyBasis, coboundary}
+use Rattle.linear_law.specs.Names.{Congruent, IsField, negated, Each, matrix_times, combination}
+use Rattle.simplicial_law.specs.Names.{IsSimplex, no_cochain, AgreesOnSimplices, Cochain, HasCoordinates, IsCoboundary, IsCocycle, IsCohomologyBasis, coboundary, CongruentInt}
 use Rattle.steenrod_law.specs.Operations.{IsBocksteinPower, IsPower, IsSimplicial, IsSquare, cochain_products, coefficient_products, cup_product, may_operation, orbit_primitive, power_degree, pull_back, scaled_operation, staircase_primitive, value_on}
-use Rattle.signed_sum.specs.Permutations.{cycle}
-use Rattle.signed_sum.specs.Sums.{unit_terms}
-use Rattle.surjection_law.specs.Boundary.{caesura_count, surjection_boundary}
-use Rattle.surjection_law.specs.Surjections.{IsOnto}
-use Rattle.simplicial_law.specs.Integral.{CongruentInt}
-use Rattle.steenrod_law.specs.Words.{IsOrbitTable, contraction, letter_degree, norm, orbit_words_of_2, orbit_words_of_3, orbit_words_of_5, staircase, step, turn, turn_back, turn_power, turn_sum, word_boundary}
+use Rattle.signed_sum.specs.Names.{cycle, unit_terms, value_at, after_turns, power_sum, word_turn}
+use Rattle.surjection_law.specs.Names.{caesura_count, surjection_boundary, IsOnto}
+use Rattle.steenrod_law.specs.Words.{IsOrbitTable, boundary_value, contraction, letter_degree, norm, staircase, step, turn_back}
 
--- Words are a cyclic model: the two turns are inverse, as many turns as there are letters do nothing,
+-- Words are a cyclic model: `turn_back` undoes the turn, as many turns as there are letters do nothing,
 -- the sum of all turns is that of all inverse turns, the boundary of a boundary is zero, and the
 -- boundary commutes with turns and steps. Two steps in a row give zero. The boundary of the contraction
 -- and the contraction of the boundary sum to the identity.
 pub record WordLaws : Type 0 where
-  pub there_back : (deg : Bool → ℕ) (h : List Bool → ℤ) (w : List Bool) → turn_back deg (turn deg h) w ≡ h w
-  pub back_there : (deg : Bool → ℕ) (h : List Bool → ℤ) (w : List Bool) → turn deg (turn_back deg h) w ≡ h w
-  pub whole : (deg : Bool → ℕ) (h : List Bool → ℤ) (w : List Bool) → turn_power deg (length w) h w ≡ h w
-  pub norms : (deg : Bool → ℕ) (h : List Bool → ℤ) (w : List Bool) → turn_sum deg (length w) h w ≡ norm deg (length w) h w
-  pub twice : (n : ℕ) (h : List Bool → ℤ) (w : List Bool) → word_boundary n (word_boundary n h) w ≡ pos 0
+  pub there_back : (deg : Bool → ℕ) (h : List Bool → ℤ) (w : List Bool) →
+      turn_back deg (λ v. (word_turn deg v).1 *ℤ h (word_turn deg v).0) w ≡ h w
+  pub back_there : (deg : Bool → ℕ) (h : List Bool → ℤ) (w : List Bool) →
+      (word_turn deg w).1 *ℤ turn_back deg h (word_turn deg w).0 ≡ h w
+  pub whole : (deg : Bool → ℕ) (w : List Bool) → after_turns (word_turn deg) (length w) w ≡ (w, pos 1)
+  pub norms : (deg : Bool → ℕ) (h : List Bool → ℤ) (w : List Bool) →
+      value_at h (power_sum (word_turn deg) (length w) w) ≡ norm deg (length w) h w
+  pub twice : (n : ℕ) (h : List Bool → ℤ) (w : List Bool) → boundary_value n (boundary_value n h) w ≡ pos 0
   pub turns : (n : ℕ) (h : List Bool → ℤ) (w : List Bool) →
-      word_boundary n (turn (letter_degree n) h) w ≡ turn (letter_degree n) (word_boundary n h) w
+      (word_turn (letter_degree n) w).1 *ℤ boundary_value n h (word_turn (letter_degree n) w).0
+      ≡ boundary_value n (λ v. (word_turn (letter_degree n) v).1 *ℤ h (word_turn (letter_degree n) v).0) w
   pub steps : (n p m : ℕ) (h : List Bool → ℤ) (w : List Bool) →
-      word_boundary n (step (letter_degree n) p m h) w ≡ step (letter_degree n) p m (word_boundary n h) w
+      boundary_value n (step (letter_degree n) p m h) w ≡ step (letter_degree n) p m (boundary_value n h) w
   pub nothing : (deg : Bool → ℕ) (m : ℕ) (h : List Bool → ℤ) (w : List Bool) →
       step deg (length w) (suc m) (step deg (length w) m h) w ≡ pos 0
   pub contracts : (n : ℕ) (h : List Bool → ℤ) (l : Bool) (w : List Bool) →
-      contraction (word_boundary n h) (l ∷ w) +ℤ word_boundary n (contraction h) (l ∷ w) ≡ h (l ∷ w)
+      contraction (boundary_value n h) (l ∷ w) +ℤ boundary_value n (contraction h) (l ∷ w) ≡ h (l ∷ w)
 
 -- The boundary of each sum of the staircase is the step of the one before it, modulo p.
 abbrev pub StaircaseLaw : Type 0
 StaircaseLaw = (p n d j : ℕ) (h : List Bool → ℤ) → IsField p → suc j ≤ d →
-    CongruentInt p (staircase p n d (suc j) (word_boundary n h)) (staircase p n d j (step (letter_degree n) p (d - j) h))
+    CongruentInt p (staircase p n d (suc j) (boundary_value n h)) (staircase p n d j (step (letter_degree n) p (d - j) h))
 
--- The orbit words of 2, 3 and 5; so each prime that is served has some.
-pub record OrbitTables : Type 0 where
-  pub two : IsOrbitTable 2 orbit_words_of_2
-  pub three : IsOrbitTable 3 orbit_words_of_3
-  pub five : IsOrbitTable 5 orbit_words_of_5
-  pub all_served : (p : ℕ) → IsTrue (served p) → (ms : List (List Bool)) × IsOrbitTable p ms
+-- The words of the listed orbit masks are one for each orbit.
+abbrev pub OrbitWordsLaw : Type 0
+OrbitWordsLaw = (p : ℕ) → IsTrue (served p) → IsOrbitTable p (orbit_words p)
 
 -- On cocycles in every place the coboundary of the value of a surjection of degree d is (-1)^(d+1) times the value
 -- of its boundary.
@@ -73,8 +68,8 @@ abbrev pub ScalingLaw : Type 0
 ScalingLaw = (p d q c : ℕ) (a : Cochain) (s : List ℕ) → IsField p → 1 ≤ length s →
     Congruent p (may_operation p d q (λ t. c * a t) s) (c * may_operation p d q a s)
 
--- The degrees of D_d and of the primitives: elsewhere they are 0. Where d is p * q, or p * (n + 1), the
--- primitive has degree -1 and is 0.
+-- The degrees of D_d, of the primitives and of cup products: on the simplices of other degrees they are 0. Where d is
+-- p * q, or p * (q + 1) for the staircase, the primitive has degree -1 and is 0.
 pub record DegreeLaw : Type 0 where
   pub operations : (facets : List (List ℕ)) (p d q n : ℕ) (a : Cochain) (s : List ℕ) → IsField p →
       IsSimplex facets n s → (n + d ≡ p * q → ⊥) → may_operation p d q a s ≡ 0
@@ -91,21 +86,25 @@ abbrev pub RepresentativeLaw : Type 0
 RepresentativeLaw = (facets : List (List ℕ)) (p d q n : ℕ) (y : Cochain) → IsField p →
     AgreesOnSimplices facets n p (may_operation p d (q + 1) (coboundary p y)) (coboundary p (staircase_primitive p d q y))
 
--- D_d of a sum of cocycles is the sum of both, plus (-1)^d times the coboundary of the primitive on the orbit words.
-abbrev pub AdditivityLaw : Type 0
-AdditivityLaw = (facets : List (List ℕ)) (p d q n : ℕ) (ms : List (List Bool)) (a c : Cochain) → IsField p →
-    IsOrbitTable p ms → IsCocycle facets q p a → IsCocycle facets q p c →
+-- The words ms add D_d up: on a sum of cocycles of degree q it is the sum of both, plus (-1)^d times the coboundary of
+-- the primitive on the words.
+abbrev pub IsAdditiveOn : ℕ → List (List Bool) → Type 0
+IsAdditiveOn p ms = (facets : List (List ℕ)) (d q n : ℕ) (a c : Cochain) → IsCocycle facets q p a → IsCocycle facets q p c →
     AgreesOnSimplices facets n p (may_operation p d q (λ t. a t + c t))
     (λ s. may_operation p d q a s + may_operation p d q c s + sign_power p d * coboundary p (orbit_primitive p d q ms a c) s)
 
--- The primitives are 0 on each complex on which the given cochains are 0.
+-- D_d is additive up to that coboundary: on each orbit table, and so on the words of the listed masks.
+pub record AdditivityLaw : Type 0 where
+  pub every_table : (p : ℕ) (ms : List (List Bool)) → IsField p → IsOrbitTable p ms → IsAdditiveOn p ms
+  pub listed_words : (p : ℕ) → IsTrue (served p) → IsAdditiveOn p (orbit_words p)
+
+-- The primitives are 0 modulo p on each complex on which the given cochains are.
 pub record SubcomplexLaw : Type 0 where
   pub orbit_primitives : (facets : List (List ℕ)) (p d q n : ℕ) (ms : List (List Bool)) (a c : Cochain) → IsField p →
-      IsOrbitTable p ms → ((s : List ℕ) → IsSimplex facets q s → a s ≡ 0) → ((s : List ℕ) → IsSimplex facets q s → c s ≡ 0) →
-      (s : List ℕ) → IsSimplex facets n s → Congruent p (orbit_primitive p d q ms a c s) 0
+      IsOrbitTable p ms → AgreesOnSimplices facets q p a no_cochain → AgreesOnSimplices facets q p c no_cochain →
+      AgreesOnSimplices facets n p (orbit_primitive p d q ms a c) no_cochain
   pub staircase_primitives : (facets : List (List ℕ)) (p d q n : ℕ) (y : Cochain) → IsField p →
-      ((s : List ℕ) → IsSimplex facets q s → y s ≡ 0) →
-      (s : List ℕ) → IsSimplex facets n s → Congruent p (staircase_primitive p d q y s) 0
+      AgreesOnSimplices facets q p y no_cochain → AgreesOnSimplices facets n p (staircase_primitive p d q y) no_cochain
 
 -- On classes an operation is linear and does not depend on the representative: for each z that is the
 -- combination of the cocycles zs plus a coboundary, the operation on z is the combination of the
@@ -141,23 +140,27 @@ pub record ProductLaw : Type 0 where
       (z w : Cochain) (cs ds : List ℕ) → HasCoordinates facets q p zs z cs → HasCoordinates facets k p ws w ds →
       HasCoordinates facets n p us (cup_product p q k z w) (matrix_times p (length us) columns (coefficient_products cs ds))
 
--- Operations and products commute with the pull-back along each map of vertices.
+-- Modulo p, on lists that are not empty, May operations and products commute with the pull-back along each map of
+-- vertices.
 pub record PullBackLaw : Type 0 where
   pub operations : (f : ℕ → ℕ) (p d q : ℕ) (a : Cochain) (s : List ℕ) → IsField p → 1 ≤ length s →
       Congruent p (may_operation p d q (pull_back f a) s) (pull_back f (may_operation p d q a) s)
   pub products : (f : ℕ → ℕ) (p q k : ℕ) (a b : Cochain) (s : List ℕ) → IsField p → 1 ≤ length s →
       Congruent p (cup_product p q k (pull_back f a) (pull_back f b) s) (pull_back f (cup_product p q k a b) s)
 
--- The degree of the target and the May degree of an operation sum to p * q: squares, powers and
--- Bockstein powers have the degrees that their definitions say.
+-- Squares, powers and Bockstein powers have the degrees that their definitions say: in every other degree the May
+-- operation that the definition takes is 0.
 pub record TargetLaw : Type 0 where
-  pub squares : (k q : ℕ) → k ≤ q → (q + k) + (q - k) ≡ 2 * q
-  pub powers : (p s q : ℕ) → 1 ≤ p → 2 * s ≤ q → (q + 2 * s * (p - 1)) + power_degree p s q ≡ p * q
-  pub bockstein_powers : (p s q : ℕ) → 2 ≤ p → 2 * s < q → (q + 2 * s * (p - 1) + 1) + (power_degree p s q - 1) ≡ p * q
+  pub squares : (facets : List (List ℕ)) (k q n : ℕ) (a b : Cochain) (s : List ℕ) → IsSquare facets k q a b →
+      IsSimplex facets n s → (n ≡ q + k → ⊥) → may_operation 2 (q - k) q a s ≡ 0
+  pub powers : (facets : List (List ℕ)) (p i q n : ℕ) (a b : Cochain) (s : List ℕ) → IsField p → IsPower facets p i q a b →
+      IsSimplex facets n s → (n ≡ q + 2 * i * (p - 1) → ⊥) → may_operation p (power_degree p i q) q a s ≡ 0
+  pub bockstein_powers : (facets : List (List ℕ)) (p i q n : ℕ) (a b : Cochain) (s : List ℕ) → IsField p →
+      IsBocksteinPower facets p i q a b → IsSimplex facets n s → (n ≡ q + 2 * i * (p - 1) + 1 → ⊥) →
+      may_operation p (power_degree p i q - 1) q a s ≡ 0
 
 -- The pull-back along an order-preserving simplicial map commutes with the coboundary, and takes cocycles to
--- cocycles. Its matrix carries the coordinates of each cocycle to those of its pull-back, and commutes with
--- the matrices of an operation.
+-- cocycles. Its matrix carries the coordinates of each cochain that has some to those of its pull-back.
 pub record InducedMapLaw : Type 0 where
   pub coboundaries : (f : ℕ → ℕ) (from to : List (List ℕ)) (p q : ℕ) (y : Cochain) → IsField p → IsSimplicial f from to →
       AgreesOnSimplices from (q + 1) p (coboundary p (pull_back f y)) (pull_back f (coboundary p y))
@@ -169,11 +172,13 @@ pub record InducedMapLaw : Type 0 where
       (w : Cochain) (cs : List ℕ) → HasCoordinates to q p ws w cs →
       HasCoordinates from q p zs (pull_back f w) (matrix_times p (length zs) columns cs)
 
--- The matrices of an operation commute with induced matrices: for a map of complexes and bases of their
--- cohomology in the degrees q and n, the induced matrix in degree n times each column of the operation on the
--- target is the matrix of the operation on the source times the same column of the induced matrix in degree q.
-abbrev pub NaturalityLaw : Type 0
-NaturalityLaw = (f : ℕ → ℕ) (from to : List (List ℕ)) (p d c q n : ℕ) (ms : List (List Bool)) → IsField p → IsOrbitTable p ms →
+-- The matrices of an operation commute with induced matrices. Given are a map of complexes, cocycles zs of the source
+-- and zs' of the target in degree q, a basis us of the cohomology of the source and cochains us' of the target in
+-- degree n, the matrices of the operation from zs to us and from zs' to us', and those of the map from zs' to zs and
+-- from us' to us. Then the induced matrix in degree n times each column of the operation on the target is the matrix of
+-- the operation on the source times the same column of the induced matrix in degree q.
+abbrev pub InducedMatrixLaw : Type 0
+InducedMatrixLaw = (f : ℕ → ℕ) (from to : List (List ℕ)) (p d c q n : ℕ) (ms : List (List Bool)) → IsField p → IsOrbitTable p ms →
     IsSimplicial f from to → (zs us zs' us' : List Cochain) (ops induced_q ops' induced_n : List (List ℕ)) →
     Each (IsCocycle from q p) zs → IsCohomologyBasis from n p us → Each (IsCocycle to q p) zs' →
     AllZip (λ column z. HasCoordinates from n p us (scaled_operation p d c q z) column) ops zs →

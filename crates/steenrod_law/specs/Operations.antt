@@ -1,14 +1,12 @@
 -- The operations on cochains of residues: May operations, squares, powers, Bockstein powers, products and
 -- pull-backs. A cochain of degree q gives a number to each simplex of degree q.
-use Rattle.std.specs.Prelude.{ℕ, ◌≤◌, ◌+◌, ◌-◌, ◌*◌, ◌%◌, Bool, not, cond, ◌==◌, ◌&&◌, List, [], ◌∷◌, flat_map, length, map, ℤ, pos, negsuc, suc}
+use Rattle.std.specs.Prelude.{◌≡◌, ℕ, ◌≤◌, ◌<◌, ◌+◌, ◌-◌, ◌*◌, ◌%◌, Bool, not, cond, ◌==◌, ◌&&◌, List, [], ◌∷◌, flat_map, length, map, ℤ, pos, negsuc, suc}
 use Rattle.fp_field.specs.Element.{IsScale}
-use Rattle.signed_sum.specs.Lists.{is_degenerate, unless_empty}
-use Rattle.linear_law.specs.Congruence.{negated}
-use Rattle.linear_law.specs.Lists.{Among, Each}
-use Rattle.simplicial_law.specs.Simplices.{IsSimplex}
-use Rattle.simplicial_law.specs.Cochains.{AgreesOnSimplices, Cochain}
-use Rattle.interval_cut_law.specs.Operations.{operation_value}
-use Rattle.table_reduction_law.specs.MayElements.{may_element}
+use Rattle.signed_sum.specs.Names.{is_degenerate, unless_empty}
+use Rattle.linear_law.specs.Names.{negated, Among, Each}
+use Rattle.simplicial_law.specs.Names.{IsSimplex, AgreesOnSimplices, Cochain}
+use Rattle.interval_cut_law.specs.Names.{operation_value}
+use Rattle.table_reduction_law.specs.Names.{may_element}
 use Rattle.steenrod_law.specs.Words.{copies}
 use Rattle.steenrod_law.specs.Values.{orbit_sum, staircase_sum, sum_value}
 
@@ -50,20 +48,25 @@ abbrev pub power_degree : ℕ → ℕ → ℕ → ℕ
 power_degree p s q = (q - 2 * s) * (p - 1)
 
 -- b is the square Sq^k of a cochain a of degree q, for k from 0 to q: it has degree q + k
-abbrev pub IsSquare : List (List ℕ) → ℕ → ℕ → Cochain → Cochain → Type 0
-IsSquare facets k q a b = AgreesOnSimplices facets (q + k) 2 b (may_operation 2 (q - k) q a)
+pub record IsSquare (facets : List (List ℕ)) (k q : ℕ) (a b : Cochain) : Type 0 where
+  pub defined : k ≤ q
+  pub value : AgreesOnSimplices facets (q + k) 2 b (may_operation 2 (q - k) q a)
 
 -- b is the power P^s of a cochain a of degree q, for an odd p and 2 * s from 0 to q: the constant
 -- (-1)^(s + m*q(q-1)/2) * (m!)^(-q), where m = (p - 1)/2, times D of the degree above. It has degree
 -- q + 2 * s * (p - 1).
 pub record IsPower (facets : List (List ℕ)) (p s q : ℕ) (a b : Cochain) : Type 0 where
+  pub odd : p % 2 ≡ 1
+  pub defined : 2 * s ≤ q
   pub scale : ℕ
   pub is_scale : IsScale p q s scale
   pub value : AgreesOnSimplices facets (q + 2 * s * (p - 1)) p b (scaled_operation p (power_degree p s q) scale q a)
 
--- b is the Bockstein power bP^s of a, for 2 * s below q: minus the constant times D of one degree less.
--- It has degree q + 2 * s * (p - 1) + 1.
+-- b is the Bockstein power bP^s of a, for an odd p and 2 * s below q: minus the constant times D of one
+-- degree less. It has degree q + 2 * s * (p - 1) + 1.
 pub record IsBocksteinPower (facets : List (List ℕ)) (p s q : ℕ) (a b : Cochain) : Type 0 where
+  pub odd : p % 2 ≡ 1
+  pub defined : 2 * s < q
   pub scale : ℕ
   pub is_scale : IsScale p q s scale
   pub value : AgreesOnSimplices facets (q + 2 * s * (p - 1) + 1) p b
@@ -78,13 +81,13 @@ abbrev pub pull_back : (ℕ → ℕ) → Cochain → Cochain
 pull_back f a s = cond (is_degenerate (map f s)) 0 (a (map f s))
 
 -- no number is below the one before it
-abbrev pub IsRising : List ℕ → Type 0
-IsRising [] = Unit {0}
-IsRising (v ∷ vs) = Each (λ w. v ≤ w) vs × IsRising vs
+abbrev pub IsNondecreasing : List ℕ → Type 0
+IsNondecreasing [] = Unit {0}
+IsNondecreasing (v ∷ vs) = Each (λ w. v ≤ w) vs × IsNondecreasing vs
 
 -- a simplex of the complex with these facets, in which vertices may repeat
 pub record IsWeakSimplex (facets : List (List ℕ)) (s : List ℕ) : Type 0 where
-  pub rising : IsRising s
+  pub rising : IsNondecreasing s
   pub facet : List ℕ
   pub listed : Among facet facets
   pub within : Each (λ v. Among v facet) s

@@ -1,10 +1,9 @@
 -- Values of sums of surjections on cochains with whole values, and the primitives of the laws.
 use Rattle.std.specs.Prelude.{ℕ, ◌-◌, ◌%◌, Bool, cond, List, ◌++◌, map, ℤ, neg_ℤ, ◌+ℤ◌, zero, suc}
-use Rattle.signed_sum.specs.Signs.{signed}
-use Rattle.signed_sum.specs.Sums.{total, value_at}
-use Rattle.simplicial_law.specs.Integral.{integral_coboundary}
-use Rattle.interval_cut_law.specs.Operations.{operation_value}
-use Rattle.table_reduction_law.specs.MayElements.{cycle}
+use Rattle.signed_sum.specs.Names.{signed, total, value_at}
+use Rattle.simplicial_law.specs.Names.{integral_coboundary}
+use Rattle.interval_cut_law.specs.Names.{operation_value}
+use Rattle.table_reduction_law.specs.Names.{cycle}
 use Rattle.steenrod_law.specs.Words.{choice, staircase}
 
 -- the value of the sum x of surjections of arity p on the cochains `cs`

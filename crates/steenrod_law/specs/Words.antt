@@ -1,46 +1,17 @@
 -- Words of p letters. The letter `false` stands for one cochain, `true` for another. A sum of words with
 -- whole coefficients is given by its values: an operator on sums of words by the function that takes h
 -- to the value of h at the operator's result.
-use Rattle.std.specs.Prelude.{ℕ, ◌+◌, ◌-◌, ◌*◌, ◌%◌, ◌≡◌, Bool, true, false, List, [], ◌∷◌, ◌++◌, length, ℤ, pos, ◌+ℤ◌, ◌-ℤ◌, zero, suc}
+use Rattle.std.specs.Prelude.{ℕ, ◌-◌, ◌*◌, ◌%◌, ◌≡◌, Bool, true, false, List, [], ◌∷◌, ◌++◌, length, ℤ, pos, ◌+ℤ◌, ◌-ℤ◌, zero, suc}
 pub use Rattle.linear_law.specs.Lists.{copies}
-use Rattle.signed_sum.specs.Signs.{signed}
-use Rattle.signed_sum.specs.Sums.{total}
+use Rattle.signed_sum.specs.Names.{signed, total, value_at, word_boundary}
+pub use Rattle.signed_sum.specs.Words.{letter_degree, word_degree}
 
 -- a where the number is 0, else b
 abbrev pub choice : {X : Type 0} → ℕ → X → X → X
 choice zero a b = a
 choice (suc n) a b = b
 
--- the degree of a word, where the letter l has the degree `deg l`
-abbrev pub word_degree : (Bool → ℕ) → List Bool → ℕ
-word_degree deg [] = 0
-word_degree deg (l ∷ w) = deg l + word_degree deg w
-
--- the last letter of a word that begins with l, and the letters before it
-abbrev pub last_letter : Bool → List Bool → Bool
-last_letter l [] = l
-last_letter l (m ∷ w) = last_letter m w
-
-abbrev pub letters_before_last : Bool → List Bool → List Bool
-letters_before_last l [] = []
-letters_before_last l (m ∷ w) = l ∷ letters_before_last m w
-
--- the turn: the last letter goes to the front, with the sign of this exchange
-abbrev pub turn : (Bool → ℕ) → (List Bool → ℤ) → List Bool → ℤ
-turn deg h [] = h []
-turn deg h (l ∷ w) =
-    signed (deg (last_letter l w) * word_degree deg (letters_before_last l w)) (h (last_letter l w ∷ letters_before_last l w))
-
-abbrev pub turn_power : (Bool → ℕ) → ℕ → (List Bool → ℤ) → List Bool → ℤ
-turn_power deg zero h w = h w
-turn_power deg (suc k) h w = turn deg (turn_power deg k h) w
-
--- the sum of the first k powers of the turn
-abbrev pub turn_sum : (Bool → ℕ) → ℕ → (List Bool → ℤ) → List Bool → ℤ
-turn_sum deg zero h w = pos 0
-turn_sum deg (suc k) h w = turn_sum deg k h w +ℤ turn_power deg k h w
-
--- the inverse turn: the first letter goes to the end
+-- the inverse of the turn: the first letter goes to the end
 abbrev pub turn_back : (Bool → ℕ) → (List Bool → ℤ) → List Bool → ℤ
 turn_back deg h [] = h []
 turn_back deg h (l ∷ w) = signed (deg l * word_degree deg w) (h (w ++ (l ∷ [])))
@@ -62,17 +33,9 @@ norm deg (suc k) h w = norm deg k h w +ℤ turn_back_power deg k h w
 abbrev pub step : (Bool → ℕ) → ℕ → ℕ → (List Bool → ℤ) → List Bool → ℤ
 step deg p m h w = choice (m % 2) (norm deg p h w) (turn_back_less_one deg h w)
 
--- the letter `false` of degree n, and its boundary `true` of degree n + 1
-abbrev pub letter_degree : ℕ → Bool → ℕ
-letter_degree n false = n
-letter_degree n true = suc n
-
--- the boundary: the sum over the letters `false` of the word with that letter replaced by `true`, with
--- the sign of the degrees of the letters before it
-abbrev pub word_boundary : ℕ → (List Bool → ℤ) → List Bool → ℤ
-word_boundary n h [] = pos 0
-word_boundary n h (false ∷ w) = h (true ∷ w) +ℤ signed n (word_boundary n (λ v. h (false ∷ v)) w)
-word_boundary n h (true ∷ w) = signed (suc n) (word_boundary n (λ v. h (true ∷ v)) w)
+-- the value of h at the boundary
+abbrev pub boundary_value : ℕ → (List Bool → ℤ) → List Bool → ℤ
+boundary_value n h w = value_at h (word_boundary n w)
 
 -- the contraction: the word with its first letter replaced by `false` where it is `true`, and nothing
 -- where it is `false`
@@ -103,16 +66,3 @@ pub record IsOrbitTable (p : ℕ) (ms : List (List Bool)) : Type 0 where
   pub long : HaveLength p ms
   pub once : (h : List Bool → ℤ) →
       all_words p h ≡ (h (copies p false) +ℤ h (copies p true)) +ℤ total (norm (λ l. 0) p h) ms
-
--- The orbit words of 2, 3 and 5: the least turn of each orbit, where the first letter is the lowest bit.
-abbrev pub orbit_words_of_2 : List (List Bool)
-orbit_words_of_2 = (true ∷ false ∷ []) ∷ []
-
-abbrev pub orbit_words_of_3 : List (List Bool)
-orbit_words_of_3 = (true ∷ false ∷ false ∷ []) ∷ (true ∷ true ∷ false ∷ []) ∷ []
-
-abbrev pub orbit_words_of_5 : List (List Bool)
-orbit_words_of_5 =
-    (true ∷ false ∷ false ∷ false ∷ false ∷ []) ∷ (true ∷ true ∷ false ∷ false ∷ false ∷ [])
-    ∷ (true ∷ false ∷ true ∷ false ∷ false ∷ []) ∷ (true ∷ true ∷ true ∷ false ∷ false ∷ [])
-    ∷ (true ∷ true ∷ false ∷ true ∷ false ∷ []) ∷ (true ∷ true ∷ true ∷ true ∷ false ∷ []) ∷ []

@@ -1,7 +1,7 @@
 //! The Steenrod operations on cochains and on classes: definitions and laws.
 #![tactic(auto)]
 
-ghost use Rattle.steenrod_law.specs.Laws.{AdditivityLaw, ClosedLaw, CocycleValueLaw, DegreeLaw, InducedMapLaw, LinearityLaw, NaturalityLaw, OperationMatrixLaw, OrbitTables, ProductLaw, PullBackLaw, RepresentativeLaw, ScalingLaw, StaircaseLaw, SteenrodMatrixLaw, SubcomplexLaw, TargetLaw, TurnedValueLaw, WordLaws};
+ghost use Rattle.steenrod_law.specs.Names.{AdditivityLaw, ClosedLaw, CocycleValueLaw, DegreeLaw, InducedMapLaw, InducedMatrixLaw, LinearityLaw, OperationMatrixLaw, OrbitWordsLaw, ProductLaw, PullBackLaw, RepresentativeLaw, ScalingLaw, StaircaseLaw, SteenrodMatrixLaw, SubcomplexLaw, TargetLaw, TurnedValueLaw, WordLaws};
 
 /// Words are a cyclic model.
 pub fn word_laws()
@@ -13,9 +13,9 @@ pub fn staircase_law()
     ensures { StaircaseLaw }
 {}
 
-/// The orbit words of 2, 3 and 5.
-pub fn orbit_tables()
-    ensures { OrbitTables }
+/// The words of the listed orbit masks, one for each orbit.
+pub fn orbit_words_law()
+    ensures { OrbitWordsLaw }
 {}
 
 /// The coboundary of the value of a surjection on cocycles.
@@ -89,8 +89,8 @@ pub fn induced_map_law()
 {}
 
 /// Matrices of operations commute with induced matrices.
-pub fn naturality_law()
-    ensures { NaturalityLaw }
+pub fn induced_matrix_law()
+    ensures { InducedMatrixLaw }
 {}
 
 /// The matrices of squares, powers and Bockstein powers carry the coordinates of every cocycle.
