@@ -1,19 +1,11 @@
 -- Columns and cycles of a complex, from those of the pair with no subcomplex.
-use Rattle.std.proofs.Common.{◌≡◌, ℕ, true, false, List, [], refl, sym, subst}
-use Rattle.std.specs.Prelude.{None, Option, Some}
-use Rattle.linear_law.proofs.ListLemmas.{each_map}
-use Rattle.simplicial_law.specs.Cochains.{Cochain}
-use Rattle.simplicial_law.specs.Canonical.{IsCanonicalClass}
+use Rattle.std.proofs.Common.{◌≡◌, ℕ, true, false, List, [], refl, sym, subst, None, Option, Some}
+use Rattle.linear_law.proofs.Names.{each_map}
+use Rattle.simplicial_law.specs.Names.{Cochain, IsCanonicalClass}
 use Rattle.complex_index.specs.declared.indexed.Cochain.{Cochain as PlacedCochain}
 use Rattle.relative_law.proofs.AbsoluteLaws.{absolute_law}
-use Rattle.relative_law.specs.RelativeClasses.{IsCanonicalRelativeClass}
-use Rattle.cohomology.specs.declared.classes.DegreeClasses.{DegreeClasses}
-use Rattle.cohomology.specs.Basis.{IsColumnOf}
-use Rattle.cohomology.specs.Classes.{cochain_in}
-use Rattle.cohomology.specs.Coordinates.{AreRelativeCoordinates, IsClosedIn, IsRelativeIn}
-use Rattle.cohomology.specs.Cycles.{AreClassesOf, AreClassesOfPair, IsCanonicalCycle, IsRelativeCycle, classes_in}
-use Rattle.cohomology.specs.Data.{CohomologyData, IsCohomologyOf, IsCohomologyOfPair}
-use Rattle.cohomology.specs.Values.{AreRelativeValues, cochains_at}
+use Rattle.relative_law.specs.Names.{IsCanonicalRelativeClass}
+use Rattle.cohomology.specs.Names.{DegreeClasses, IsColumnOf, cochain_in, AreRelativeCoordinates, IsClosedIn, IsRelativeIn, AreClassesOf, AreClassesOfPair, IsCanonicalCycle, IsRelativeCycle, classes_in, CohomologyData, IsCohomologyOf, IsCohomologyOfPair, AreRelativeValues, cochains_at}
 use Rattle.cohomology.proofs.CoordinateLemmas.{coordinates_absolute, relative_of}
 use Rattle.cohomology.proofs.WalkLemmas.{pair_with_nothing}
 

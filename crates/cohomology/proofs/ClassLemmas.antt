@@ -1,44 +1,25 @@
 -- One degree: the columns of the table of cycles are dual to the canonical relative classes.
-use Rattle.std.specs.Prelude.{Option, None, Some}
-use Rattle.std.proofs.Common.{◌≡◌, ℕ, zero, suc, ◌+◌, ◌*◌, ◌<◌, ◌^◌, List, [], ◌∷◌, ◌++◌, take, map, length, get_or, arith, sym, ap, ap₂, subst, ◌∙◌, inl, inr, ◌⊎◌}
-use Rattle.std.specs.Prelude.{Some, slice_get}
+use Rattle.std.proofs.Common.{Option, None, Some, ◌≡◌, ℕ, zero, suc, ◌+◌, ◌<◌, ◌^◌, List, [], ◌∷◌, ◌++◌, take, map, length, get_or, arith, sym, ap, subst, ◌∙◌, inl, inr, ◌⊎◌, slice_get}
 use Rattle.std.specs.List.{AllZip}
 use Rattle.std.proofs.lemmas.Bool.{cases_eq}
 use Rattle.std.proofs.lemmas.List.{get_or_default, take_more}
 use Rattle.std.proofs.lemmas.Option.{get_or_from_slice_get, slice_get_within}
 use native.Mathlib.Nat.{zero-mod}
-use Rattle.linear_law.specs.Congruence.{Congruent, IsField}
-use Rattle.linear_law.specs.Lists.{Among, Each}
-use Rattle.linear_law.specs.Listing.{unit_vector}
-use Rattle.linear_law.specs.Pairing.{paired}
-use Rattle.linear_law.specs.Pivots.{IsPivot}
-use Rattle.linear_law.specs.ReducedBases.{IsSubspace}
-use Rattle.linear_law.specs.Triangular.{LeadsAt}
-use Rattle.linear_law.proofs.CongruenceLemmas.{Congruent_add, Congruent_from, Congruent_mul, Congruent_of, Congruent_refl, Congruent_sym, Congruent_trans}
-use Rattle.linear_law.proofs.CycleLemmas.{cycle_bound, cycle_value}
-use Rattle.linear_law.proofs.ListLemmas.{each_among, each_from_index, each_get_or, each_map, length_alike, zip_push}
-use Rattle.linear_law.proofs.PivotLemmas.{one-nonzero}
-use Rattle.linear_law.proofs.RowCombinations.{unit_one, unit_other}
-use Rattle.linear_law.proofs.TriangularBases.{found}
-use Rattle.simplicial_law.specs.Cochains.{Cochain, unit_cochain}
-use Rattle.simplicial_law.specs.Places.{cochain_at}
-use Rattle.simplicial_law.proofs.SimplexPlaces.{agree_by_place, cochain_at-value, lead_up}
-use Rattle.simplicial_law.proofs.UnitCochains.{unit_away, unit_here}
+use Rattle.linear_law.specs.Names.{Congruent, IsField, Among, Each, unit_vector, paired, IsPivot, IsSubspace, LeadsAt}
+use Rattle.linear_law.proofs.Names.{Congruent_add, Congruent_from, Congruent_mul, Congruent_of, Congruent_refl, Congruent_sym, Congruent_trans, cycle_bound, cycle_value, each_among, each_from_index, each_get_or, each_map, length_alike, zip_push, one-nonzero, unit_one, unit_other, found}
+use Rattle.simplicial_law.specs.Names.{Cochain, unit_cochain, cochain_at}
+use Rattle.simplicial_law.proofs.Names.{lead_up, unit_away, unit_here}
+use Rattle.complex_index.specs.Names.{level}
 use Rattle.complex_index.specs.declared.indexed.Cochain.{Cochain as PlacedCochain}
-use Rattle.complex_index.specs.Levels.{level}
+use Rattle.row_reduce.specs.Names.{StoredFits, stored_place, AreTriangular, stored_row}
 use Rattle.row_reduce.specs.declared.Stored.{Stored}
-use Rattle.row_reduce.specs.Stored.{StoredFits, stored_place}
-use Rattle.row_reduce.proofs.SolvedLemmas.{some_or_none}
+use Rattle.row_reduce.proofs.SolvedLemmas.{some_or_none, stored_lead}
 use Rattle.row_reduce.proofs.StoredLemmas.{some_none}
-use Rattle.row_reduce.specs.Triangular.{AreTriangular, stored_row}
 use Rattle.cycle_table.specs.Tables.{AreCycles, AreFree, column}
-use Rattle.cycle_table.proofs.TableLemmas.{number_among}
-use Rattle.relative_law.proofs.Spaces.{relative_close, relative_coboundaries}
-use Rattle.relative_law.specs.Pairs.{IsRelativeCoboundary}
-use Rattle.relative_law.specs.RelativeClasses.{IsCanonicalRelativeClass, IsRelativeCoboundaryPivot, IsRelativeCocyclePivot}
-use Rattle.cohomology.specs.Pairs.{IsPairIndex, IsPairIndexOf}
-use Rattle.cohomology.specs.Classes.{AreRelativeIn, IsPlaced, IsReachedIn, cochain_in}
-use Rattle.cohomology.specs.Cycles.{AreDualClasses, IsDualTable, IsLeadOf, at_places}
+use Rattle.relative_law.proofs.RelativeBases.{bound_down, bounds_by_place}
+use Rattle.relative_law.proofs.Spaces.{relative_close}
+use Rattle.relative_law.specs.Names.{IsRelativeCoboundary, IsCanonicalRelativeClass, IsRelativeCoboundaryPivot, IsRelativeCocyclePivot}
+use Rattle.cohomology.specs.Names.{IsPairIndex, IsPairIndexOf, AreRelativeIn, IsPlaced, IsReachedIn, cochain_in, AreDualClasses, IsDualTable, IsLeadOf, at_places}
 use Rattle.cohomology.proofs.RowLemmas.{canonical_at, differ, pivot_of_class, some_at}
 
 pub leads_more : (p : ℕ) (cs : List (PlacedCochain p)) (i : ℕ) (c : PlacedCochain p) (vs ws : List ℕ) (v : ℕ) → c ≡ get_or cs i c → i < length cs → ws ≡ vs ++ (v ∷ [])
@@ -54,31 +35,8 @@ module _ (facets parts : List (List ℕ)) (ls sls : List (List (List ℕ))) (is 
   abbrev Bounds : (ℕ → ℕ) → Type 0
   Bounds v = IsRelativeCoboundary facets parts n p (cochain_at (level ls n) v)
 
-  at_place : (v : ℕ → ℕ) (x : ℕ) → x < length (level ls n) → cochain_at (level ls n) v (get_or (level ls n) x []) ≡ v x
-  at_place v x b = cochain_at-value facets n p (level ls n) (is.full_index.lists n) v x b
-
-  bounds_space : IsSubspace p (λ y. y < length (level ls n)) Bounds
-  bounds_space =
-      let here = level ls n in
-      let all = is.full_index.lists n in
-      let whole = relative_coboundaries facets parts n p field.large is.inside in
-      record {
-        zero_in = whole.alike (cochain_at here (λ x. 0)) (λ s. 0) (agree_by_place facets n p here all (cochain_at here (λ x. 0)) (λ s. 0) (λ x b. Congruent_of (at_place (λ y. 0) x b))) whole.zero_in;
-        plus = λ k v w hv hw.
-            let both : Cochain = λ s. cochain_at here v s + k * cochain_at here w s in
-            whole.alike (cochain_at here (λ x. v x + k * w x)) both
-            (agree_by_place facets n p here all (cochain_at here (λ x. v x + k * w x)) both (λ x b. Congruent_of (at_place (λ y. v y + k * w y) x b ∙ sym (ap₂ (λ a c. a + k * c) (at_place v x b) (at_place w x b)))))
-            (whole.plus k (cochain_at here v) (cochain_at here w) hv hw);
-        alike = λ v w same h.
-            whole.alike (cochain_at here v) (cochain_at here w)
-            (agree_by_place facets n p here all (cochain_at here v) (cochain_at here w) (λ x b. Congruent_trans (Congruent_of (at_place v x b)) (Congruent_trans (same.at x b) (Congruent_of (sym (at_place w x b)))))) h;
-      }
-
-  bounds_down : (f : Cochain) → IsRelativeCoboundary facets parts n p f → Bounds (at_places (level ls n) f)
-  bounds_down f h =
-      let v = at_places (level ls n) f in
-      (relative_coboundaries facets parts n p field.large is.inside).alike (cochain_at (level ls n) v) f
-      (agree_by_place facets n p (level ls n) (is.full_index.lists n) (cochain_at (level ls n) v) f (λ x b. Congruent_of (at_place v x b))) h
+  bounds_here : IsSubspace p (λ y. y < length (level ls n)) Bounds
+  bounds_here = bounds_by_place facets parts n p field.large is.inside (level ls n) (is.full_index.lists n)
 
   bound_pivot : (v : ℕ → ℕ) → Bounds v → (t : ℕ) → LeadsAt p (length (level ls n)) v t → IsRelativeCoboundaryPivot facets parts n p (get_or (level ls n) t [])
   bound_pivot v h t l = record { vector = cochain_at (level ls n) v; member = h; lead = lead_up facets n p (level ls n) (is.full_index.lists n) (is.full_index.in_order n) v t l }
@@ -154,12 +112,8 @@ module _ (facets parts : List (List ℕ)) (ls sls : List (List (List ℕ))) (is 
       whole : (t : ℕ) → IsPivot p (λ y. y < length (level ls n)) (λ a b. a < b) Bounds t → Among t (map stored_place stored)
       whole t q = elim (some_or_none (get_or owner t None)) [
         | inl none ↦ absurd ((reached.table.places facets parts is).whole t q.lead.on (bound_pivot q.vector q.member t q.lead) none)
-        | inr some ↦ let o = reached.bounds.triangular.owns.some t some.0 some.1 in named stored some.0 o.0 o.1
+        | inr some ↦ let o = reached.bounds.triangular.owns.some t some.0 some.1 in stored_lead stored some.0 t o.0 o.1
       ]
-        where
-          named : (ss : List (Stored p)) (k : ℕ) → k < length ss → ((d : Stored p) → (get_or ss k d).place ≡ t) → Among t (map stored_place ss)
-          named [] k b e = absurd (omega arith)
-          named (s ∷ ss) k b e = number_among stored_place (s ∷ ss) k t s b (e s)
 
       lead_pivot : (x : ℕ) → Among x (map stored_place stored) → IsRelativeCoboundaryPivot facets parts n p (get_or (level ls n) x [])
       lead_pivot x m =
@@ -173,8 +127,8 @@ module _ (facets parts : List (List ℕ)) (ls sls : List (List (List ℕ))) (is 
 
       none_here : (i : ℕ) → i < length classes → (f : Cochain) → IsRelativeCoboundary facets parts n p f → Congruent p (paired (length (level ls n)) (at_places (level ls n) f) (column table i)) 0
       none_here i b f h =
-          cycle_bound p (length (level ls n)) field bounds_space stored_place stored_row stored members stored_leads whole (get_or places i 0) (column table i) (cycles.each i (omega (arith, b, count)))
-          (at_places (level ls n) f) (bounds_down f h)
+          cycle_bound p (length (level ls n)) field bounds_here stored_place stored_row stored members stored_leads whole (get_or places i 0) (column table i) (cycles.each i (omega (arith, b, count)))
+          (at_places (level ls n) f) (bound_down facets parts n p field.large is.inside (level ls n) (is.full_index.lists n) f h)
 
       dual_here : (i j : ℕ) (c : PlacedCochain p) → i < length classes → slice_get classes j ≡ Some c → Congruent p (paired (length (level ls n)) (at_places (level ls n) (cochain_in ls n c.row)) (column table i)) (unit_vector i j)
       dual_here i j c b e =
@@ -189,7 +143,7 @@ module _ (facets parts : List (List ℕ)) (ls sls : List (List (List ℕ))) (is 
           let closed : IsRelativeCocyclePivot facets parts n p (get_or (level ls n) x []) = record { vector = q.vector; member = relative_close facets parts n p field.large is.inside q.vector q.member; lead = q.lead } in
           other.1.canonical.others (get_or (level ls n) x []) closed (λ g. other.1.no_bound (subst (IsRelativeCoboundaryPivot facets parts n p) g q)) in
           Congruent_trans
-          (cycle_value p (length (level ls n)) field bounds_space stored_place stored_row stored members stored_leads whole (get_or places i 0) (column table i) (cycles.each i (omega (arith, b, count))) v zero_at)
+          (cycle_value p (length (level ls n)) field bounds_here stored_place stored_row stored members stored_leads whole (get_or places i 0) (column table i) (cycles.each i (omega (arith, b, count))) v zero_at)
           (subst (λ (t : List ℕ). Congruent p (cochain_in ls n c.row t) (unit_vector i j)) (sym (lead_at i d.0 (get_or ss i []) d.1 mine.1).1)
           (elim (cases_eq i j) [
             | inl q ↦

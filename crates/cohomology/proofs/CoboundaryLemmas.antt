@@ -1,43 +1,22 @@
 -- The reduced echelon list of the coboundary rows is the canonical relative coboundaries one degree up, with their primitives.
-use Rattle.std.specs.Prelude.{Bool, Option}
-use Rattle.std.proofs.Common.{◌≡◌, ℕ, ◌+◌, ◌-◌, ◌<◌, ◌≤◌, ◌^◌, List, [], ◌∷◌, ◌++◌, map, length, get_or, arith, lit<, refl, sym, ap, ap₂, subst, ◌∙◌, inl, inr}
-use Rattle.std.specs.Prelude.{Vec}
+use Rattle.std.proofs.Common.{Bool, Option, ◌≡◌, ℕ, ◌+◌, ◌-◌, ◌<◌, ◌≤◌, ◌^◌, List, [], ◌∷◌, ◌++◌, map, length, get_or, arith, lit<, refl, sym, ap, ap₂, subst, ◌∙◌, inl, inr, Vec}
 use Rattle.std.specs.declared.alloc.Global.{Global}
 use Rattle.std.specs.List.{AllZip}
-use Rattle.linear_law.specs.Congruence.{Congruent, IsField}
-use Rattle.linear_law.specs.Lists.{Among, IsAscending}
-use Rattle.linear_law.specs.Elimination.{IsImage, IsLinear}
-use Rattle.linear_law.specs.Pivots.{IsCanonical, IsPivot}
-use Rattle.linear_law.specs.Triangular.{Walked}
-use Rattle.linear_law.proofs.CongruenceLemmas.{Congruent_sym, Congruent_trans}
-use Rattle.linear_law.proofs.ListLemmas.{among_map, each_alike, each_among, each_itself, each_map, zip_push}
-use Rattle.linear_law.proofs.PivotLemmas.{one-nonzero, reduced_apart, reduced_one}
-use Rattle.linear_law.proofs.TriangularBases.{found}
-use Rattle.linear_law.proofs.WalkedSpaces.{image_pivot}
-use Rattle.simplicial_law.specs.Cochains.{AgreesOnSimplices, Cochain}
-use Rattle.simplicial_law.specs.CanonicalClasses.{cochain_of}
-use Rattle.simplicial_law.specs.Places.{cochain_at, terms_of}
-use Rattle.simplicial_law.proofs.Bases.{coboundary_same}
-use Rattle.simplicial_law.proofs.SimplexPlaces.{pivot_down}
+use Rattle.linear_law.specs.Names.{Congruent, IsField, Among, IsAscending, IsImage, IsLinear, IsCanonical, IsPivot, Walked}
+use Rattle.linear_law.proofs.Names.{Congruent_sym, Congruent_trans, among_map, each_alike, each_among, each_itself, each_map, zip_push, one-nonzero, reduced_apart, reduced_one, found, image_pivot}
+use Rattle.simplicial_law.specs.Names.{AgreesOnSimplices, Cochain, cochain_of, cochain_at, terms_of}
+use Rattle.simplicial_law.proofs.Names.{coboundary_same, pivot_down}
 use Rattle.sparse_rows.specs.Rows.{IsBelow, IsRow, value_in}
-use Rattle.complex_index.specs.Levels.{level}
+use Rattle.complex_index.specs.Names.{level}
+use Rattle.row_reduce.specs.Names.{combined, IsMarkedIn, IsSolvedStored, IsEchelonRow, IsSolvedWhole, pivot_of, row_of}
 use Rattle.row_reduce.specs.declared.EchelonRow.{EchelonRow}
 use Rattle.row_reduce.specs.declared.Stored.{Stored}
-use Rattle.row_reduce.specs.Walk.{combined}
-use Rattle.row_reduce.specs.Pivots.{IsMarkedIn}
-use Rattle.row_reduce.specs.Triangular.{IsSolvedStored}
-use Rattle.row_reduce.specs.Echelon.{IsEchelonRow, IsSolvedWhole, pivot_of, row_of}
 use Rattle.relative_law.proofs.AbsoluteLaws.{absolute_law}
 use Rattle.relative_law.proofs.RelativeBases.{canonical_bound, canonical_primitive}
 use Rattle.relative_law.proofs.RelativeDegrees.{coboundary_down, coboundary_up, linear}
 use Rattle.relative_law.proofs.Spaces.{relative_coboundaries, restricted}
-use Rattle.relative_law.specs.Pairs.{IsSubcomplex}
-use Rattle.relative_law.specs.RelativeClasses.{IsCanonicalRelativeCoboundary, IsCanonicalRelativePrimitive, IsRelativeCoboundaryPivot}
-use Rattle.cohomology.specs.declared.data.Coboundary.{Coboundary}
-use Rattle.cohomology.specs.Pairs.{IsPairIndex, IsPairIndexOf}
-use Rattle.cohomology.specs.Classes.{IsPivotTable, IsPlaced}
-use Rattle.cohomology.specs.Data.{AreCoboundaries, AreFewCoboundaries, AreRelativeCoboundaries, CohomologyData, IsCoboundaryFrom, IsCohomologyOf, IsCohomologyOfPair, IsPlacedCoboundary, IsRelativeCoboundaryOf, bounds_in, coboundaries_in, pivot_in}
-use Rattle.cohomology.specs.Walk.{AreRowsOf, TellCoboundaries}
+use Rattle.relative_law.specs.Names.{IsSubcomplex, IsCanonicalRelativeCoboundary, IsCanonicalRelativePrimitive, IsRelativeCoboundaryPivot}
+use Rattle.cohomology.specs.Names.{Coboundary, IsPairIndex, IsPairIndexOf, IsPivotTable, IsPlaced, AreCoboundaries, AreFewCoboundaries, AreRelativeCoboundaries, CohomologyData, IsCoboundaryFrom, IsCohomologyOf, IsCohomologyOfPair, IsPlacedCoboundary, IsRelativeCoboundaryOf, bounds_in, coboundaries_in, pivot_in, AreRowsOf, TellCoboundaries}
 use Rattle.cohomology.proofs.DegreeLemmas.{by_place, rows_count, skipped_places}
 use Rattle.cohomology.proofs.LoopLemmas.{AreMade, absolute_classes, made_in, no_simplex}
 use Rattle.cohomology.proofs.RowLemmas.{below_of_zero, row_agrees}

@@ -1,40 +1,21 @@
 -- What is left of a relative cocycle without the classes, and its canonical primitive.
-use Rattle.std.proofs.Common.{◌≡◌, ℕ, zero, ◌+◌, ◌*◌, ◌-◌, ◌%◌, ◌<◌, ◌≤◌, ◌≢◌, List, [], ◌∷◌, take, map, length, get_or, arith, refl, sym, ap, ap₂, subst, ◌∙◌, mod-eq_of_lt, add_comm}
-use Rattle.std.specs.Prelude.{MatchOption, None, Option, ◌==◌, true}
+use Rattle.std.proofs.Common.{◌≡◌, ℕ, zero, ◌+◌, ◌*◌, ◌-◌, ◌%◌, ◌<◌, ◌≤◌, ◌≢◌, List, [], ◌∷◌, take, map, length, get_or, arith, refl, sym, ap, ap₂, subst, ◌∙◌, mod-eq_of_lt, add_comm, MatchOption, None, Option, ◌==◌, true, eq-eqb, eqb-true}
 use Rattle.std.specs.List.{AllZip, list_all}
 use Rattle.std.proofs.Math.ListN.{length-map}
-use Rattle.std.proofs.lemmas.Bool.{and_from, and_parts, eq-eqb, eqb-true}
-use Rattle.linear_law.specs.Congruence.{Congruent, IsField, negated, sum_over}
-use Rattle.linear_law.specs.Lists.{Each, IsAscending}
-use Rattle.linear_law.specs.Listing.{ListsAll}
-use Rattle.linear_law.specs.ReducedBases.{IsReduced, combination, expansion}
+use Rattle.std.proofs.lemmas.Bool.{and_from, and_parts}
+use Rattle.linear_law.specs.Names.{Congruent, IsField, negated, sum_over, Each, IsAscending, ListsAll, IsReduced, combination, expansion}
 use native.Mathlib.Nat.{zero-mod}
-use Rattle.linear_law.proofs.CongruenceLemmas.{Congruent_add, Congruent_from, Congruent_mod, Congruent_of, Congruent_refl, Congruent_scale, Congruent_sym, Congruent_trans, add-negated}
-use Rattle.linear_law.proofs.LeadLemmas.{zero_if}
-use Rattle.linear_law.proofs.ListLemmas.{each_among, each_map, each_of_map, each_zip}
-use Rattle.linear_law.proofs.ReducedLemmas.{expanded_in, sum_picks, sum_vanishes}
-use Rattle.simplicial_law.specs.Simplices.{IsSimplex}
-use Rattle.simplicial_law.specs.Cochains.{AgreesOnSimplices, Cochain, HasCoordinates, IsCoboundary, IsCocycle, coboundary}
-use Rattle.simplicial_law.specs.CanonicalClasses.{cochain_of}
-use Rattle.simplicial_law.specs.Places.{cochain_at}
-use Rattle.simplicial_law.proofs.Bases.{bounds_close, coboundary_plus, coboundary_same, coboundary_zero}
-use Rattle.simplicial_law.proofs.SimplexPlaces.{agree_by_place, cochain_at-value, lead_up, simplex_at}
+use Rattle.linear_law.proofs.Names.{Congruent_add, Congruent_from, Congruent_mod, Congruent_of, Congruent_refl, Congruent_scale, Congruent_sym, Congruent_trans, add-negated, zero_if, each_among, each_map, each_of_map, each_zip, expanded_in, sum_picks, sum_vanishes}
+use Rattle.simplicial_law.specs.Names.{IsSimplex, AgreesOnSimplices, Cochain, HasCoordinates, IsCoboundary, IsCocycle, coboundary, cochain_of, cochain_at}
+use Rattle.simplicial_law.proofs.Names.{bounds_close, coboundary_plus, coboundary_same, coboundary_zero, agree_by_place, cochain_at-value, lead_up, simplex_at}
 use Rattle.sparse_rows.specs.Rows.{IsBelow, IsFirst, IsRow, value_in}
 use Rattle.sparse_rows.proofs.RowLemmas.{sum_take, value_in-none}
-use Rattle.complex_index.specs.Chains.{IsCoboundaryOf}
-use Rattle.complex_index.specs.Levels.{IsIndexOf, level}
+use Rattle.complex_index.specs.Names.{IsCoboundaryOf, IsIndexOf, level}
 use Rattle.complex_index.specs.declared.indexed.Cochain.{Cochain as PlacedCochain}
 use Rattle.relative_law.proofs.AbsoluteLaws.{absolute_law}
 use Rattle.relative_law.proofs.Spaces.{relative_close, relative_coboundaries}
-use Rattle.relative_law.specs.Pairs.{HasRelativeCoordinates, IsRelativeCoboundary}
-use Rattle.relative_law.specs.RelativeClasses.{IsCanonicalRelativeBasis, IsCanonicalRelativeClass, IsCanonicalRelativePrimitive, IsRelativeCoboundaryPivot, IsRelativeCocyclePivot}
-use Rattle.cohomology.specs.declared.data.Coboundary.{Coboundary}
-use Rattle.cohomology.specs.Pairs.{IsPairIndexOf}
-use Rattle.cohomology.specs.Classes.{chains_at, cochain_in}
-use Rattle.cohomology.specs.Cycles.{classes_in}
-use Rattle.cohomology.specs.Values.{AreRelativeValues, cochains_at}
-use Rattle.cohomology.specs.Coordinates.{AreCoordinates, AreRelativeCoordinates, IsClosedIn, IsNoCoboundary, IsOpenAt, IsPrimitiveOf, IsRelativeIn, IsRelativePrimitiveOf, coboundary_at, primitives_sum, rest_in}
-use Rattle.cohomology.specs.Data.{AreRelativeCoboundaries, CohomologyData, IsCohomologyOf, IsCohomologyOfPair, IsPlacedCoboundary, IsRelativeCoboundaryOf, coboundaries_in, pivot_in}
+use Rattle.relative_law.specs.Names.{HasRelativeCoordinates, IsRelativeCoboundary, IsCanonicalRelativeBasis, IsCanonicalRelativeClass, IsCanonicalRelativePrimitive, IsRelativeCoboundaryPivot, IsRelativeCocyclePivot}
+use Rattle.cohomology.specs.Names.{Coboundary, IsPairIndexOf, chains_at, cochain_in, classes_in, AreRelativeValues, cochains_at, AreCoordinates, AreRelativeCoordinates, IsClosedIn, IsNoCoboundary, IsOpenAt, IsPrimitiveOf, IsRelativeIn, IsRelativePrimitiveOf, coboundary_at, primitives_sum, rest_in, AreRelativeCoboundaries, CohomologyData, IsCohomologyOf, IsCohomologyOfPair, IsPlacedCoboundary, IsRelativeCoboundaryOf, coboundaries_in, pivot_in}
 use Rattle.cohomology.proofs.RowLemmas.{below_of_zero, inside_row, row_by_place}
 use Rattle.cohomology.proofs.WalkLemmas.{no_bounds, pair_with_nothing}
 

@@ -1,34 +1,17 @@
 -- The row of a column of the table of cycles is the canonical cycle of its class.
-use Rattle.std.proofs.Common.{◌≡◌, ℕ, zero, suc, ◌+◌, ◌*◌, ◌%◌, ◌<◌, ◌≢◌, List, [], ◌∷◌, ◌++◌, map, length, get_or, arith, refl, sym, ap, ap₂, subst, ◌∙◌, inl, inr, ◌⊎◌}
-use Rattle.std.specs.Prelude.{Some, slice_get}
+use Rattle.std.proofs.Common.{◌≡◌, ℕ, zero, suc, ◌+◌, ◌*◌, ◌%◌, ◌<◌, ◌≢◌, List, [], ◌∷◌, ◌++◌, map, length, get_or, arith, refl, sym, ap, ap₂, subst, ◌∙◌, inl, inr, ◌⊎◌, Some, slice_get}
 use Rattle.std.proofs.lemmas.Bool.{cases_lt}
-use Rattle.linear_law.specs.Congruence.{Congruent, IsField, negated, sum_over}
-use Rattle.linear_law.specs.Lists.{Among, Each}
-use Rattle.linear_law.specs.Listing.{unit_vector}
-use Rattle.linear_law.specs.Pairing.{paired}
-use Rattle.linear_law.proofs.CongruenceLemmas.{Congruent_add, Congruent_from, Congruent_mod, Congruent_mul, Congruent_of, Congruent_refl, Congruent_scale, Congruent_sym, Congruent_trans, add-negated}
-use Rattle.linear_law.proofs.CycleLemmas.{pair_two}
-use Rattle.linear_law.proofs.ListLemmas.{each_among, each_append, each_map}
-use Rattle.linear_law.proofs.RowCombinations.{unit_one, unit_other}
-use Rattle.simplicial_law.specs.Simplices.{IsInOrder, Precedes}
-use Rattle.simplicial_law.specs.Cochains.{AgreesOnSimplices, Cochain, pairing, unit_cochain}
-use Rattle.simplicial_law.specs.Canonical.{canonical_cycle}
-use Rattle.simplicial_law.specs.CanonicalClasses.{cochain_of}
-use Rattle.simplicial_law.specs.Places.{terms_of}
-use Rattle.simplicial_law.proofs.Order.{lists_strict}
-use Rattle.simplicial_law.proofs.SimplexPlaces.{agree_by_place}
-use Rattle.simplicial_law.proofs.UnitCochains.{unit_away, unit_here}
+use Rattle.linear_law.specs.Names.{Congruent, IsField, negated, sum_over, Among, Each, unit_vector, paired}
+use Rattle.linear_law.proofs.Names.{Congruent_add, Congruent_from, Congruent_mod, Congruent_mul, Congruent_of, Congruent_refl, Congruent_scale, Congruent_sym, Congruent_trans, add-negated, pair_two, each_among, each_append, each_map, unit_one, unit_other}
+use Rattle.simplicial_law.specs.Names.{IsInOrder, Precedes, AgreesOnSimplices, Cochain, pairing, unit_cochain, canonical_cycle, cochain_of, terms_of}
+use Rattle.simplicial_law.proofs.Names.{lists_strict, agree_by_place, unit_away, unit_here}
 use Rattle.sparse_rows.specs.Rows.{IsBelow, IsRow, value_in}
 use Rattle.sparse_rows.proofs.RowLemmas.{value_in-none}
+use Rattle.complex_index.specs.Names.{level}
 use Rattle.complex_index.specs.declared.indexed.Cochain.{Cochain as PlacedCochain}
-use Rattle.complex_index.specs.Levels.{level}
 use Rattle.cycle_table.specs.Tables.{column}
-use Rattle.relative_law.specs.Pairs.{IsRelativeCoboundary}
-use Rattle.relative_law.specs.RelativeClasses.{IsCanonicalRelativeClass, IsCanonicalRelativeCoboundary, IsRelativeCoboundaryPivot}
-use Rattle.cohomology.specs.declared.classes.DegreeClasses.{DegreeClasses}
-use Rattle.cohomology.specs.Pairs.{IsPairIndexOf}
-use Rattle.cohomology.specs.Classes.{cochain_in}
-use Rattle.cohomology.specs.Cycles.{AreClassesOfPair, ArePivots, IsColumnRow, IsDualTable, IsRelativeCycle, at_places, classes_in, table_in}
+use Rattle.relative_law.specs.Names.{IsRelativeCoboundary, IsCanonicalRelativeClass, IsCanonicalRelativeCoboundary, IsRelativeCoboundaryPivot}
+use Rattle.cohomology.specs.Names.{DegreeClasses, IsPairIndexOf, cochain_in, AreClassesOfPair, ArePivots, IsColumnRow, IsDualTable, IsRelativeCycle, at_places, classes_in, table_in}
 use Rattle.cohomology.proofs.RowLemmas.{paired_row, row_by_place}
 
 paired_right : (p n : ℕ) (v f g : ℕ → ℕ) → ((x : ℕ) → x < n → Congruent p (f x) (g x)) → Congruent p (paired n v f) (paired n v g)

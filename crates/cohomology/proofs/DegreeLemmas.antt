@@ -1,38 +1,22 @@
 -- One degree: the blanked rows are those of relative cochains, and what may be skipped.
-use Rattle.std.specs.Prelude.{Bool, Option, None}
-use Rattle.std.proofs.Common.{◌≡◌, ℕ, zero, suc, ◌+◌, ◌<◌, ◌⊎◌, inl, inr, true, false, cond, List, [], ◌∷◌, map, length, get_or, arith, refl, sym, ap, subst, ◌∙◌}
+use Rattle.std.proofs.Common.{Bool, Option, None, ◌≡◌, ℕ, zero, suc, ◌+◌, ◌<◌, ◌⊎◌, inl, inr, true, false, cond, List, [], ◌∷◌, map, length, get_or, arith, refl, sym, ap, subst, ◌∙◌, ◌≢◌}
 use Rattle.std.specs.List.{AllZip}
 use Rattle.std.proofs.Math.ListN.{length-map}
 use Rattle.std.proofs.lemmas.Bool.{cases_Bool}
-use Rattle.linear_law.specs.Congruence.{Congruent, IsField}
-use Rattle.linear_law.specs.Lists.{Each}
-use Rattle.linear_law.specs.Elimination.{KernelVector}
-use Rattle.linear_law.specs.Listing.{unit_vector}
-use Rattle.linear_law.specs.Triangular.{Walked}
-use Rattle.linear_law.proofs.ListLemmas.{length_alike, zip_from_index}
-use Rattle.linear_law.proofs.CongruenceLemmas.{Congruent_of, Congruent_trans}
-use Rattle.linear_law.proofs.ListLemmas.{each_among, each_map}
-use Rattle.linear_law.proofs.PivotLemmas.{one-nonzero}
-use Rattle.linear_law.proofs.RowCombinations.{row_combination-row, unit_one, unit_other}
-use Rattle.simplicial_law.specs.Places.{IsCoboundaryRow, IsRowOf, terms_of}
-use Rattle.simplicial_law.specs.Cochains.{coboundary, unit_cochain}
+use Rattle.linear_law.specs.Names.{Congruent, IsField, Each, KernelVector, unit_vector, Walked}
+use Rattle.linear_law.proofs.Names.{length_alike, zip_from_index, Congruent_of, Congruent_trans, each_among, each_map, one-nonzero, row_combination-row, unit_one, unit_other}
+use Rattle.simplicial_law.specs.Names.{IsCoboundaryRow, IsRowOf, terms_of, coboundary, unit_cochain, IsSimplex}
 use Rattle.std.proofs.lemmas.List.{get_or_default}
-use Rattle.simplicial_law.specs.Simplices.{IsSimplex}
-use Rattle.simplicial_law.proofs.SimplexPlaces.{simplex_at}
+use Rattle.simplicial_law.proofs.Names.{simplex_at}
 use Rattle.sparse_rows.specs.Rows.{IsBelow, IsRow, value_in}
-use Rattle.complex_index.specs.Levels.{level}
-use Rattle.row_reduce.specs.Walk.{IsSolved, SkipsFit, combined}
-use Rattle.row_reduce.specs.Pivots.{IsLeadIn, IsMarkedIn}
+use Rattle.complex_index.specs.Names.{level}
+use Rattle.row_reduce.specs.Names.{IsSolved, SkipsFit, combined, IsLeadIn, IsMarkedIn}
 use Rattle.relative_law.proofs.Covered.{covered_simplex, simplex_covered}
 use Rattle.relative_law.proofs.RelativeBases.{bound_places, canonical_basis}
 use Rattle.relative_law.proofs.RelativeDegrees.{IsOuterByPlace, cocycle_down, rows_by_place}
 use Rattle.relative_law.proofs.Spaces.{relative_close}
-use Rattle.relative_law.specs.Pairs.{is_covered}
-use Rattle.relative_law.specs.RelativeClasses.{IsCanonicalRelativeBasis}
-use Rattle.relative_law.specs.RelativeElimination.{AreRelativeBoundPlaces, AreSkippedPlaces, IsRelativeCoboundaryRow}
-use Rattle.cohomology.specs.Pairs.{IsPairIndexOf}
-use Rattle.cohomology.specs.Walk.{AreRowsOf}
-use Rattle.std.specs.Prelude.{true, false, ◌≢◌}
+use Rattle.relative_law.specs.Names.{is_covered, IsCanonicalRelativeBasis, AreRelativeBoundPlaces, AreSkippedPlaces, IsRelativeCoboundaryRow}
+use Rattle.cohomology.specs.Names.{IsPairIndexOf, AreRowsOf}
 use Rattle.row_reduce.proofs.SolvedLemmas.{some_or_none}
 use Rattle.row_reduce.proofs.StepLemmas.{not_both}
 use Rattle.row_reduce.proofs.StoredLemmas.{some_none}

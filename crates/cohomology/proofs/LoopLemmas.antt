@@ -1,17 +1,13 @@
 -- Lists by degree that a loop makes, and what they have of a degree.
-use Rattle.std.proofs.Common.{◌≡◌, ℕ, zero, suc, ◌+◌, ◌<◌, ◌≤◌, ◌^◌, List, [], ◌∷◌, ◌++◌, length, get_or, arith, lit<, refl, sym, ap, subst, ◌∙◌}
-use Rattle.std.specs.Prelude.{Vec}
+use Rattle.std.proofs.Common.{◌≡◌, ℕ, zero, suc, ◌+◌, ◌<◌, ◌≤◌, ◌^◌, List, [], ◌∷◌, ◌++◌, length, get_or, arith, lit<, refl, sym, ap, subst, ◌∙◌, Vec}
 use Rattle.std.specs.declared.alloc.Global.{Global}
-use Rattle.linear_law.proofs.ListLemmas.{length_push}
-use Rattle.simplicial_law.specs.Simplices.{IsSimplex}
-use Rattle.simplicial_law.specs.CanonicalClasses.{AreCanonicalBases, IsCanonicalBasis}
-use Rattle.simplicial_law.proofs.SimplexPlaces.{simplex_at}
+use Rattle.linear_law.proofs.Names.{length_push}
+use Rattle.simplicial_law.specs.Names.{IsSimplex, AreCanonicalBases, IsCanonicalBasis}
+use Rattle.simplicial_law.proofs.Names.{simplex_at}
+use Rattle.complex_index.specs.Names.{IsIndexOf, level}
 use Rattle.complex_index.specs.declared.indexed.Cochain.{Cochain}
-use Rattle.complex_index.specs.Levels.{IsIndexOf, level}
 use Rattle.relative_law.proofs.AbsoluteLaws.{absolute_law, no_simplex_law}
-use Rattle.cohomology.specs.declared.classes.DegreeClasses.{DegreeClasses}
-use Rattle.cohomology.specs.Classes.{AreCanonicalIn, ArePlacedFrom, AreRelativeFrom, AreRelativeIn, EachFrom, chains_at, chains_from, chains_of, in_degree}
-use Rattle.cohomology.specs.Cycles.{AreClassesOf, AreClassesOfPair, AreDualClasses, AreFewClasses, classes_in}
+use Rattle.cohomology.specs.Names.{DegreeClasses, AreCanonicalIn, ArePlacedFrom, AreRelativeFrom, AreRelativeIn, EachFrom, chains_at, chains_from, chains_of, in_degree, AreClassesOf, AreClassesOfPair, AreDualClasses, AreFewClasses, classes_in}
 use Rattle.cohomology.proofs.WalkLemmas.{pair_with_nothing}
 
 -- ---- lists by degree

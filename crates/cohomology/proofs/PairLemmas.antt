@@ -1,15 +1,13 @@
 -- Tables that grow by one place.
-use Rattle.std.specs.Prelude.{Bool, false, IsTrue}
-use Rattle.std.proofs.Common.{◌≡◌, ℕ, zero, suc, ◌+◌, ◌-◌, ◌<◌, inl, inr, List, [], ◌∷◌, ◌++◌, length, get_or, refl, sym, ◌∙◌, ap, arith, subst}
-use Rattle.std.specs.Prelude.{Option, None, Some, MatchOption, ◌↔◌}
+use Rattle.std.proofs.Common.{Bool, false, IsTrue, ◌≡◌, ℕ, zero, suc, ◌+◌, ◌-◌, ◌<◌, inl, inr, List, [], ◌∷◌, ◌++◌, length, get_or, refl, sym, ◌∙◌, ap, arith, subst, Option, None, Some, MatchOption, ◌↔◌}
 use Rattle.std.proofs.lemmas.Bool.{cases_lt}
-use Rattle.linear_law.proofs.ListLemmas.{get_before, get_last, length_push}
+use Rattle.linear_law.proofs.Names.{get_before, get_last, length_push}
 use Rattle.std.specs.Option.{is_some}
 use Rattle.row_reduce.proofs.StepLemmas.{not_both}
-use Rattle.linear_law.specs.Lists.{Among}
-use Rattle.complex_index.specs.Levels.{level}
-use Rattle.row_reduce.specs.Pivots.{IsMarkedIn}
-use Rattle.cohomology.specs.Pairs.{AreBlanked}
+use Rattle.linear_law.specs.Names.{Among}
+use Rattle.complex_index.specs.Names.{level}
+use Rattle.row_reduce.specs.Names.{IsMarkedIn}
+use Rattle.cohomology.specs.Names.{AreBlanked}
 
 pub among_at : {X : Type 0} (x : X) (xs : List X) (k : ℕ) (d : X) → k < length xs → get_or xs k d ≡ x → Among x xs
 among_at x [] k d b e = absurd (omega arith)

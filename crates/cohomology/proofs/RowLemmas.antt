@@ -1,34 +1,21 @@
 -- The cochain of a row, and the least place of a class.
-use Rattle.std.proofs.Common.{◌≡◌, ℕ, zero, suc, ◌+◌, ◌*◌, ◌%◌, ◌<◌, ◌≤◌, ◌≢◌, List, [], ◌∷◌, length, get_or, arith, refl, sym, ap, ap₂, subst, ◌∙◌, inl, inr, mod-eq_of_lt}
-use Rattle.std.specs.Prelude.{Some, slice_get}
+use Rattle.std.proofs.Common.{◌≡◌, ℕ, zero, suc, ◌+◌, ◌*◌, ◌%◌, ◌<◌, ◌≤◌, ◌≢◌, List, [], ◌∷◌, length, get_or, arith, refl, sym, ap, ap₂, subst, ◌∙◌, inl, inr, mod-eq_of_lt, Some, slice_get}
 use Rattle.std.specs.List.{AllZip}
 use Rattle.std.proofs.lemmas.Bool.{cases_eq, cases_lt}
 use Rattle.std.proofs.lemmas.List.{get_or_default}
 use Rattle.std.proofs.lemmas.Option.{get_or_from_slice_get, slice_get_read, slice_get_within}
 use native.Mathlib.Nat.{zero-mod}
-use Rattle.linear_law.specs.Congruence.{Congruent, IsField}
-use Rattle.linear_law.specs.Listing.{ListsAll, unit_vector}
-use Rattle.linear_law.specs.Pairing.{paired}
-use Rattle.linear_law.proofs.CongruenceLemmas.{Congruent_of, Congruent_sym, Congruent_trans}
-use Rattle.linear_law.proofs.ListLemmas.{each_from_index, each_get_or, each_map}
-use Rattle.linear_law.proofs.PivotLemmas.{one-nonzero, same_or_not}
-use Rattle.linear_law.proofs.RowCombinations.{unit_one, unit_other}
-use Rattle.simplicial_law.specs.Simplices.{IsInOrder, IsSimplex, Precedes}
-use Rattle.simplicial_law.specs.Cochains.{AgreesOnSimplices, Cochain, pairing, unit_cochain}
-use Rattle.simplicial_law.specs.CanonicalClasses.{cochain_of}
-use Rattle.simplicial_law.specs.Places.{cochain_at, terms_of}
-use Rattle.simplicial_law.proofs.Order.{lists_compare, lists_strict}
-use Rattle.simplicial_law.proofs.SimplexPlaces.{agree_by_place, cochain_at-value, lead_up, simplex_at}
-use Rattle.simplicial_law.proofs.UnitCochains.{unit_away, unit_here}
+use Rattle.linear_law.specs.Names.{Congruent, IsField, ListsAll, unit_vector, paired}
+use Rattle.linear_law.proofs.Names.{Congruent_of, Congruent_sym, Congruent_trans, each_from_index, each_get_or, each_map, one-nonzero, same_or_not, unit_one, unit_other}
+use Rattle.simplicial_law.specs.Names.{IsInOrder, IsSimplex, Precedes, AgreesOnSimplices, Cochain, pairing, unit_cochain, cochain_of, cochain_at, terms_of}
+use Rattle.simplicial_law.proofs.Names.{lists_compare, lists_strict, agree_by_place, cochain_at-value, lead_up, simplex_at, unit_away, unit_here}
 use Rattle.sparse_rows.specs.Rows.{IsBelow, IsFirst, IsRow, value_in}
 use Rattle.sparse_rows.proofs.RowLemmas.{value_in-at, value_in-none, value_in-small}
+use Rattle.complex_index.specs.Names.{level}
 use Rattle.complex_index.specs.declared.indexed.Cochain.{Cochain as PlacedCochain}
-use Rattle.complex_index.specs.Levels.{level}
 use Rattle.relative_law.proofs.Spaces.{relative_cocycles}
-use Rattle.relative_law.specs.RelativeClasses.{IsCanonicalRelativeClass, IsRelativeCocyclePivot}
-use Rattle.cohomology.specs.Pairs.{IsPairIndexOf}
-use Rattle.cohomology.specs.Classes.{chains_at, cochain_in}
-use Rattle.cohomology.specs.Cycles.{IsLeadOf, at_places}
+use Rattle.relative_law.specs.Names.{IsCanonicalRelativeClass, IsRelativeCocyclePivot}
+use Rattle.cohomology.specs.Names.{IsPairIndexOf, chains_at, cochain_in, IsLeadOf, at_places}
 
 -- ---- lists
 

@@ -1,35 +1,21 @@
 -- What a relative cocycle pairs to with the cycles is its coordinates.
-use Rattle.std.proofs.Common.{◌≡◌, ℕ, zero, suc, ◌+◌, ◌*◌, ◌-◌, ◌<◌, ◌≢◌, List, [], ◌∷◌, length, get_or, arith, refl, sym, ap, ap₂, subst, ◌∙◌, inl, inr, add_comm, mod-eq_of_lt}
-use Rattle.std.specs.Prelude.{Some, slice_get}
+use Rattle.std.proofs.Common.{◌≡◌, ℕ, zero, suc, ◌+◌, ◌*◌, ◌-◌, ◌<◌, ◌≢◌, List, [], ◌∷◌, length, get_or, arith, refl, sym, ap, ap₂, subst, ◌∙◌, inl, inr, add_comm, mod-eq_of_lt, Some, slice_get}
 use Rattle.std.proofs.Math.ListN.{length-map}
 use Rattle.std.proofs.lemmas.Option.{get_or_from_slice_get}
-use Rattle.linear_law.specs.Congruence.{Congruent, IsField}
-use Rattle.linear_law.specs.Lists.{Each}
-use Rattle.linear_law.specs.Listing.{unit_vector}
-use Rattle.linear_law.specs.Pairing.{paired}
-use Rattle.linear_law.specs.ReducedBases.{combination}
-use Rattle.linear_law.proofs.CongruenceLemmas.{Congruent_add, Congruent_from, Congruent_of, Congruent_scale, Congruent_sym, Congruent_trans, add-negated}
-use Rattle.linear_law.proofs.CycleLemmas.{paired_plus, paired_same}
-use Rattle.linear_law.proofs.ListLemmas.{each_from_index}
-use Rattle.linear_law.proofs.RowCombinations.{unit_one, unit_other}
+use Rattle.linear_law.specs.Names.{Congruent, IsField, Each, unit_vector, paired, combination}
+use Rattle.linear_law.proofs.Names.{Congruent_add, Congruent_from, Congruent_of, Congruent_scale, Congruent_sym, Congruent_trans, add-negated, paired_plus, paired_same, each_from_index, unit_one, unit_other}
 use Rattle.std.proofs.lemmas.Bool.{cases_eq}
 use Rattle.std.proofs.lemmas.List.{get_or_default}
-use Rattle.simplicial_law.specs.Canonical.{no_cochain}
-use Rattle.simplicial_law.specs.Cochains.{Cochain}
-use Rattle.simplicial_law.specs.CanonicalClasses.{cochain_of}
-use Rattle.simplicial_law.specs.Places.{terms_of}
+use Rattle.simplicial_law.specs.Names.{no_cochain, Cochain, cochain_of, terms_of}
 use Rattle.sparse_rows.specs.Rows.{IsRow, value_in}
 use Rattle.sparse_rows.proofs.RowLemmas.{value_in-small}
+use Rattle.complex_index.specs.Names.{level}
 use Rattle.complex_index.specs.declared.indexed.Cochain.{Cochain as PlacedCochain}
-use Rattle.complex_index.specs.Levels.{level}
-use Rattle.row_reduce.specs.Walk.{combined}
+use Rattle.row_reduce.specs.Names.{combined}
 use Rattle.cycle_table.specs.Tables.{column}
 use Rattle.cycle_table.proofs.CombinedLemmas.{combined_paired}
-use Rattle.relative_law.specs.Pairs.{HasRelativeCoordinates}
-use Rattle.cohomology.specs.declared.classes.DegreeClasses.{DegreeClasses}
-use Rattle.cohomology.specs.Classes.{chains_at, cochain_in}
-use Rattle.cohomology.specs.Cycles.{AreClassesOfPair, IsSpread, at_places, classes_in, table_in}
-use Rattle.cohomology.specs.Values.{AreRelativeValues, cochains_at}
+use Rattle.relative_law.specs.Names.{HasRelativeCoordinates}
+use Rattle.cohomology.specs.Names.{DegreeClasses, chains_at, cochain_in, AreClassesOfPair, IsSpread, at_places, classes_in, table_in, AreRelativeValues, cochains_at}
 use Rattle.cohomology.proofs.DegreeLemmas.{get_map}
 use Rattle.cohomology.proofs.RowLemmas.{row_by_place, some_at}
 

@@ -1,33 +1,21 @@
 -- The walk of one degree of a pair: its canonical classes, and what it tells of the coboundaries one degree up.
-use Rattle.std.specs.Prelude.{Bool, Option, None}
-use Rattle.std.proofs.Common.{◌≡◌, ℕ, ◌+◌, ◌<◌, ◌≤◌, ◌^◌, List, [], ◌∷◌, ◌++◌, map, length, get_or, arith, refl, sym, ap, subst, ◌∙◌, inl, inr}
+use Rattle.std.proofs.Common.{Bool, Option, None, ◌≡◌, ℕ, ◌+◌, ◌<◌, ◌≤◌, ◌^◌, List, [], ◌∷◌, ◌++◌, map, length, get_or, arith, refl, sym, ap, subst, ◌∙◌, inl, inr}
 use Rattle.std.proofs.Math.ListN.{length-map}
 use Rattle.std.proofs.lemmas.List.{get_or_default, map-append}
 use Rattle.std.proofs.lemmas.Simd.{map-map}
-use Rattle.linear_law.specs.Congruence.{Congruent, IsField}
-use Rattle.linear_law.specs.Lists.{Each, IsAscending}
-use Rattle.linear_law.specs.Elimination.{IsImage, KernelVector}
-use Rattle.linear_law.specs.Triangular.{kernel_place}
-use Rattle.linear_law.proofs.ListLemmas.{each_append, each_from_index, each_get_or, each_map, each_unmap, each_zip, length_alike}
-use Rattle.linear_law.proofs.PivotLemmas.{not_zero}
-use Rattle.simplicial_law.specs.Places.{cochain_at, terms_of}
+use Rattle.linear_law.specs.Names.{Congruent, IsField, Each, IsAscending, IsImage, KernelVector, kernel_place, copies}
+use Rattle.linear_law.proofs.Names.{each_append, each_from_index, each_get_or, each_map, each_unmap, each_zip, length_alike, not_zero, length-copies}
+use Rattle.simplicial_law.specs.Names.{cochain_at, terms_of}
 use Rattle.sparse_rows.specs.Rows.{IsBelow, IsRow, value_in}
+use Rattle.complex_index.specs.Names.{IsComplexIndex, IsIndexOf, level}
 use Rattle.complex_index.specs.declared.indexed.Cochain.{Cochain}
-use Rattle.complex_index.specs.Levels.{IsComplexIndex, IsIndexOf, level}
+use Rattle.row_reduce.specs.Names.{IsSolvedStored, stored_row, AreRows, SkipsFit, combined, IsLeadIn}
 use Rattle.row_reduce.specs.declared.Stored.{Stored}
 use Rattle.row_reduce.proofs.TriangularLemmas.{members}
-use Rattle.row_reduce.specs.Triangular.{IsSolvedStored, stored_row}
-use Rattle.row_reduce.specs.Walk.{AreRows, SkipsFit, combined}
-use Rattle.row_reduce.specs.Pivots.{IsLeadIn}
 use Rattle.relative_law.proofs.RelativeDegrees.{coboundary_up}
 use Rattle.relative_law.proofs.Spaces.{forget_bound, no_bound_below}
-use Rattle.relative_law.specs.Pairs.{IsRelativeCoboundary}
-use Rattle.relative_law.specs.RelativeClasses.{IsCanonicalRelativeBasis, IsRelativeCoboundaryPivot}
-use Rattle.cohomology.specs.Pairs.{AreBlanked, IsPairIndex, IsPairIndexOf}
-use Rattle.cohomology.specs.Classes.{AreRelativeIn, AreStoredBounds, IsPivotTable, IsReachedIn}
-use Rattle.cohomology.specs.Walk.{AreRowsOf}
-use Rattle.linear_law.specs.Lists.{copies}
-use Rattle.linear_law.proofs.Matrices.{length-copies}
+use Rattle.relative_law.specs.Names.{IsRelativeCoboundary, IsCanonicalRelativeBasis, IsRelativeCoboundaryPivot}
+use Rattle.cohomology.specs.Names.{AreBlanked, IsPairIndex, IsPairIndexOf, AreRelativeIn, AreStoredBounds, IsPivotTable, IsReachedIn, AreRowsOf}
 use Rattle.row_reduce.proofs.StepLemmas.{nowhere}
 use Rattle.row_reduce.proofs.StoredLemmas.{some_none}
 use Rattle.cohomology.proofs.DegreeLemmas.{by_place, degree_basis, next_bounds, lead_or_not, marked_or_not, rows_count, skips_fit}

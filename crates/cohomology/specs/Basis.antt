@@ -1,8 +1,8 @@
 -- What matrices are written over: columns of coordinates, with primitives where they are kept.
 use Rattle.std.specs.Prelude.{◌≡◌, ℕ, Bool, true, false, List, MatchOption, Option}
-use Rattle.simplicial_law.specs.Cochains.{HasCoordinates}
+use Rattle.simplicial_law.specs.Names.{HasCoordinates}
+use Rattle.complex_index.specs.Names.{IsIndexOf}
 use Rattle.complex_index.specs.declared.indexed.Cochain.{Cochain}
-use Rattle.complex_index.specs.Levels.{IsIndexOf}
 use Rattle.cohomology.specs.declared.classes.DegreeClasses.{DegreeClasses}
 use Rattle.cohomology.specs.Classes.{AreCanonicalIn, cochain_in}
 use Rattle.cohomology.specs.Cycles.{AreClassesOf, classes_in}

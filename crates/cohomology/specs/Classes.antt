@@ -1,21 +1,14 @@
 -- Cochains by degree, as rows by place, and the classes of a complex and of a pair.
-use Rattle.std.specs.Prelude.{Option}
-use Rattle.std.specs.Prelude.{◌≡◌, ℕ, ◌^◌, ◌<◌, zero, suc, List, [], ◌∷◌, map, length, Vec}
+use Rattle.std.specs.Prelude.{Option, ◌≡◌, ℕ, ◌^◌, ◌<◌, zero, suc, List, [], ◌∷◌, map, length, Vec}
 use Rattle.std.specs.declared.alloc.Global.{Global}
-use Rattle.linear_law.specs.Lists.{Each}
-use Rattle.simplicial_law.specs.Cochains.{Chain, Cochain as SimplexCochain}
-use Rattle.simplicial_law.specs.CanonicalClasses.{IsCanonicalBasis, cochain_of}
-use Rattle.simplicial_law.specs.Places.{terms_of}
+use Rattle.linear_law.specs.Names.{Each}
+use Rattle.simplicial_law.specs.Names.{Chain, Cochain as SimplexCochain, IsCanonicalBasis, cochain_of, terms_of, cochain_at}
 use Rattle.sparse_rows.specs.Rows.{IsBelow, IsRow}
+use Rattle.complex_index.specs.Names.{IsIndexOf, level}
 use Rattle.complex_index.specs.declared.indexed.Cochain.{Cochain}
-use Rattle.complex_index.specs.Levels.{IsIndexOf, level}
+use Rattle.row_reduce.specs.Names.{AreTriangular, stored_row, IsLeadIn}
 use Rattle.row_reduce.specs.declared.Stored.{Stored}
-use Rattle.row_reduce.specs.Triangular.{AreTriangular, stored_row}
-use Rattle.row_reduce.specs.Pivots.{IsLeadIn}
-use Rattle.relative_law.specs.Pairs.{IsRelativeCoboundary}
-use Rattle.relative_law.specs.RelativeClasses.{IsCanonicalRelativeBasis}
-use Rattle.relative_law.specs.RelativeElimination.{AreRelativeBoundPlaces}
-use Rattle.simplicial_law.specs.Places.{cochain_at}
+use Rattle.relative_law.specs.Names.{IsRelativeCoboundary, IsCanonicalRelativeBasis, AreRelativeBoundPlaces}
 use Rattle.cohomology.specs.Pairs.{IsPairIndexOf}
 
 -- the cochain of degree n with this row

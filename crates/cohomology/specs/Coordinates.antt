@@ -1,14 +1,11 @@
 -- The coordinates of a cocycle, and canonical primitives.
 use Rattle.std.specs.Prelude.{◌≡◌, ◌≢◌, ℕ, ◌+◌, ◌*◌, ◌-◌, ◌<◌, List, [], length, get_or}
-use Rattle.linear_law.specs.Congruence.{Congruent, negated, sum_over}
-use Rattle.linear_law.specs.ReducedBases.{combination}
-use Rattle.simplicial_law.specs.Cochains.{AgreesOnSimplices, Cochain as SimplexCochain, HasCoordinates, IsCoboundary, IsCocycle, coboundary}
-use Rattle.simplicial_law.specs.Canonical.{IsCanonicalPrimitive}
+use Rattle.linear_law.specs.Names.{Congruent, negated, sum_over, combination}
+use Rattle.simplicial_law.specs.Names.{AgreesOnSimplices, Cochain as SimplexCochain, HasCoordinates, IsCoboundary, IsCocycle, coboundary, IsCanonicalPrimitive}
 use Rattle.sparse_rows.specs.Rows.{value_in}
+use Rattle.complex_index.specs.Names.{IsIndexOf, level}
 use Rattle.complex_index.specs.declared.indexed.Cochain.{Cochain}
-use Rattle.complex_index.specs.Levels.{IsIndexOf, level}
-use Rattle.relative_law.specs.Pairs.{HasRelativeCoordinates, IsRelativeCocycle}
-use Rattle.relative_law.specs.RelativeClasses.{IsCanonicalRelativePrimitive}
+use Rattle.relative_law.specs.Names.{HasRelativeCoordinates, IsRelativeCocycle, IsCanonicalRelativePrimitive}
 use Rattle.cohomology.specs.declared.coordinates.CoordinatesRefused.{CoordinatesRefused}
 use Rattle.cohomology.specs.declared.coordinates.CoordinatesRefused.TheVariants.{NotClosed, OutOfMemory}
 use Rattle.cohomology.specs.declared.data.Coboundary.{Coboundary}

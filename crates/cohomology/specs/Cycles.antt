@@ -1,20 +1,12 @@
 -- Cycles that are dual to the classes. A chain stands as a row of its coefficients by place.
 use Rattle.std.specs.Prelude.{◌≡◌, ℕ, List, [], ◌<◌, ◌⊎◌, ◌^◌, length, get_or, slice_get, Some}
-use Rattle.linear_law.specs.Congruence.{Congruent}
-use Rattle.linear_law.specs.Lists.{Among, Each}
-use Rattle.linear_law.specs.Listing.{unit_vector}
-use Rattle.linear_law.specs.Pairing.{paired}
-use Rattle.simplicial_law.specs.Simplices.{IsInOrder}
-use Rattle.simplicial_law.specs.Cochains.{AgreesOnSimplices, Cochain as SimplexCochain, IsCoboundary, pairing, unit_cochain}
-use Rattle.simplicial_law.specs.Canonical.{IsCanonicalClass, IsCanonicalCoboundary, IsCoboundaryPivot, canonical_cycle}
-use Rattle.simplicial_law.specs.CanonicalClasses.{cochain_of}
-use Rattle.simplicial_law.specs.Places.{terms_of}
+use Rattle.linear_law.specs.Names.{Congruent, Among, Each, unit_vector, paired}
+use Rattle.simplicial_law.specs.Names.{IsInOrder, AgreesOnSimplices, Cochain as SimplexCochain, IsCoboundary, pairing, unit_cochain, IsCanonicalClass, IsCanonicalCoboundary, IsCoboundaryPivot, canonical_cycle, cochain_of, terms_of}
 use Rattle.cycle_table.specs.Tables.{column}
 use Rattle.sparse_rows.specs.Rows.{IsBelow, IsFirst, value_in}
+use Rattle.complex_index.specs.Names.{IsIndexOf, level}
 use Rattle.complex_index.specs.declared.indexed.Cochain.{Cochain}
-use Rattle.complex_index.specs.Levels.{IsIndexOf, level}
-use Rattle.relative_law.specs.Pairs.{IsRelativeCoboundary}
-use Rattle.relative_law.specs.RelativeClasses.{IsCanonicalRelativeClass, IsCanonicalRelativeCoboundary, IsRelativeCoboundaryPivot}
+use Rattle.relative_law.specs.Names.{IsRelativeCoboundary, IsCanonicalRelativeClass, IsCanonicalRelativeCoboundary, IsRelativeCoboundaryPivot}
 use Rattle.cohomology.specs.declared.classes.DegreeClasses.{DegreeClasses}
 use Rattle.cohomology.specs.Pairs.{IsPairIndexOf}
 use Rattle.cohomology.specs.Classes.{AreCanonicalIn, AreRelativeIn, IsPlaced, cochain_in, in_degree}

@@ -1,11 +1,11 @@
 -- The canonical data of a complex and of a pair by degree: classes, coboundaries and primitives, as rows by place.
 use Rattle.std.specs.Prelude.{◌≡◌, ℕ, ◌+◌, ◌-◌, ◌^◌, ◌<◌, List, [], map, length, get_or, Vec}
 use Rattle.std.specs.declared.alloc.Global.{Global}
-use Rattle.linear_law.specs.Lists.{Among, Each, IsAscending}
-use Rattle.simplicial_law.specs.Canonical.{IsCanonicalCoboundary, IsCanonicalPrimitive, IsCoboundaryPivot}
-use Rattle.complex_index.specs.Levels.{IsIndexOf, level}
+use Rattle.linear_law.specs.Names.{Among, Each, IsAscending}
+use Rattle.simplicial_law.specs.Names.{IsCanonicalCoboundary, IsCanonicalPrimitive, IsCoboundaryPivot}
+use Rattle.complex_index.specs.Names.{IsIndexOf, level}
 use Rattle.row_reduce.specs.declared.EchelonRow.{EchelonRow}
-use Rattle.relative_law.specs.RelativeClasses.{IsCanonicalRelativeCoboundary, IsCanonicalRelativePrimitive, IsRelativeCoboundaryPivot}
+use Rattle.relative_law.specs.Names.{IsCanonicalRelativeCoboundary, IsCanonicalRelativePrimitive, IsRelativeCoboundaryPivot}
 use Rattle.cohomology.specs.declared.classes.DegreeClasses.{DegreeClasses}
 use Rattle.cohomology.specs.declared.data.Coboundary.{Coboundary}
 use Rattle.cohomology.specs.Pairs.{IsPairIndexOf}

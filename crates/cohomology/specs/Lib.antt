@@ -6,3 +6,4 @@ pub mod Data
 pub mod Walk
 pub mod Coordinates
 pub mod Basis
+pub mod Names

@@ -1,10 +1,9 @@
 -- A complex and a subcomplex by their levels, and tables by place. Where the subcomplex has no level, relative notions are those of the complex.
-use Rattle.std.specs.Prelude.{Bool, Option}
-use Rattle.std.specs.Prelude.{◌≡◌, ℕ, ◌<◌, ◌⊎◌, ◌↔◌, List, [], length, get_or}
-use Rattle.linear_law.specs.Lists.{Among}
-use Rattle.complex_index.specs.Levels.{IsComplexIndex, IsIndexOf, level}
-use Rattle.relative_law.specs.Pairs.{IsSubcomplex}
-use Rattle.row_reduce.specs.Pivots.{IsLeadIn, IsMarkedIn}
+use Rattle.std.specs.Prelude.{Bool, Option, ◌≡◌, ℕ, ◌<◌, ◌⊎◌, ◌↔◌, List, [], length, get_or}
+use Rattle.linear_law.specs.Names.{Among}
+use Rattle.complex_index.specs.Names.{IsComplexIndex, IsIndexOf, level}
+use Rattle.relative_law.specs.Names.{IsSubcomplex}
+use Rattle.row_reduce.specs.Names.{IsLeadIn, IsMarkedIn}
 
 -- the levels are those of a complex and of a subcomplex
 pub record IsPairIndexOf (facets parts : List (List ℕ)) (full sub : List (List (List ℕ))) : Type 0 where

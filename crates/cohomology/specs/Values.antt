@@ -1,10 +1,9 @@
 -- The coordinates of relative cocycles.
 use Rattle.std.specs.Prelude.{ℕ, List, map}
-use Rattle.simplicial_law.specs.Cochains.{Cochain as SimplexCochain}
-use Rattle.simplicial_law.specs.CanonicalClasses.{cochain_of}
+use Rattle.simplicial_law.specs.Names.{Cochain as SimplexCochain, cochain_of}
+use Rattle.complex_index.specs.Names.{level}
 use Rattle.complex_index.specs.declared.indexed.Cochain.{Cochain}
-use Rattle.complex_index.specs.Levels.{level}
-use Rattle.relative_law.specs.Pairs.{HasRelativeCoordinates, IsRelativeCocycle}
+use Rattle.relative_law.specs.Names.{HasRelativeCoordinates, IsRelativeCocycle}
 use Rattle.cohomology.specs.Pairs.{IsPairIndexOf}
 use Rattle.cohomology.specs.Classes.{chains_at, cochain_in}
 

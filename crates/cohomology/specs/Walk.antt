@@ -1,14 +1,13 @@
 -- What a walk of one degree is given, and what it tells.
-use Rattle.std.specs.Prelude.{Bool, Option}
-use Rattle.std.specs.Prelude.{ℕ, ◌+◌, List, map, length}
+use Rattle.std.specs.Prelude.{Bool, Option, ℕ, ◌+◌, List, map, length}
 use Rattle.std.specs.List.{AllZip}
-use Rattle.linear_law.specs.Lists.{Each}
-use Rattle.simplicial_law.specs.Places.{IsCoboundaryRow}
+use Rattle.linear_law.specs.Names.{Each}
+use Rattle.simplicial_law.specs.Names.{IsCoboundaryRow}
 use Rattle.sparse_rows.specs.Rows.{IsBelow, value_in}
-use Rattle.complex_index.specs.Levels.{level}
+use Rattle.complex_index.specs.Names.{level}
+use Rattle.row_reduce.specs.Names.{IsEchelonFrom}
 use Rattle.row_reduce.specs.declared.EchelonRow.{EchelonRow}
 use Rattle.row_reduce.specs.declared.Stored.{Stored}
-use Rattle.row_reduce.specs.Echelon.{IsEchelonFrom}
 use Rattle.cohomology.specs.declared.data.Coboundary.{Coboundary}
 use Rattle.cohomology.specs.Data.{AreRelativeCoboundaries, IsCoboundaryFrom}
 use Rattle.cohomology.specs.Pairs.{AreBlanked, AreJoined, IsMarkTable}

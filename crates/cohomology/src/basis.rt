@@ -1,11 +1,7 @@
 ghost use Rattle.std.specs.Prelude.{◌≡◌, ℕ, ◌-◌, ◌≤◌, Bool, true, false, List, length, slice_get, Some, IfOk, IsTrue};
 ghost use Rattle.fp_field.specs.Served.{served};
 ghost use Rattle.complex_index.specs.declared.indexed.Cochain.{Cochain};
-ghost use Rattle.cohomology.specs.Classes.{AreCanonicalIn};
-ghost use Rattle.cohomology.specs.Cycles.{AreClassesOf, IsCanonicalCycle, classes_in};
-ghost use Rattle.cohomology.specs.Coordinates.{IsClosedIn};
-ghost use Rattle.cohomology.specs.Data.{IsCohomologyOf};
-ghost use Rattle.cohomology.specs.Basis.{IsColumnOf, canonical_of_classes, canonical_of_data};
+ghost use Rattle.cohomology.specs.Names.{AreCanonicalIn, AreClassesOf, IsCanonicalCycle, classes_in, IsClosedIn, IsCohomologyOf, IsColumnOf, canonical_of_classes, canonical_of_data};
 
 use crate::classes::Classes;
 use crate::data::Cohomology;

@@ -1,14 +1,10 @@
 ghost use Rattle.std.specs.Prelude.{◌≡◌, ℕ, ◌+◌, ◌-◌, ◌<◌, ◌≤◌, ◌^◌, ◌++◌, ◌∷◌, ◌⊎◌, [], List, length, slice_get, Some, IfOk, OnOk, IsTrue};
 ghost use Rattle.std.specs.List.{AllZip};
-ghost use Rattle.linear_law.specs.Lists.{Each};
+ghost use Rattle.linear_law.specs.Names.{Each};
 ghost use Rattle.fp_field.specs.Served.{served};
 ghost use Rattle.sparse_rows.specs.Rows.{IsBelow, IsRow, value_in};
 ghost use Rattle.cycle_table.specs.Tables.{column};
-ghost use Rattle.cohomology.specs.Pairs.{IsPairIndex, IsSubIndex};
-ghost use Rattle.cohomology.specs.Classes.{IsReachedIn};
-ghost use Rattle.cohomology.specs.Cycles.{AreClassesOf, AreClassesOfPair, AreDualClasses, IsColumnRow, IsLeadOf, IsRelativeCycle, IsSpread, classes_in, table_in};
-ghost use Rattle.cohomology.specs.Walk.{TellCoboundaries};
-ghost use Rattle.cohomology.specs.Values.{AreRelativeValues};
+ghost use Rattle.cohomology.specs.Names.{IsPairIndex, IsSubIndex, IsReachedIn, AreClassesOf, AreClassesOfPair, AreDualClasses, IsColumnRow, IsLeadOf, IsRelativeCycle, IsSpread, classes_in, table_in, TellCoboundaries, AreRelativeValues};
 
 use crate::walk::{Reached, nothing, start, step_at};
 use complex_index::{Cochain, Indexed};

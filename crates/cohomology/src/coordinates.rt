@@ -1,13 +1,10 @@
 ghost use Rattle.std.specs.Prelude.{◌≡◌, ◌==◌, ℕ, ◌+◌, ◌-◌, ◌≤◌, ◌<◌, List, length, IfOk, IsTrue, MatchOption, MatchResult};
 ghost use Rattle.std.specs.List.{list_all};
-ghost use Rattle.linear_law.specs.Congruence.{Congruent};
+ghost use Rattle.linear_law.specs.Names.{Congruent};
 ghost use Rattle.fp_field.specs.Served.{served};
 ghost use Rattle.sparse_rows.specs.Rows.{IsBelow, IsRow, value_in};
-ghost use Rattle.complex_index.specs.Levels.{level};
-ghost use Rattle.cohomology.specs.Classes.{cochain_in};
-ghost use Rattle.cohomology.specs.Coordinates.{AreCoordinates, AreRelativeCoordinates, IsNoCoboundary, IsOpenAt, IsPrimitiveOf, IsRelativeIn, RefusesCoordinates, coboundary_at, primitives_sum};
-ghost use Rattle.cohomology.specs.Cycles.{classes_in};
-ghost use Rattle.cohomology.specs.Data.{IsCohomologyOf, IsCohomologyOfPair};
+ghost use Rattle.complex_index.specs.Names.{level};
+ghost use Rattle.cohomology.specs.Names.{cochain_in, AreCoordinates, AreRelativeCoordinates, IsNoCoboundary, IsOpenAt, IsPrimitiveOf, IsRelativeIn, RefusesCoordinates, coboundary_at, primitives_sum, classes_in, IsCohomologyOf, IsCohomologyOfPair, OutOfMemory};
 
 use crate::data::{Coboundary, Cohomology};
 use complex_index::{Cochain, Indexed};
@@ -67,8 +64,6 @@ pub enum CoordinatesRefused {
     /// Its coboundary is not zero: the place of the least simplex where it is not, and its value there.
     NotClosed { place: u32, value: u32 },
 }
-
-ghost use Rattle.cohomology.specs.declared.coordinates.CoordinatesRefused.TheVariants.{OutOfMemory};
 
 impl From<AllocError> for CoordinatesRefused {
     ghost from_gives = { λ _ e. e ≡ OutOfMemory };

@@ -1,11 +1,8 @@
 ghost use Rattle.std.specs.Prelude.{◌≡◌, ℕ, ◌+◌, ◌-◌, ◌<◌, ◌≤◌, ◌^◌, List, [], length, map, slice_get, Some, IfOk, IsTrue};
 ghost use Rattle.std.specs.List.{AllZip};
 ghost use Rattle.fp_field.specs.Served.{served};
-ghost use Rattle.row_reduce.specs.Triangular.{AreTriangular};
-ghost use Rattle.cohomology.specs.Pairs.{IsSubIndex};
-ghost use Rattle.cohomology.specs.Cycles.{IsCanonicalCycle, IsRelativeCycle, classes_in};
-ghost use Rattle.cohomology.specs.Data.{AreRelativeCoboundaries, IsCohomologyOf, IsCohomologyOfPair, IsCoboundaryFrom, coboundaries_in};
-ghost use Rattle.cohomology.specs.Walk.{TellCoboundaries};
+ghost use Rattle.row_reduce.specs.Names.{AreTriangular};
+ghost use Rattle.cohomology.specs.Names.{IsSubIndex, IsCanonicalCycle, IsRelativeCycle, classes_in, AreRelativeCoboundaries, IsCohomologyOf, IsCohomologyOfPair, IsCoboundaryFrom, coboundaries_in, TellCoboundaries};
 
 use crate::classes::{Classes, degree_at};
 use crate::walk::{Reached, nothing, start};

@@ -1,7 +1,7 @@
 ghost use Rattle.std.specs.Prelude.{◌≡◌, ◌↔◌, ◌+◌, ◌<◌, ◌^◌, length, get_or, IfOk, IsTrue};
-ghost use Rattle.linear_law.specs.Lists.{Among};
-ghost use Rattle.complex_index.specs.Levels.{IsComplexIndex, level};
-ghost use Rattle.cohomology.specs.Pairs.{AreBlanked, AreJoined, IsMarkTable};
+ghost use Rattle.linear_law.specs.Names.{Among};
+ghost use Rattle.complex_index.specs.Names.{IsComplexIndex, level};
+ghost use Rattle.cohomology.specs.Names.{AreBlanked, AreJoined, IsMarkTable};
 
 use complex_index::Indexed;
 use row_reduce::Pivots;

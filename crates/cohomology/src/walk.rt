@@ -1,11 +1,9 @@
 ghost use Rattle.std.specs.Prelude.{◌≡◌, ℕ, ◌+◌, ◌<◌, ◌^◌, List, [], map, length, IfOk, IsTrue};
-ghost use Rattle.linear_law.specs.Lists.{Each};
+ghost use Rattle.linear_law.specs.Names.{Each};
 ghost use Rattle.fp_field.specs.Served.{served};
-ghost use Rattle.simplicial_law.specs.CanonicalClasses.{AreCanonicalBases};
-ghost use Rattle.complex_index.specs.Levels.{IsIndexOf};
-ghost use Rattle.cohomology.specs.Pairs.{IsPairIndex, IsSubIndex};
-ghost use Rattle.cohomology.specs.Classes.{ArePlacedFrom, AreRelativeFrom, AreRelativeIn, IsPivotTable, IsReachedIn, chains_of};
-ghost use Rattle.cohomology.specs.Walk.{AreRowsOf, TellCoboundaries};
+ghost use Rattle.simplicial_law.specs.Names.{AreCanonicalBases};
+ghost use Rattle.complex_index.specs.Names.{IsIndexOf};
+ghost use Rattle.cohomology.specs.Names.{IsPairIndex, IsSubIndex, ArePlacedFrom, AreRelativeFrom, AreRelativeIn, IsPivotTable, IsReachedIn, chains_of, AreRowsOf, TellCoboundaries};
 
 use crate::pairs::{blanked, joined, marks};
 use complex_index::{Cochain, Indexed};

@@ -1,24 +1,14 @@
 -- The values of a coboundary and of a boundary are the alternating sums over the faces.
-use Rattle.std.proofs.Common.{◌≡◌, ℕ, zero, suc, ◌+◌, ◌*◌, ◌<◌, ◌≤◌, inl, inr, arith, refl, sym, ◌∙◌, ap, ap₂, subst, List, [], ◌∷◌, ◌++◌, map, length, get_or, drop, append_assoc, Bool, true, false, cond, not, eqb}
-use Rattle.std.proofs.lemmas.Bool.{eq-eqb}
+use Rattle.std.proofs.Common.{◌≡◌, ℕ, zero, suc, ◌+◌, ◌*◌, ◌<◌, ◌≤◌, inl, inr, arith, refl, sym, ◌∙◌, ap, ap₂, subst, List, [], ◌∷◌, ◌++◌, map, length, get_or, drop, append_assoc, Bool, true, false, cond, not, eqb, eq-eqb}
 use Rattle.std.proofs.lemmas.Bool.Decides.{eqb_tells}
+use Rattle.std.proofs.lemmas.List.{map-append}
 use Rattle.std.specs.List.Sorted.{IsStrictlySortedBy}
-use Rattle.complex_index.specs.declared.cofaces.Coface.{Coface}
-use Rattle.linear_law.specs.Congruence.{Congruent, negated, sum_over}
-use Rattle.linear_law.specs.Lists.{Each}
-use Rattle.linear_law.specs.Listing.{unit_vector}
-use Rattle.linear_law.proofs.CongruenceLemmas.{Congruent_refl, Congruent_of, Congruent_sym, Congruent_trans, Congruent_add, Congruent_mul, Congruent_scale, Congruent_cancel, add-negated, Congruent_mod}
-use Rattle.linear_law.proofs.SumLemmas.{sum_append, sum_map}
-use Rattle.linear_law.proofs.ListLemmas.{each_append}
-use Rattle.simplicial_law.specs.Cochains.{faces, Cochain, alternating_chain, boundary, coboundary, pairing, unit_cochain}
-use Rattle.simplicial_law.specs.ListedSimplices.{simplex_cmp}
-use Rattle.simplicial_law.specs.CanonicalClasses.{cochain_of}
-use Rattle.simplicial_law.specs.Places.{terms_of}
-use Rattle.simplicial_law.proofs.ListedSimplices.{get_or_any, once_in_order}
-use Rattle.simplicial_law.proofs.UnitCochains.{unit_away, unit_here}
+use Rattle.complex_index.specs.Names.{Coface, ArePlaces, ArePlacesOf, simplex_at, marks, above_at, boundary_coefficient, pair_of, shrunk, signed_places, signed_value, spread}
+use Rattle.linear_law.specs.Names.{Congruent, negated, sum_over, Each, unit_vector}
+use Rattle.linear_law.proofs.Names.{Congruent_refl, Congruent_of, Congruent_sym, Congruent_trans, Congruent_add, Congruent_mul, Congruent_scale, Congruent_cancel, add-negated, Congruent_mod, sum_append, sum_map, each_append, each_of_map}
+use Rattle.simplicial_law.specs.Names.{faces, Cochain, alternating_chain, boundary, coboundary, pairing, unit_cochain, simplex_cmp, cochain_of, terms_of}
+use Rattle.simplicial_law.proofs.Names.{once_in_order, unit_away, unit_here}
 use Rattle.sparse_rows.specs.Rows.{IsBelow, value_in}
-use Rattle.complex_index.specs.Incidence.{ArePlaces, ArePlacesOf, simplex_at, marks, above_at}
-use Rattle.complex_index.specs.Chains.{boundary_coefficient, pair_of, shrunk, signed_places, signed_value, spread}
 use Rattle.complex_index.proofs.FacePlaces.{left_at}
 use Rattle.complex_index.proofs.LevelLemmas.{places_length}
 
@@ -109,10 +99,6 @@ marks_away p a x y k o (q ∷ qs) n = one (eqb q x) (marks x y (not o) qs) (mark
     one true cs e = rw n (omega (arith, e))
     one false cs e = e
 
-map_app : {X Y : Type 0} (f : X → Y) (xs ys : List X) → map f (xs ++ ys) ≡ map f xs ++ map f ys
-map_app f [] ys = refl
-map_app f (x ∷ xs) ys = ap (λ zs. f x ∷ zs) (map_app f xs ys)
-
 sum_at_app : (k : ℕ) (xs ys : List (ℕ × ℕ)) → sum_at k (xs ++ ys) ≡ sum_at k xs + sum_at k ys
 sum_at_app k xs ys = sum_append (λ (t : ℕ × ℕ). cond (eqb t.0 k) t.1 0) xs ys
 
@@ -120,7 +106,7 @@ abbrev part : ℕ → ℕ → ℕ → List Coface → ℕ
 part p a k cs = sum_at k (map (pair_of p a) cs)
 
 part_app : (p a k : ℕ) (xs ys : List Coface) → part p a k (xs ++ ys) ≡ part p a k xs + part p a k ys
-part_app p a k xs ys = ap (sum_at k) (map_app (pair_of p a) xs ys) ∙ sum_at_app k (map (pair_of p a) xs) (map (pair_of p a) ys)
+part_app p a k xs ys = ap (sum_at k) (map-append (pair_of p a) xs ys) ∙ sum_at_app k (map (pair_of p a) xs) (map (pair_of p a) ys)
 
 later_none : (p a x y k : ℕ) (pss : List (List ℕ)) → k < y → part p a k (above_at x y pss) ≡ 0
 later_none p a x y k [] h = refl
@@ -206,10 +192,6 @@ boundary_is p lower upper pss row x h w r f l = Congruent_trans (Congruent_of (s
 
 -- ---- places in range
 
-each_maps : {X Y : Type 0} (P : Y → Type 0) (Q : X → Type 0) (f : X → Y) → ((x : X) → Q x → P (f x)) → (xs : List X) → Each Q xs → Each P (map f xs)
-each_maps P Q f g [] h = tt
-each_maps P Q f g (x ∷ xs) h = (g x h.0, each_maps P Q f g xs h.1)
-
 marks_place : (x y n : ℕ) (o : Bool) (qs : List ℕ) → y < n → Each (λ (c : Coface). c.place < n) (marks x y o qs)
 marks_place x y n o [] h = tt
 marks_place x y n o (q ∷ qs) h = one (eqb q x) (marks x y (not o) qs) (marks_place x y n (not o) qs h)
@@ -226,7 +208,7 @@ pub spread_below : (p n : ℕ) (pss : List (List ℕ)) (above : List (List Cofac
 spread_below p n pss above [] e h = tt
 spread_below p n pss above (t ∷ ts) e h =
     each_append (λ (u : ℕ × ℕ). u.0 < n) (map (pair_of p t.1) (get_or above t.0 [])) (spread p above ts)
-    (each_maps (λ (u : ℕ × ℕ). u.0 < n) (λ (c : Coface). c.place < n) (pair_of p t.1) (λ c l. l) (get_or above t.0 [])
+    (each_of_map (λ (u : ℕ × ℕ). u.0 < n) (pair_of p t.1) (get_or above t.0 [])
     (subst (Each (λ (c : Coface). c.place < n)) (sym (e t.0)) (above_place t.0 0 n pss (omega arith))))
     (spread_below p n pss above ts e h)
 

@@ -1,24 +1,18 @@
 -- Steps of the loops over faces and cofaces.
-use Rattle.std.proofs.Common.{◌≡◌, ℕ, zero, suc, ◌+◌, ◌-◌, ◌*◌, ◌<◌, ◌≤◌, inl, inr, arith, refl, sym, ◌∙◌, ap, ap₂, subst, List, [], ◌∷◌, ◌++◌, map, length, take, drop, take_all, get_or, true, false, cond, eqb, append_assoc, Vec, Global, add-one, slice_set, Result, Ok, Err}
+use Rattle.std.proofs.Common.{◌≡◌, ℕ, zero, suc, ◌+◌, ◌-◌, ◌*◌, ◌<◌, ◌≤◌, inl, inr, arith, refl, sym, ◌∙◌, ap, ap₂, subst, List, [], ◌∷◌, ◌++◌, map, length, take, drop, take_all, get_or, true, false, cond, eqb, append_assoc, Vec, Global, add-one, slice_set, Result, Ok, Err, append-nil, length-append, eq-eqb}
 use Rattle.std.specs.Result.{IfOk}
 use Rattle.std.specs.declared.alloc.AllocError.{AllocError}
-use Rattle.std.proofs.lemmas.List.{length-append, length-map, map-append, take_more}
-use Rattle.std.proofs.lemmas.Bool.{eq-eqb}
+use Rattle.std.proofs.lemmas.List.{drop_all, get_or-map, length-map, map-append, take_more, take_rest}
 use Rattle.std.proofs.lemmas.Bool.Decides.{eqb_tells}
 use Rattle.std.proofs.Math.Seq.{drop-cons}
-use Rattle.complex_index.specs.declared.cofaces.Coface.{Coface}
-use Rattle.linear_law.specs.Lists.{Each}
-use Rattle.linear_law.proofs.ListLemmas.{each_get_or}
-use Rattle.simplicial_law.proofs.ListedSimplices.{get_or_any}
+use Rattle.complex_index.specs.Names.{Coface, AddsPlaces, ArePlaces, ArePlacesOf, simplex_at, marks, above_at, list_at, lists_of}
+use Rattle.linear_law.specs.Names.{Each}
+use Rattle.linear_law.proofs.Names.{each_get_or, each_push, zip_push}
+use Rattle.simplicial_law.proofs.Names.{get_or_any}
 use Rattle.simplex_set.specs.Pieces.{pieces}
-use Rattle.simplex_set.proofs.AddingFaces.{face_made, rest_all}
+use Rattle.simplex_set.proofs.AddingFaces.{face_made, length_faces}
 use Rattle.simplex_set.proofs.InPieces.{length_push, pieces_push}
-use Rattle.simplicial_law.specs.Cochains.{faces}
-use Rattle.complex_index.specs.Incidence.{AddsPlaces, ArePlaces, ArePlacesOf, simplex_at, marks, above_at, list_at, lists_of}
-
-pub each_push : {X : Type 0} (P : X → Type 0) (xs : List X) (x : X) → Each P xs → P x → Each P (xs ++ x ∷ [])
-each_push P [] x h k = (k, tt)
-each_push P (y ∷ ys) x h k = (h.0, each_push P ys x h.1 k)
+use Rattle.simplicial_law.specs.Names.{faces}
 
 -- what is left at i, and at i + 1
 pub left_at : {X : Type 0} (xs : List X) (i : ℕ) (x : X) → i < length xs → x ≡ get_or xs i x → drop i xs ≡ x ∷ drop (i + 1) xs
@@ -27,13 +21,7 @@ left_at xs i x h e = rw add-one (drop-cons xs i x h ∙ ap (λ y. y ∷ drop (su
 -- ---- rows
 
 pub row_is : {X : Type 0} (vs : List (Vec X Global)) (x : ℕ) (v : Vec X Global) → x < length vs → v ≡ get_or vs x v → v.items ≡ list_at vs x
-row_is [] x v h e = absurd (omega arith)
-row_is {X = X} (w ∷ vs) zero v h e = ap (λ (u : Vec X Global). u.items) e
-row_is (w ∷ vs) (suc x) v h e = row_is vs x v (omega arith) e
-
-append_nil : {X : Type 0} (xs : List X) → xs ≡ xs ++ []
-append_nil [] = refl
-append_nil (x ∷ xs) = ap (λ ys. x ∷ ys) (append_nil xs)
+row_is {X} vs x v b e = ap (λ (u : Vec X Global). u.items) e ∙ sym (get_or-map (λ (u : Vec X Global). u.items) vs x v [] b)
 
 apart_suc : (i x : ℕ) → eqb (suc i) (suc x) ≡ eqb i x
 apart_suc i x = elim (eqb_tells i x) [
@@ -54,8 +42,8 @@ pub row_set : {X : Type 0} (vs : List (Vec X Global)) (i x : ℕ) (d new : Vec X
     → list_at (slice_set vs i new) x ≡ list_at vs x ++ cond (eqb i x) (c ∷ []) []
 row_set [] i x d new c h n = absurd (omega arith)
 row_set (v ∷ vs) zero zero d new c h n = n
-row_set (v ∷ vs) zero (suc x) d new c h n = append_nil (list_at vs x) ∙ ap (λ b. list_at vs x ++ cond b (c ∷ []) []) (sym (zero_apart x))
-row_set (v ∷ vs) (suc i) zero d new c h n = append_nil v.items ∙ ap (λ b. v.items ++ cond b (c ∷ []) []) (sym (suc_apart i))
+row_set (v ∷ vs) zero (suc x) d new c h n = sym (append-nil (list_at vs x)) ∙ ap (λ b. list_at vs x ++ cond b (c ∷ []) []) (sym (zero_apart x))
+row_set (v ∷ vs) (suc i) zero d new c h n = sym (append-nil v.items) ∙ ap (λ b. v.items ++ cond b (c ∷ []) []) (sym (suc_apart i))
 row_set (v ∷ vs) (suc i) (suc x) d new c h n = row_set vs i x d new c (omega arith) n ∙ ap (λ b. list_at vs x ++ cond b (c ∷ []) []) (sym (apart_suc i x))
 
 pub rows_push : {X : Type 0} (vs : List (Vec X Global)) (v : Vec X Global) → ((x : ℕ) → list_at vs x ≡ []) → v.items ≡ [] → (x : ℕ) → list_at (vs ++ v ∷ []) x ≡ []
@@ -82,31 +70,10 @@ pub lists_more : {X : Type 0} (vs : List (Vec X Global)) (i : ℕ) (v : Vec X Gl
 lists_more {X = X} vs i v ys l e q =
     ap (λ (zs : List X). lists_of (take i vs) ++ zs ∷ []) q ∙ sym (lists_push (take i vs) v) ∙ ap (λ (u : Vec X Global). lists_of (take i vs ++ u ∷ [])) e ∙ ap lists_of (sym (take_more vs i v l))
 
-at_lists : {X : Type 0} (vs : List (Vec X Global)) (x : ℕ) → get_or (lists_of vs) x [] ≡ list_at vs x
-at_lists [] x = refl
-at_lists (v ∷ vs) zero = refl
-at_lists (v ∷ vs) (suc x) = at_lists vs x
-
 pub all_above : (r : Result (List (List Coface)) AllocError) (vs : List (Vec Coface Global)) (ls : List (Vec Coface Global)) (pss : List (List ℕ)) (y : ℕ) → length pss ≤ y → ls ≡ vs
     → ((x : ℕ) → list_at vs x ++ above_at x y (drop y pss) ≡ above_at x 0 pss) → IfOk r (λ c. c ≡ lists_of ls) → IfOk r (λ c. (x : ℕ) → get_or c x [] ≡ above_at x 0 pss)
-all_above (Ok c) vs ls pss y l q h e = λ x. ap (λ (k : List (List Coface)). get_or k x []) (e ∙ ap lists_of q) ∙ at_lists vs x ∙ append_nil (list_at vs x) ∙ ap (λ (ps : List (List ℕ)). list_at vs x ++ above_at x y ps) (sym (drop_all y pss l)) ∙ h x
-  where
-    drop_all : (n : ℕ) (xs : List (List ℕ)) → length xs ≤ n → drop n xs ≡ []
-    drop_all zero [] l = refl
-    drop_all zero (x ∷ xs) l = absurd (omega arith)
-    drop_all (suc n) [] l = refl
-    drop_all (suc n) (x ∷ xs) l = drop_all n xs (omega arith)
+all_above (Ok c) vs ls pss y l q h e = λ x. ap (λ (k : List (List Coface)). get_or k x []) (e ∙ ap lists_of q) ∙ sym (append-nil (list_at vs x)) ∙ ap (λ (ps : List (List ℕ)). list_at vs x ++ above_at x y ps) (sym (drop_all y pss l)) ∙ h x
 all_above (Err f) vs ls pss y l q h e = tt
-
-pub places_push : (lower ss ps : List (List ℕ)) (s p : List ℕ) → ArePlacesOf lower ss ps → ArePlaces lower s p → ArePlacesOf lower (ss ++ s ∷ []) (ps ++ p ∷ [])
-places_push lower [] [] s p h k = (k, tt)
-places_push lower [] (q ∷ qs) s p h k = absurd h
-places_push lower (r ∷ rs) [] s p h k = absurd h
-places_push lower (r ∷ rs) (q ∷ qs) s p h k = (h.0, places_push lower rs qs s p h.1 k)
-
-pub length_faces : (s : List ℕ) → length (faces s) ≡ length s
-length_faces [] = refl
-length_faces (v ∷ vs) = ap suc (length-map (faces vs) (λ t. v ∷ t) ∙ length_faces vs)
 
 pub faces_more : (s : List ℕ) (i : ℕ) → i < length s → take (i + 1) (faces s) ≡ take i (faces s) ++ get_or (faces s) i [] ∷ []
 faces_more s i h = take_more (faces s) i [] (omega (arith, length_faces s))
@@ -132,7 +99,7 @@ places_so_far size i lower upper s old new l e z a h =
       ap length a.is ∙ length-append old a.added ∙ length_push old a.added size i h.0 sized,
       subst (λ (ss : List (List ℕ)). ArePlacesOf lower ss (pieces size (i + 1) new)) (sym (take_more upper i [] l ∙ ap (λ (t : List ℕ). take i upper ++ t ∷ []) (sym e)))
           (subst (λ (ps : List (List ℕ)). ArePlacesOf lower (take i upper ++ s ∷ []) ps) (sym (ap (pieces size (i + 1)) a.is ∙ pieces_push size i old a.added h.0 sized))
-          (places_push lower (take i upper) (pieces size i old) s a.added h.1 a.places)),
+          (zip_push (ArePlaces lower) (take i upper) (pieces size i old) s a.added h.1 a.places)),
     )
 
 -- ---- the places of the faces of one simplex
@@ -145,7 +112,7 @@ pub record IsAdding (lower : List (List ℕ)) (s : List ℕ) (i : ℕ) (old new 
   pub places : map (simplex_at lower) added ≡ take i (faces s)
 
 pub adding_none : (lower : List (List ℕ)) (s old : List ℕ) → IsAdding lower s 0 old old
-adding_none lower s old = record { added = []; is = append_nil old; below = tt; places = refl }
+adding_none lower s old = record { added = []; is = sym (append-nil old); below = tt; places = refl }
 
 pub adding_more : (lower : List (List ℕ)) (s : List ℕ) (i k : ℕ) (old mid new : List ℕ) → i < length s → new ≡ mid ++ k ∷ [] → k < length lower → simplex_at lower k ≡ get_or (faces s) i []
     → IsAdding lower s i old mid → IsAdding lower s (i + 1) old new
@@ -158,4 +125,4 @@ adding_all lower s i old new l h = record { added = h.added; is = h.is; places =
 
 -- a face in two parts
 pub face_joined : (s : List ℕ) (at : ℕ) → at < length s → take at s ++ take (length s - (at + 1)) (drop (at + 1) s) ≡ get_or (faces s) at []
-face_joined s at h = ap (λ (r : List ℕ). take at s ++ r) (rest_all (at + 1) s) ∙ face_made at s h
+face_joined s at h = ap (λ (r : List ℕ). take at s ++ r) (take_rest s (at + 1)) ∙ face_made at s h

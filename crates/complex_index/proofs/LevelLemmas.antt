@@ -1,51 +1,29 @@
 -- The levels of an index, one after the other, and what they are together.
-use Rattle.std.proofs.Common.{◌≡◌, ℕ, zero, suc, ◌+◌, ◌-◌, ◌^◌, ◌<◌, ◌≤◌, inl, inr, arith, refl, sym, ◌∙◌, ap, subst, List, [], ◌∷◌, ◌++◌, length, take, take_all, get_or, Bool, true, false, eqb, cond, map, sub-one}
+use Rattle.std.proofs.Common.{◌≡◌, ℕ, zero, suc, ◌+◌, ◌-◌, ◌^◌, ◌<◌, ◌≤◌, inl, inr, arith, refl, sym, ◌∙◌, ap, subst, List, [], ◌∷◌, ◌++◌, length, take, take_all, get_or, Bool, true, false, eqb, cond, map, sub-one, append-nil}
 use Rattle.std.proofs.lemmas.Bool.{cases_eq, cases_lt}
 use Rattle.std.proofs.lemmas.Bool.Decides.{eqb_tells}
-use Rattle.std.proofs.lemmas.List.{length-map, map-append, take_more}
+use Rattle.std.proofs.lemmas.List.{get_or-map, get_or_append_left, get_or_past, length-map, map-append, take_more}
 use Rattle.std.specs.List.{filter}
 use Rattle.std.specs.List.Sorted.{IsStrictlySortedBy}
-use Rattle.complex_index.specs.declared.cofaces.Coface.{Coface}
-use Rattle.complex_index.specs.declared.levels.Level.{Level}
-use Rattle.linear_law.specs.Lists.{Each, Among, IsAscending}
-use Rattle.linear_law.specs.Listing.{ListsAll}
-use Rattle.linear_law.proofs.ListLemmas.{each_among}
-use Rattle.simplicial_law.specs.Simplices.{IsInOrder, IsSimplex}
-use Rattle.simplicial_law.specs.Cochains.{faces}
-use Rattle.simplicial_law.specs.ListedSimplices.{IsClosed, of_degree, simplex_cmp, simplices, sublists}
-use Rattle.simplicial_law.proofs.Sublists.{of_map, sublist_first, sublist_of_rest, sublist_whole, sublist_with, sublists_cases}
-use Rattle.simplicial_law.proofs.ListedSimplices.{each_of, in_filter, length_of_test, listed_simplices_law, of_all, of_degree_sorted, of_filter, simplices_closed, test_of_length}
+use Rattle.complex_index.specs.Names.{Coface, Level, ArePlaces, ArePlacesOf, AreLevels, Fits, IsIndex, IsIndexOf, IsIndexed, lists, level, cofaces_at, faces_at}
+use Rattle.linear_law.specs.Names.{Each, Among, IsAscending, ListsAll}
+use Rattle.linear_law.proofs.Names.{each_among, each_right, get_last, length_alike, length_push}
+use Rattle.simplicial_law.specs.Names.{IsInOrder, IsSimplex, faces, IsClosed, of_degree, simplex_cmp, sublists}
+use Rattle.simplicial_law.specs.ListedSimplices.{simplices}
+use Rattle.simplicial_law.proofs.Names.{of_map, sublist_first, sublist_of_rest, sublist_whole, sublist_with, sublists_cases, each_of, in_filter, length_of_test, listed_simplices_law, of_all, of_degree_sorted, of_filter, simplices_closed, test_of_length}
 use Rattle.simplex_set.specs.Levels.{AreLevelsOf, IsLargest}
-use Rattle.complex_index.specs.Incidence.{ArePlacesOf}
-use Rattle.complex_index.specs.Levels.{AreLevels, Fits, IsIndex, IsIndexOf, IsIndexed, lists, level, cofaces_at, faces_at}
 
 -- ---- pushing a level
 
-faces_more : (ls : List Level) (l : Level) (n : ℕ) → n < length ls → faces_at (ls ++ l ∷ []) n ≡ faces_at ls n
-faces_more [] l n h = absurd (omega arith)
-faces_more (k ∷ ls) l zero h = refl
-faces_more (k ∷ ls) l (suc n) h = faces_more ls l n (omega arith)
+module _ {X : Type 0} (f : Level → List X) where
+  part_before : (ls : List Level) (l : Level) (n : ℕ) → n < length ls → get_or (map f (ls ++ l ∷ [])) n [] ≡ get_or (map f ls) n []
+  part_before ls l n b = ap (λ (xs : List (List X)). get_or xs n []) (map-append f ls (l ∷ [])) ∙ get_or_append_left (map f ls) (f l ∷ []) [] n (omega (arith, length-map ls f, b))
 
-faces_last : (ls : List Level) (l : Level) (n : ℕ) → n ≡ length ls → faces_at (ls ++ l ∷ []) n ≡ l.faces
-faces_last [] l zero h = refl
-faces_last [] l (suc n) h = absurd (omega arith)
-faces_last (k ∷ ls) l zero h = absurd (omega arith)
-faces_last (k ∷ ls) l (suc n) h = faces_last ls l n (omega arith)
+  part_last : (ls : List Level) (l : Level) (n : ℕ) → n ≡ length ls → get_or (map f (ls ++ l ∷ [])) n [] ≡ f l
+  part_last ls l n e = ap (λ k. get_or (map f (ls ++ l ∷ [])) k []) e ∙ get_or-map f (ls ++ l ∷ []) (length ls) l [] (omega (arith, length_push ls l)) ∙ ap f (get_last ls l l)
 
-cofaces_more : (ls : List Level) (l : Level) (n : ℕ) → n < length ls → cofaces_at (ls ++ l ∷ []) n ≡ cofaces_at ls n
-cofaces_more [] l n h = absurd (omega arith)
-cofaces_more (k ∷ ls) l zero h = refl
-cofaces_more (k ∷ ls) l (suc n) h = cofaces_more ls l n (omega arith)
-
-cofaces_last : (ls : List Level) (l : Level) (n : ℕ) → n ≡ length ls → cofaces_at (ls ++ l ∷ []) n ≡ l.cofaces
-cofaces_last [] l zero h = refl
-cofaces_last [] l (suc n) h = absurd (omega arith)
-cofaces_last (k ∷ ls) l zero h = absurd (omega arith)
-cofaces_last (k ∷ ls) l (suc n) h = cofaces_last ls l n (omega arith)
-
-length_push : (ls : List Level) (l : Level) → length (ls ++ l ∷ []) ≡ length ls + 1
-length_push [] l = refl
-length_push (k ∷ ls) l = omega (arith, length_push ls l)
+  pub part_is : (ls : List Level) (i : ℕ) (l : Level) → i < length ls → l ≡ get_or ls i l → f l ≡ get_or (map f ls) i []
+  part_is ls i l b e = ap f e ∙ sym (get_or-map f ls i l [] b)
 
 length_lists : (ls : List Level) → length (lists ls) ≡ length ls
 length_lists ls = length-map ls (λ (l : Level). l.simplices)
@@ -69,11 +47,11 @@ partly_more all n ls ns l b h q e f = subst (IsPartly all (n + 1)) (sym q) (reco
   same = map-append (λ (k : Level). k.simplices) ls (l ∷ []) ∙ ap (λ (ks : List (List (List ℕ))). ks ++ l.simplices ∷ []) h.same ∙ ap (λ (k : List (List ℕ)). take n all ++ k ∷ []) e ∙ sym (take_more all n [] b);
   fits = λ m k. elim (cases_eq (m + 1) n) [
     | inl i ↦ fits_same (level all m) (level all (m + 1)) l.faces (faces_at (ls ++ l ∷ []) (m + 1)) l.cofaces (cofaces_at (ls ++ l ∷ []) (m + 1))
-        (sym (faces_last ls l (m + 1) (i ∙ sym h.len))) (sym (cofaces_last ls l (m + 1) (i ∙ sym h.len)))
+        (sym (part_last (λ k. k.faces) ls l (m + 1) (i ∙ sym h.len))) (sym (part_last (λ k. k.cofaces) ls l (m + 1) (i ∙ sym h.len)))
         (subst (λ (d : ℕ). Fits (level all m) (level all d) l.faces l.cofaces) (sym i) (f m i))
     | inr d ↦ (let s : m + 1 < length ls = omega (arith, k, length_push ls l, h.len, d) in
         fits_same (level all m) (level all (m + 1)) (faces_at ls (m + 1)) (faces_at (ls ++ l ∷ []) (m + 1)) (cofaces_at ls (m + 1)) (cofaces_at (ls ++ l ∷ []) (m + 1))
-        (sym (faces_more ls l (m + 1) s)) (sym (cofaces_more ls l (m + 1) s)) (h.fits m s))
+        (sym (part_before (λ k. k.faces) ls l (m + 1) s)) (sym (part_before (λ k. k.cofaces) ls l (m + 1) s)) (h.fits m s))
   ];
 })
 
@@ -114,11 +92,8 @@ faces_below ks n m h e = each_of (λ s. Each (λ t. Among t (of_degree n ks)) (f
     let less : length t ≡ n + 1 = omega (arith, each_among (λ u. length u + 1 ≡ length s) t (faces s) (faces_size s) a, size, e) in
     in_filter (λ u. eqb (length u) (n + 1)) ks t (h.faces s t p.0 (each_among (λ u. Among u (sublists s)) t (faces s) (faces_are_sublists s (omega (arith, size, e))) a)) (test_of_length t (n + 1) less)))
 
-pub places_below : (lower upper : List (List ℕ)) (pss : List (List ℕ)) → ArePlacesOf lower upper pss → Each (λ ps. Each (λ x. x < length lower) ps) pss
-places_below lower [] [] h = tt
-places_below lower [] (p ∷ ps) h = absurd h
-places_below lower (s ∷ ss) [] h = absurd h
-places_below lower (s ∷ ss) (p ∷ ps) h = (h.0.below, places_below lower ss ps h.1)
+pub places_below : (lower upper pss : List (List ℕ)) → ArePlacesOf lower upper pss → Each (λ ps. Each (λ x. x < length lower) ps) pss
+places_below lower upper pss h = each_right (ArePlaces lower) (λ ps. Each (λ x. x < length lower) ps) (λ s ps r. r.below) upper pss h
 
 pub length_filter : (p : List ℕ → Bool) (ks : List (List ℕ)) → length (filter p ks) ≤ length ks
 length_filter p [] = omega arith
@@ -135,10 +110,7 @@ length_bound ks n h l = elim l.top [
 ]
 
 pub places_length : (lower upper pss : List (List ℕ)) → ArePlacesOf lower upper pss → length pss ≡ length upper
-places_length lower [] [] h = refl
-places_length lower [] (p ∷ ps) h = absurd h
-places_length lower (s ∷ ss) [] h = absurd h
-places_length lower (s ∷ ss) (p ∷ ps) h = ap suc (places_length lower ss ps h.1)
+places_length lower upper pss h = length_alike (ArePlaces lower) upper pss h
 
 pub few_places : (lower upper pss : List (List ℕ)) (n : ℕ) → ArePlacesOf lower upper pss → length upper < n → length pss < n
 few_places lower upper pss n h l = omega (arith, places_length lower upper pss h)
@@ -170,10 +142,8 @@ none_of_degree : (ks : List (List ℕ)) (n m : ℕ) → Each (λ s. length s ≤
 none_of_degree [] n m h l = refl
 none_of_degree (s ∷ ss) n m h l = none_step (eqb (length s) (n + 1)) s (of_degree n ss) (not_size s n m h.0 l) (none_of_degree ss n m h.1 l)
 
-level_past : (ls : List (List (List ℕ))) (n : ℕ) → length ls ≤ n → level ls n ≡ []
-level_past [] n h = refl
-level_past (l ∷ ls) zero h = absurd (omega arith)
-level_past (l ∷ ls) (suc n) h = level_past ls n (omega arith)
+pub level_inside : (ls : List (List (List ℕ))) (n k : ℕ) → k < length (level ls n) → n < length ls
+level_inside ls n k b = elim (cases_lt n (length ls)) [ inl l ↦ l | inr g ↦ absurd (omega (arith, b, ap length (get_or_past ls n [] g))) ]
 
 -- a list has a sublist of each size up to its own
 sublist_of_size : (s : List ℕ) (n : ℕ) → n < length s → (t : List ℕ) × (Among t (sublists s) × (length t ≡ n + 1))
@@ -196,7 +166,7 @@ degree_inhabited ks n top c l h = elim l.top [
 all_levels : (ks : List (List ℕ)) (ls : List (List (List ℕ))) → AreLevelsOf ks ls → (n : ℕ) → level ls n ≡ of_degree n ks
 all_levels ks ls h n = elim (cases_lt n (length ls)) [
   | inl a ↦ h.levels n a
-  | inr b ↦ level_past ls n b ∙ sym (none_of_degree ks n (length ls) h.largest.bound b)
+  | inr b ↦ get_or_past ls n [] b ∙ sym (none_of_degree ks n (length ls) h.largest.bound b)
 ]
 
 pub index_is : (facets : List (List ℕ)) (ls : List (List (List ℕ))) → Each IsAscending facets → AreLevelsOf (simplices facets) ls → IsIndexOf facets ls
@@ -232,25 +202,10 @@ index_made facets all ls a t f h i = record {
 -- ---- as the code has them
 
 pub nothing_past : (ls : List Level) (n : ℕ) → length ls ≤ n → length (level (lists ls) n) ≡ 0
-nothing_past ls n h = ap length (level_past (lists ls) n (omega (arith, length_lists ls)))
+nothing_past ls n h = ap length (get_or_past (lists ls) n [] (omega (arith, length_lists ls)))
 
 pub inside_is : (ls : List Level) (n k : ℕ) → k < length (level (lists ls) n) → n < length ls
-inside_is ls n k h = elim (cases_lt n (length ls)) [ inl l ↦ l | inr g ↦ absurd (omega (arith, h, nothing_past ls n g)) ]
-
-pub simplices_is : (ls : List Level) (i : ℕ) (l : Level) → i < length ls → l ≡ get_or ls i l → l.simplices ≡ level (lists ls) i
-simplices_is [] i l h e = absurd (omega arith)
-simplices_is (k ∷ ls) zero l h e = ap (λ (m : Level). m.simplices) e
-simplices_is (k ∷ ls) (suc i) l h e = simplices_is ls i l (omega arith) e
-
-pub faces_is : (ls : List Level) (i : ℕ) (l : Level) → i < length ls → l ≡ get_or ls i l → l.faces ≡ faces_at ls i
-faces_is [] i l h e = absurd (omega arith)
-faces_is (k ∷ ls) zero l h e = ap (λ (m : Level). m.faces) e
-faces_is (k ∷ ls) (suc i) l h e = faces_is ls i l (omega arith) e
-
-pub cofaces_is : (ls : List Level) (i : ℕ) (l : Level) → i < length ls → l ≡ get_or ls i l → l.cofaces ≡ cofaces_at ls i
-cofaces_is [] i l h e = absurd (omega arith)
-cofaces_is (k ∷ ls) zero l h e = ap (λ (m : Level). m.cofaces) e
-cofaces_is (k ∷ ls) (suc i) l h e = cofaces_is ls i l (omega arith) e
+inside_is ls n k h = omega (arith, level_inside (lists ls) n k h, length_lists ls)
 
 pub present_at : (ls : List (List (List ℕ))) (n : ℕ) (lower upper : List (List ℕ)) → AreLevels ls → 0 < n → lower ≡ level ls (n - 1) → upper ≡ level ls n → Each (λ s. Each (λ t. Among t lower) (faces s)) upper
 present_at ls zero lower upper a o e f = absurd (omega arith)
@@ -280,8 +235,4 @@ sized_at ls n s i m = (each_among (λ t. length t ≡ n + 1) s (level (lists ls)
 pub nowhere_else : (ls : List Level) (n : ℕ) (s : List ℕ) (l : List (List ℕ)) → IsIndex ls → l ≡ level (lists ls) (length s - 1) → (Among (s ++ []) l → ⊥) → Among s (level (lists ls) n) → ⊥
 nowhere_else ls n s l i e f m =
     let size : n ≡ length s - 1 = omega (arith, (sized_at ls n s i m).0) in
-    f (subst (λ (t : List ℕ). Among t l) (nothing_behind s) (subst (Among s) (ap (level (lists ls)) size ∙ sym e) m))
-  where
-    nothing_behind : (xs : List ℕ) → xs ≡ xs ++ []
-    nothing_behind [] = refl
-    nothing_behind (x ∷ xs) = ap (λ ys. x ∷ ys) (nothing_behind xs)
+    f (subst (λ (t : List ℕ). Among t l) (sym (append-nil s)) (subst (Among s) (ap (level (lists ls)) size ∙ sym e) m))

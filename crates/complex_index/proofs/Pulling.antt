@@ -1,30 +1,21 @@
 -- Maps of vertices, and the values of pull-backs.
-use Rattle.std.proofs.Common.{◌≡◌, ℕ, zero, suc, ◌+◌, ◌*◌, ◌<◌, ◌≤◌, inl, inr, arith, refl, sym, ◌∙◌, ap, ap₂, subst, List, [], ◌∷◌, ◌++◌, map, length, take, get_or, max, Bool, true, false, cond, eqb, slice_set}
-use Rattle.std.proofs.lemmas.Bool.{cases_eq, cases_lt, eq-eqb}
+use Rattle.std.proofs.Common.{◌≡◌, ℕ, zero, suc, ◌+◌, ◌*◌, ◌<◌, ◌≤◌, inl, inr, arith, refl, sym, ◌∙◌, ap, ap₂, subst, List, [], ◌∷◌, ◌++◌, map, length, take, get_or, max, Bool, true, false, cond, eqb, slice_set, eq-eqb, get_or-set_other, get_or-set_same}
 use Rattle.std.proofs.lemmas.Bool.Decides.{eqb_tells}
-use Rattle.std.proofs.lemmas.List.{get_or-set_other, get_or-set_same, take_more}
+use Rattle.std.proofs.lemmas.List.{take_more}
 use Rattle.std.proofs.lemmas.List.Sums.{fold_more}
 use Rattle.std.specs.List.Sorted.{IsStrictlySortedBy}
-use Rattle.signed_sum.specs.Lists.{is_degenerate}
-use Rattle.linear_law.specs.Congruence.{Congruent, sum_over}
-use Rattle.linear_law.specs.Lists.{Among, Each, IsAscending}
-use Rattle.linear_law.specs.Listing.{unit_vector}
-use Rattle.linear_law.proofs.CongruenceLemmas.{Congruent_of}
-use Rattle.linear_law.proofs.ListLemmas.{each_get_or, each_map}
-use Rattle.simplicial_law.specs.Cochains.{unit_cochain}
-use Rattle.simplicial_law.specs.CanonicalClasses.{cochain_of}
-use Rattle.simplicial_law.specs.ListedSimplices.{simplex_cmp}
-use Rattle.simplicial_law.specs.Places.{terms_of}
-use Rattle.simplicial_law.proofs.UnitCochains.{unit_away}
-use Rattle.steenrod_law.specs.Operations.{pull_back}
+use Rattle.signed_sum.specs.Names.{is_degenerate}
+use Rattle.linear_law.specs.Names.{Among, Each, IsAscending, unit_vector}
+use Rattle.linear_law.proofs.Names.{Congruent_of, each_get_or, each_map, each_push}
+use Rattle.simplicial_law.specs.Names.{unit_cochain, cochain_of, simplex_cmp, terms_of}
+use Rattle.simplicial_law.proofs.Names.{unit_away}
+use Rattle.steenrod_law.specs.Names.{pull_back}
 use Rattle.steenrod_law.proofs.Complexes.{ascending-plain}
 use Rattle.sparse_rows.specs.Rows.{IsBelow, value_in}
+use Rattle.sparse_rows.proofs.RowLemmas.{value_in-past}
 use Rattle.simplex_set.proofs.Sizes.{among_place}
-use Rattle.complex_index.specs.Levels.{level}
-use Rattle.complex_index.specs.Maps.{IsPullBackOf, image_of}
+use Rattle.complex_index.specs.Names.{level, IsPullBackOf, image_of}
 use Rattle.complex_index.proofs.Alternating.{pair_value, unit_at_place}
-use Rattle.complex_index.proofs.FacePlaces.{each_push}
-use Rattle.complex_index.proofs.RowLemmas.{value_beyond}
 
 -- ---- images
 
@@ -104,7 +95,7 @@ pub one_more_value : (w : ℕ → ℕ) (i v : ℕ) (old new : List (ℕ × ℕ))
     → ((k : ℕ) → k < i → value_in old k ≡ w k) → (k : ℕ) → k < i + 1 → value_in new k ≡ w k
 one_more_value w i v old new b e s h k l = elim (eqb_tells i k) [
   | inl q ↦ (let z : cond (eqb i k) v 0 ≡ v = ap (λ (t : Bool). cond t v 0) q.0 in
-      omega (arith, s k, value_beyond i k old b (omega (arith, q.1)), sym (pair_value i v k), z, e, ap w q.1))
+      omega (arith, s k, value_in-past i k old b (omega (arith, q.1)), sym (pair_value i v k), z, e, ap w q.1))
   | inr q ↦ (let z : cond (eqb i k) v 0 ≡ 0 = ap (λ (t : Bool). cond t v 0) q.0 in
       omega (arith, s k, h k (omega (arith, l, q.1)), sym (pair_value i v k), z))
 ]

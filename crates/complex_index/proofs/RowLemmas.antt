@@ -1,50 +1,17 @@
 -- Rows of coboundaries and of boundaries, at a degree of an index.
-use Rattle.std.proofs.Common.{◌≡◌, ℕ, zero, suc, ◌+◌, ◌-◌, ◌*◌, ◌%◌, ◌<◌, ◌≤◌, inl, inr, arith, refl, sym, ◌∙◌, ap, subst, List, [], ◌∷◌, ◌++◌, map, take, take_all, length, get_or, cond, eqb, true, false, Result, Ok, Err, mod-eq_of_lt, sub-one}
-use native.Mathlib.Nat.{zero-mod}
+use Rattle.std.proofs.Common.{◌≡◌, ℕ, zero, suc, ◌+◌, ◌-◌, ◌*◌, ◌%◌, ◌<◌, ◌≤◌, arith, refl, sym, ◌∙◌, ap, subst, List, [], ◌∷◌, ◌++◌, map, take, take_all, length, get_or, true, false, Result, Ok, Err, mod-eq_of_lt, sub-one}
 use Rattle.std.specs.Result.{IfOk}
 use Rattle.std.specs.declared.alloc.AllocError.{AllocError}
 use Rattle.std.specs.List.{AllZip}
-use Rattle.std.proofs.lemmas.Bool.{cases_lt, eq-eqb}
-use Rattle.std.proofs.lemmas.Bool.Decides.{eqb_tells}
 use Rattle.std.proofs.lemmas.List.{map-append, take_more}
-use Rattle.complex_index.specs.declared.levels.Level.{Level}
-use Rattle.linear_law.specs.Congruence.{Congruent}
-use Rattle.linear_law.specs.Lists.{Among, Each}
-use Rattle.linear_law.proofs.CongruenceLemmas.{Congruent_mod, Congruent_of, Congruent_trans}
-use Rattle.linear_law.proofs.ListLemmas.{each_among, zip_push}
-use Rattle.simplicial_law.specs.Cochains.{Cochain, coboundary, unit_cochain}
-use Rattle.simplicial_law.specs.CanonicalClasses.{cochain_of}
-use Rattle.simplicial_law.specs.Places.{IsCoboundaryRow, terms_of}
-use Rattle.simplicial_law.proofs.ListedSimplices.{each_of}
+use Rattle.complex_index.specs.Names.{Level, IsBoundaryOf, IsCoboundaryOf, boundary_coefficient, shrunk, spread, Fits, IsIndex, lists, level, cofaces_at, faces_at}
+use Rattle.linear_law.specs.Names.{Congruent, Each}
+use Rattle.linear_law.proofs.Names.{Congruent_mod, Congruent_of, Congruent_trans, each_push, zip_push}
+use Rattle.simplicial_law.specs.Names.{Cochain, coboundary, unit_cochain, cochain_of, IsCoboundaryRow, terms_of}
 use Rattle.sparse_rows.specs.Rows.{IsBelow, IsRow, value_in}
-use Rattle.complex_index.specs.Chains.{IsBoundaryOf, IsCoboundaryOf, boundary_coefficient, shrunk, spread}
-use Rattle.complex_index.specs.Levels.{Fits, IsIndex, lists, level, cofaces_at, faces_at}
-use Rattle.complex_index.proofs.Alternating.{boundary_is, coboundary_is, pair_value, shrunk_below, spread_below}
-use Rattle.complex_index.proofs.FacePlaces.{each_push}
+use Rattle.sparse_rows.proofs.RowLemmas.{below_of_sum}
+use Rattle.complex_index.proofs.Alternating.{boundary_is, coboundary_is, shrunk_below, spread_below}
 use Rattle.complex_index.proofs.LevelLemmas.{places_length}
-
--- ---- places in range
-
-pub value_beyond : (n k : ℕ) (pairs : List (ℕ × ℕ)) → IsBelow n pairs → n ≤ k → value_in pairs k ≡ 0
-value_beyond n k [] h l = refl
-value_beyond n k (e ∷ es) h l = omega (arith, sym (pair_value e.0 e.1 k) ∙ ap (λ b. cond b e.1 0) (apart e.0 k (omega (arith, h.0))), value_beyond n k es h.1 l)
-  where
-    apart : (x k : ℕ) → x < k → eqb x k ≡ false
-    apart x k l = elim (eqb_tells x k) [ inl h ↦ absurd (omega (arith, h.1)) | inr h ↦ h.0 ]
-
--- the value at the place of a pair is not less than its own
-own_value : (e : ℕ × ℕ) (row : List (ℕ × ℕ)) → Among e row → e.1 ≤ value_in row e.0
-own_value e [] m = elim m [ ]
-own_value e (f ∷ fs) m = elim m [
-  | inl q ↦ subst (λ (g : ℕ × ℕ). g.1 ≤ value_in (f ∷ fs) g.0) q (let one : eqb f.0 f.0 ≡ true = eq-eqb f.0 f.0 refl in omega (arith, sym (pair_value f.0 f.1 f.0) ∙ ap (λ b. cond b f.1 0) one))
-  | inr n ↦ omega (arith, own_value e fs n)
-]
-
-row_below : (p n : ℕ) (row pairs : List (ℕ × ℕ)) → IsRow p row → ((k : ℕ) → value_in row k ≡ value_in pairs k % p) → IsBelow n pairs → IsBelow n row
-row_below p n row pairs h s b = each_of (λ (e : ℕ × ℕ). e.0 < n) row (λ e m. elim (cases_lt e.0 n) [
-  | inl l ↦ l
-  | inr g ↦ absurd ((each_among (λ (u : ℕ × ℕ). (u.1 ≡ 0 → ⊥) × (u.1 < p)) e row h.values m).0 (omega (arith, own_value e row m, s e.0 ∙ ap (λ v. v % p) (value_beyond n e.0 pairs b g) ∙ zero-mod p)))
-])
 
 values_of : (p k w : ℕ) (row pairs : List (ℕ × ℕ)) → ((k : ℕ) → value_in row k ≡ value_in pairs k % p) → Congruent p (value_in pairs k) w → Congruent p (value_in row k) w
 values_of p k w row pairs s h = Congruent_trans (Congruent_of (s k)) (Congruent_trans (Congruent_mod p (value_in pairs k)) h)
@@ -56,7 +23,7 @@ pub coboundary_at : (p : ℕ) (ls : List Level) (n : ℕ) (low pairs row : List 
 coboundary_at p ls n low pairs row h i l f e s r =
     let w = i.indexed.fits n l in
     record {
-      inside = row_below p (length (level (lists ls) (n + 1))) row pairs r s
+      inside = below_of_sum p pairs row r s (length (level (lists ls) (n + 1)))
           (subst (IsBelow (length (level (lists ls) (n + 1)))) (sym e)
           (spread_below p (length (level (lists ls) (n + 1))) (faces_at ls (n + 1)) (cofaces_at ls (n + 1)) low w.cofaces (omega (arith, places_length (level (lists ls) n) (level (lists ls) (n + 1)) (faces_at ls (n + 1)) w.places))));
       values = λ k b. values_of p k (coboundary p (cochain_of (terms_of (level (lists ls) n) low)) (get_or (level (lists ls) (n + 1)) k [])) row pairs s
@@ -73,7 +40,7 @@ boundary_at p ls (suc n) high pairs row h i o l f e s r =
     let At : ℕ → Type 0 = λ d. IsBelow (length (level (lists ls) d)) row
     × ((k : ℕ) → k < length (level (lists ls) d) → Congruent p (value_in row k) (boundary_coefficient p (terms_of (level (lists ls) (suc n)) high) (get_or (level (lists ls) d) k []))) in
     let made : At (suc n - 1) = subst At (sym (sub-one (suc n))) (
-      row_below p (length (level (lists ls) n)) row pairs r s
+      below_of_sum p pairs row r s (length (level (lists ls) n))
           (subst (IsBelow (length (level (lists ls) n))) (sym e) (shrunk_below p (level (lists ls) n) (level (lists ls) (suc n)) (faces_at ls (suc n)) high w.places)),
       λ k b. values_of p k (boundary_coefficient p (terms_of (level (lists ls) (suc n)) high) (get_or (level (lists ls) n) k [])) row pairs s
           (subst (λ (ts : List (ℕ × ℕ)). Congruent p (value_in ts k) (boundary_coefficient p (terms_of (level (lists ls) (suc n)) high) (get_or (level (lists ls) n) k []))) (sym e)

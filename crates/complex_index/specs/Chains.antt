@@ -1,9 +1,7 @@
 -- Boundaries of chains, and the pairs of a place and a value that the code makes.
 use Rattle.std.specs.Prelude.{ℕ, ◌+◌, ◌-◌, ◌*◌, ◌%◌, ◌<◌, Bool, false, not, cond, List, [], ◌∷◌, ◌++◌, map, length, get_or}
-use Rattle.linear_law.specs.Congruence.{Congruent, negated, sum_over}
-use Rattle.simplicial_law.specs.Cochains.{Chain, boundary, coboundary, pairing, unit_cochain}
-use Rattle.simplicial_law.specs.CanonicalClasses.{cochain_of}
-use Rattle.simplicial_law.specs.Places.{terms_of}
+use Rattle.linear_law.specs.Names.{Congruent, negated, sum_over}
+use Rattle.simplicial_law.specs.Names.{Chain, boundary, coboundary, pairing, unit_cochain, cochain_of, terms_of}
 use Rattle.sparse_rows.specs.Rows.{IsBelow, value_in}
 use Rattle.complex_index.specs.declared.cofaces.Coface.{Coface}
 use Rattle.complex_index.specs.Levels.{level}

@@ -1,9 +1,10 @@
 -- The faces of simplices, and the simplices above each, by their places in lists of simplices.
-use Rattle.std.specs.Prelude.{◌≡◌, ℕ, zero, suc, ◌-◌, ◌<◌, ◌≤◌, ◌==◌, Bool, false, not, cond, List, [], ◌∷◌, ◌++◌, map, length, get_or, take, drop, Vec}
+use Rattle.std.specs.Prelude.{◌≡◌, ℕ, suc, ◌-◌, ◌<◌, ◌≤◌, ◌==◌, Bool, false, not, cond, List, [], ◌∷◌, ◌++◌, map, length, get_or, take, drop, Vec}
+use Rattle.std.specs.List.{AllZip}
 use Rattle.std.specs.declared.alloc.Global.{Global}
 use Rattle.complex_index.specs.declared.cofaces.Coface.{Coface}
-use Rattle.linear_law.specs.Lists.{Each}
-use Rattle.simplicial_law.specs.Cochains.{faces}
+use Rattle.linear_law.specs.Names.{Each}
+use Rattle.simplicial_law.specs.Names.{faces}
 
 -- the simplex at a place
 abbrev pub simplex_at : List (List ℕ) → ℕ → List ℕ
@@ -22,10 +23,7 @@ pub record AddsPlaces (lower : List (List ℕ)) (s old new : List ℕ) : Type 0 
 
 -- each list has the places of the faces of the simplex at its place
 abbrev pub ArePlacesOf : List (List ℕ) → List (List ℕ) → List (List ℕ) → Type 0
-ArePlacesOf lower [] [] = Unit {0}
-ArePlacesOf lower [] (p ∷ ps) = ⊥
-ArePlacesOf lower (s ∷ ss) [] = ⊥
-ArePlacesOf lower (s ∷ ss) (p ∷ ps) = ArePlaces lower s p × ArePlacesOf lower ss ps
+ArePlacesOf lower upper pss = AllZip (ArePlaces lower) upper pss
 
 -- the simplex y, once for each place of x among the places of its faces
 abbrev pub marks : ℕ → ℕ → Bool → List ℕ → List Coface
@@ -44,9 +42,7 @@ lists_of {X} vs = map (λ (v : Vec X Global). v.items) vs
 
 -- the list at a place, none past the last
 abbrev pub list_at : {X : Type 0} → List (Vec X Global) → ℕ → List X
-list_at [] x = []
-list_at (v ∷ vs) zero = v.items
-list_at (v ∷ vs) (suc x) = list_at vs x
+list_at vs x = get_or (lists_of vs) x []
 
 -- the parts of a list from each bound to the next
 abbrev pub parts : {X : Type 0} → List ℕ → List X → List (List X)

@@ -1,13 +1,10 @@
 -- The simplices of a complex by degree and place.
-use Rattle.std.specs.Prelude.{◌≡◌, ℕ, zero, suc, ◌+◌, ◌^◌, ◌<◌, ◌≤◌, List, [], ◌∷◌, map, length, get_or}
+use Rattle.std.specs.Prelude.{◌≡◌, ℕ, ◌+◌, ◌^◌, ◌<◌, ◌≤◌, List, [], map, length, get_or}
 use Rattle.std.specs.List.Sorted.{IsStrictlySortedBy}
 use Rattle.complex_index.specs.declared.cofaces.Coface.{Coface}
 use Rattle.complex_index.specs.declared.levels.Level.{Level}
-use Rattle.linear_law.specs.Lists.{Among, Each}
-use Rattle.linear_law.specs.Listing.{ListsAll}
-use Rattle.simplicial_law.specs.Simplices.{IsInOrder, IsSimplex}
-use Rattle.simplicial_law.specs.Cochains.{faces}
-use Rattle.simplicial_law.specs.ListedSimplices.{simplex_cmp}
+use Rattle.linear_law.specs.Names.{Among, Each, ListsAll}
+use Rattle.simplicial_law.specs.Names.{IsInOrder, IsSimplex, faces, simplex_cmp}
 use Rattle.complex_index.specs.Incidence.{ArePlacesOf, above_at}
 
 -- the simplices of degree n, none past the last level
@@ -39,14 +36,10 @@ abbrev pub lists : List Level → List (List (List ℕ))
 lists ls = map (λ (l : Level). l.simplices) ls
 
 abbrev pub faces_at : List Level → ℕ → List (List ℕ)
-faces_at [] n = []
-faces_at (l ∷ ls) zero = l.faces
-faces_at (l ∷ ls) (suc n) = faces_at ls n
+faces_at ls n = get_or (map (λ (l : Level). l.faces) ls) n []
 
 abbrev pub cofaces_at : List Level → ℕ → List (List Coface)
-cofaces_at [] n = []
-cofaces_at (l ∷ ls) zero = l.cofaces
-cofaces_at (l ∷ ls) (suc n) = cofaces_at ls n
+cofaces_at ls n = get_or (map (λ (l : Level). l.cofaces) ls) n []
 
 -- the places of the faces of each upper simplex, and the upper simplices that stand above each lower one
 pub record Fits (lower upper pss : List (List ℕ)) (above : List (List Coface)) : Type 0 where

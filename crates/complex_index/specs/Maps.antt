@@ -1,9 +1,8 @@
 -- Maps of complexes, and pull-backs of cochains by place.
 use Rattle.std.specs.Prelude.{◌≡◌, ℕ, ◌<◌, ◌==◌, cond, fold, List, [], length, get_or}
-use Rattle.linear_law.specs.Congruence.{Congruent}
-use Rattle.simplicial_law.specs.CanonicalClasses.{cochain_of}
-use Rattle.simplicial_law.specs.Places.{terms_of}
-use Rattle.steenrod_law.specs.Operations.{pull_back}
+use Rattle.linear_law.specs.Names.{Congruent}
+use Rattle.simplicial_law.specs.Names.{cochain_of, terms_of}
+use Rattle.steenrod_law.specs.Names.{pull_back}
 use Rattle.sparse_rows.specs.Rows.{IsBelow, value_in}
 use Rattle.complex_index.specs.Levels.{level}
 

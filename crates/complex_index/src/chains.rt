@@ -1,7 +1,7 @@
 ghost use Rattle.std.specs.Prelude.{◌≡◌, ◌++◌, false, map, length, IfOk, OnOk, IsTrue};
 ghost use Rattle.fp_field.specs.Served.{served};
 ghost use Rattle.sparse_rows.specs.Rows.{IsBelow};
-ghost use Rattle.complex_index.specs.Chains.{pair_of, shrunk, signed_places, signed_value as signed_value_is, spread};
+ghost use Rattle.complex_index.specs.Names.{pair_of, shrunk, signed_places, signed_value as signed_value_is, spread};
 
 use crate::cofaces::{Coface, Cofaces};
 use fp_field::Fp;

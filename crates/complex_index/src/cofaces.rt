@@ -1,5 +1,5 @@
 ghost use Rattle.std.specs.Prelude.{◌≡◌, ℕ, ◌<◌, ◌^◌, ◌++◌, ◌∷◌, [], ◌==◌, cond, false, length, get_or, IfOk, OnOk};
-ghost use Rattle.linear_law.specs.Lists.{Each};
+ghost use Rattle.linear_law.specs.Names.{Each};
 
 use simplex_set::FlatLists;
 use std::alloc::{AllocError, Global};
@@ -33,7 +33,7 @@ impl Model for Cofaces {
     ghost invariant = { λ c. AreBounds (length c.items.items) c.bounds.items };
 }
 
-ghost use Rattle.complex_index.specs.Incidence.{marks, above_at, list_at, lists_of};
+ghost use Rattle.complex_index.specs.Names.{marks, above_at, list_at, lists_of};
 
 impl Cofaces {
     // None for no simplex.

@@ -1,9 +1,8 @@
 ghost use Rattle.std.specs.Prelude.{◌≡◌, ◌<◌, ◌^◌, [], length, get_or, IfOk, OnOk};
 ghost use Rattle.std.specs.List.Sorted.{IsStrictlySortedBy};
-ghost use Rattle.linear_law.specs.Lists.{Among, Each};
-ghost use Rattle.simplicial_law.specs.Cochains.{faces};
-ghost use Rattle.simplicial_law.specs.ListedSimplices.{simplex_cmp};
-ghost use Rattle.complex_index.specs.Incidence.{AddsPlaces, ArePlacesOf};
+ghost use Rattle.linear_law.specs.Names.{Among, Each};
+ghost use Rattle.simplicial_law.specs.Names.{faces, simplex_cmp};
+ghost use Rattle.complex_index.specs.Names.{AddsPlaces, ArePlacesOf};
 
 use simplex_set::FlatLists;
 use std::alloc::{AllocError, Global};

@@ -1,14 +1,12 @@
 ghost use Rattle.std.specs.Prelude.{◌≡◌, ℕ, ◌+◌, ◌-◌, ◌<◌, ◌≤◌, ◌^◌, [], length, map, get_or, IfOk, IsTrue, MatchOption};
 ghost use Rattle.std.specs.List.{AllZip};
 ghost use Rattle.std.specs.List.Sorted.{IsStrictlySortedBy};
-ghost use Rattle.linear_law.specs.Lists.{Among, Each, IsAscending};
-ghost use Rattle.simplicial_law.specs.ListedSimplices.{simplex_cmp, simplices};
-ghost use Rattle.simplicial_law.specs.Places.{IsCoboundaryRow};
+ghost use Rattle.linear_law.specs.Names.{Among, Each, IsAscending};
+ghost use Rattle.simplicial_law.specs.Names.{simplex_cmp, IsCoboundaryRow};
+ghost use Rattle.simplicial_law.specs.ListedSimplices.{simplices};
 ghost use Rattle.fp_field.specs.Served.{served};
 ghost use Rattle.sparse_rows.specs.Rows.{IsBelow, value_in};
-ghost use Rattle.complex_index.specs.Chains.{IsBoundaryOf, IsCoboundaryOf};
-ghost use Rattle.complex_index.specs.Incidence.{ArePlaces};
-ghost use Rattle.complex_index.specs.Levels.{IsComplexIndex, IsIndexOf, level};
+ghost use Rattle.complex_index.specs.Names.{IsBoundaryOf, IsCoboundaryOf, ArePlaces, IsComplexIndex, IsIndexOf, level};
 
 use crate::chains::{boundary_pairs, coboundary_pairs};
 use crate::levels::{Level, levels_of};

@@ -1,8 +1,7 @@
 ghost use Rattle.std.specs.Prelude.{◌≡◌, ℕ, ◌+◌, ◌<◌, ◌^◌, length, IfOk};
 ghost use Rattle.std.specs.List.Sorted.{IsStrictlySortedBy};
-ghost use Rattle.linear_law.specs.Lists.{Among, Each};
-ghost use Rattle.simplicial_law.specs.Cochains.{faces};
-ghost use Rattle.simplicial_law.specs.ListedSimplices.{simplex_cmp};
+ghost use Rattle.linear_law.specs.Names.{Among, Each};
+ghost use Rattle.simplicial_law.specs.Names.{faces, simplex_cmp};
 
 use crate::cofaces::{Cofaces, cofaces_of};
 use crate::incidence::face_places;
@@ -18,7 +17,7 @@ pub(crate) struct Level {
     pub cofaces: Cofaces,
 }
 
-ghost use Rattle.complex_index.specs.Levels.{AreLevels, Fits, IsIndexed, level};
+ghost use Rattle.complex_index.specs.Names.{AreLevels, Fits, IsIndexed, level};
 
 // A level over the one below.
 fn level_over(

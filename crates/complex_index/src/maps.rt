@@ -1,15 +1,11 @@
 ghost use Rattle.std.specs.Prelude.{◌≡◌, ℕ, ◌+◌, ◌*◌, ◌^◌, ◌<◌, [], length, get_or, map as list_map, IfOk, OnOk, IsTrue};
 ghost use Rattle.std.specs.List.Sorted.{IsStrictlySortedBy};
-ghost use Rattle.linear_law.specs.Lists.{Each, IsAscending};
-ghost use Rattle.linear_law.specs.Listing.{unit_vector};
-ghost use Rattle.simplicial_law.specs.CanonicalClasses.{cochain_of};
-ghost use Rattle.simplicial_law.specs.ListedSimplices.{simplex_cmp};
-ghost use Rattle.simplicial_law.specs.Places.{terms_of};
-ghost use Rattle.steenrod_law.specs.Operations.{pull_back};
+ghost use Rattle.linear_law.specs.Names.{Each, IsAscending, unit_vector};
+ghost use Rattle.simplicial_law.specs.Names.{cochain_of, simplex_cmp, terms_of};
+ghost use Rattle.steenrod_law.specs.Names.{pull_back};
 ghost use Rattle.fp_field.specs.Served.{served};
 ghost use Rattle.sparse_rows.specs.Rows.{IsBelow, value_in};
-ghost use Rattle.complex_index.specs.Levels.{level};
-ghost use Rattle.complex_index.specs.Maps.{IsPullBackOf, image_of};
+ghost use Rattle.complex_index.specs.Names.{level, IsPullBackOf, image_of};
 
 use crate::{Cochain, Indexed};
 use fp_field::Fp;

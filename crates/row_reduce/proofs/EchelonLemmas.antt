@@ -1,39 +1,19 @@
 -- One more row of the reduced echelon list, from the last lead to the first.
-use Rattle.std.proofs.Common.{◌≡◌, ℕ, ◌+◌, ◌*◌, ◌-◌, ◌%◌, ◌<◌, ◌≤◌, ◌≢◌, List, [], ◌∷◌, ◌++◌, take, reverse, length, get_or, arith, refl, sym, ap, ◌∙◌, subst, inl, inr}
+use Rattle.std.proofs.Common.{◌≡◌, ℕ, ◌+◌, ◌*◌, ◌-◌, ◌%◌, ◌<◌, ◌≤◌, List, [], ◌∷◌, take, reverse, length, get_or, arith, refl, sym, ap, ◌∙◌, subst, inl, inr, Bool, Option, None}
 use Rattle.std.proofs.lemmas.Bool.{cases_eq}
 use Rattle.std.proofs.lemmas.Grind.{reverse_onto}
-use Rattle.linear_law.specs.Congruence.{Congruent, IsField, negated, sum_over}
-use Rattle.linear_law.specs.Lists.{Each}
-use Rattle.linear_law.specs.Elimination.{ImageVector}
-use Rattle.linear_law.proofs.CongruenceLemmas.{Congruent_add, Congruent_from, Congruent_mod, Congruent_mul, Congruent_of, Congruent_refl, Congruent_scale, Congruent_sym, Congruent_trans, add-negated}
-use Rattle.linear_law.proofs.ListLemmas.{each_get_or, each_map, each_of_map, each_zip}
-use Rattle.linear_law.proofs.ReducedLemmas.{sum_vanishes}
-use Rattle.linear_law.proofs.SumLemmas.{sum_append}
+use Rattle.linear_law.specs.Names.{Congruent, IsField, negated, sum_over, Each, ImageVector}
+use Rattle.linear_law.proofs.Names.{Congruent_add, Congruent_from, Congruent_mod, Congruent_mul, Congruent_of, Congruent_refl, Congruent_scale, Congruent_sym, Congruent_trans, add-negated, each_get_or, each_map, each_of_map, each_zip, sum_vanishes, sum_append}
 use Rattle.sparse_rows.specs.Rows.{IsBelow, value_in}
-use Rattle.sparse_rows.proofs.RowLemmas.{value_in-none}
-use Rattle.row_reduce.specs.declared.EchelonRow.{EchelonRow}
-use Rattle.row_reduce.specs.declared.Stored.{Stored}
-use Rattle.row_reduce.specs.Stored.{StoredFits}
-use Rattle.row_reduce.specs.Walk.{IsFrom, image_of}
-use Rattle.row_reduce.specs.Triangular.{IsSolvedStored}
-use Rattle.row_reduce.specs.Pivots.{IsLeadIn, IsMarkedIn}
-use Rattle.std.specs.Prelude.{Bool, Option, None}
-use Rattle.row_reduce.specs.Expansion.{AreOlder}
-use Rattle.row_reduce.specs.Echelon.{AreEchelon, IsEchelonRow, IsMadeFrom, cleared, combination_of, pivot_of, row_of}
+use Rattle.sparse_rows.proofs.RowLemmas.{sum_take, value_in-past}
+use Rattle.row_reduce.specs.Names.{EchelonRow, Stored, StoredFits, IsFrom, image_of, IsSolvedStored, IsLeadIn, IsMarkedIn, AreOlder, AreEchelon, IsEchelonRow, IsMadeFrom, cleared, combination_of, pivot_of, row_of, Gives}
 use Rattle.row_reduce.proofs.HistoryLemmas.{each_number, below_wider, from_wider}
-use Rattle.sparse_rows.proofs.RowLemmas.{sum_take}
-use Rattle.row_reduce.specs.Elimination.{Gives}
 use Rattle.row_reduce.proofs.GivesLemmas.{cleared_at, gives_alike, gives_scale, gives_sum, images_give}
 
 pub sum_reverse : {X : Type 0} (f : X → ℕ) (xs : List X) → sum_over f (reverse xs) ≡ sum_over f xs
 sum_reverse f [] = refl
 sum_reverse f (x ∷ xs) =
     ap (sum_over f) (reverse_onto xs x []) ∙ sum_append f (reverse xs) (x ∷ []) ∙ omega (arith, sum_reverse f xs)
-
-pub reverse_push : {X : Type 0} (xs : List X) (x : X) → reverse (xs ++ (x ∷ [])) ≡ x ∷ reverse xs
-reverse_push [] x = refl
-reverse_push {X = X} (y ∷ xs) x =
-    reverse_onto (xs ++ (x ∷ [])) y [] ∙ ap (λ (ys : List X). ys ++ (y ∷ [])) (reverse_push xs x) ∙ ap (λ (ys : List X). x ∷ ys) (sym (reverse_onto xs y []))
 
 -- what `add_scaled` gives
 pub added_is : (p new old by at g v : ℕ) → new ≡ (old + by * v) % p → by ≡ negated p at % p → at ≡ g → Congruent p new (old + negated p g * v)
@@ -177,7 +157,7 @@ module _ (p width : ℕ) (field : IsField p) (rows : List (List (ℕ × ℕ))) (
       rows_are = made.rows_are;
       starts = record { before = starts };
       wide = λ y b.
-          row_zero y (Congruent_of (value_in-none s.row y (each_map {Q = λ (f : ℕ × ℕ). f.0 ≢ y} (λ f g q. absurd (omega arith)) s.row fits.entries)))
+          row_zero y (Congruent_of (value_in-past width y s.row fits.entries b))
           (each_map {Q = λ (d : EchelonRow p). Congruent p (row_of d y) 0} (λ d g. g.wide y b) (reverse forward) h.each);
       from = gives.from;
       apart = gives.apart;
@@ -186,7 +166,7 @@ module _ (p width : ℕ) (field : IsField p) (rows : List (List (ℕ × ℕ))) (
           let number : s.source < length rows =
           subst (λ (t : Stored p). t.source < length rows) (sym is) (each_get_or (λ (t : Stored p). t.source < length rows) stored k s inside given.numbered) in
           let below : IsBelow (length rows) made.start = made.vector.below (length rows) given.numbered number in
-          combination_zero x (Congruent_of (value_in-none made.start x (each_map {Q = λ (f : ℕ × ℕ). f.0 ≢ x} (λ f g q. absurd (omega arith)) made.start below)))
+          combination_zero x (Congruent_of (value_in-past (length rows) x made.start below b))
           (each_map {Q = λ (d : EchelonRow p). Congruent p (combination_of d x) 0} (λ d g. g.short x b) (reverse forward) h.each);
     }
 

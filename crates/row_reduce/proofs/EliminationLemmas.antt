@@ -1,27 +1,14 @@
 -- Elimination on sparse rows takes one more row.
 use Rattle.std.proofs.Common.{◌≡◌, ℕ, zero, suc, ◌+◌, ◌*◌, ◌-◌, ◌%◌, ◌<◌, ◌≤◌, ◌≢◌, List, [], ◌∷◌, ◌++◌, map, take, drop, length, get_or, arith, refl, sym, ap, ◌∙◌, subst, inl, inr, mod-eq_of_lt}
 use Rattle.std.proofs.lemmas.Bool.{cases_lt}
+use Rattle.std.proofs.lemmas.List.{reverse-append}
 use Rattle.std.specs.List.{AllZip}
-use Rattle.linear_law.specs.Congruence.{Congruent, IsField, negated, sum_over}
-use Rattle.linear_law.specs.Lists.{Among, Each, IsAscending}
-use Rattle.linear_law.specs.Listing.{unit_vector}
-use Rattle.linear_law.specs.ReducedBases.{IsReduced}
-use Rattle.linear_law.specs.Triangular.{LeadsAt, StartsAt}
-use Rattle.linear_law.proofs.CongruenceLemmas.{Congruent_add, Congruent_from, Congruent_of, Congruent_refl, Congruent_scale, Congruent_sym, Congruent_trans, add-negated}
-use Rattle.linear_law.proofs.ListLemmas.{each_alike, each_among, each_map, each_of_map, each_unmap, each_zip}
-use Rattle.linear_law.proofs.PivotLemmas.{not_zero}
-use Rattle.linear_law.proofs.ReducedLemmas.{sum_vanishes}
-use Rattle.linear_law.proofs.RowCombinations.{unit_one}
-use Rattle.linear_law.proofs.WalkSteps.{add_it, keep_it, start_it}
+use Rattle.linear_law.specs.Names.{Congruent, IsField, negated, sum_over, Among, Each, IsAscending, unit_vector, IsReduced, LeadsAt, StartsAt}
+use Rattle.linear_law.proofs.Names.{Congruent_add, Congruent_from, Congruent_of, Congruent_refl, Congruent_scale, Congruent_sym, Congruent_trans, add-negated, each_alike, each_among, each_map, each_of_map, each_unmap, each_zip, not_zero, sum_vanishes, unit_one, add_it, keep_it, start_it}
 use Rattle.sparse_rows.specs.Rows.{IsBelow, IsFirst, IsRow, value_in}
-use Rattle.sparse_rows.proofs.RowLemmas.{value_in-small}
-use Rattle.row_reduce.specs.declared.EchelonRow.{EchelonRow}
-use Rattle.row_reduce.specs.Walk.{combined}
-use Rattle.row_reduce.specs.Echelon.{cleared, combination_of, pivot_of, row_of}
-use Rattle.row_reduce.specs.Elimination.{Everywhere, Gives, IsClearedBy, IsEliminated, IsGiven, IsMonic, IsVectorRow, end_of, end_of_row}
-use Rattle.row_reduce.proofs.EchelonLemmas.{reverse_push}
-use Rattle.row_reduce.proofs.SpaceLemmas.{below_of_zero, lead_inside, make_echelon}
-use Rattle.row_reduce.specs.Space.{IsEchelonOf}
+use Rattle.sparse_rows.proofs.RowLemmas.{below_of_zero, value_in-small}
+use Rattle.row_reduce.specs.Names.{EchelonRow, combined, cleared, combination_of, pivot_of, row_of, Everywhere, Gives, IsClearedBy, IsEliminated, IsGiven, IsMonic, IsVectorRow, end_of, end_of_row, IsEchelonOf}
+use Rattle.row_reduce.proofs.SpaceLemmas.{lead_inside, make_echelon}
 use Rattle.row_reduce.proofs.GivesLemmas.{cleared_at, combined_linear, gives_alike, gives_plus, gives_scale, gives_sum, gives_unit}
 
 -- ---- a bound for the places
@@ -165,7 +152,7 @@ module _ (p : ℕ) (field : IsField p) (rows : List (List (ℕ × ℕ))) where
       images = h.images;
       walked = keep_it p (length rows) width field (combined rows) (combined_linear p width rows) (λ x. ⊥) low h.kernel h.images h.walked inside (value_in combination) one given.starts
           (record { at = λ x s. elim s [ ] }) given.apart (value_in rest) (record { at = λ y on. given.from.at y tt }) (record { at = λ y on. Congruent_of (ap (λ (r : List (ℕ × ℕ)). value_in r y) none) });
-      vectors = subst (AllZip (IsVectorRow p (length rows)) (record { place = low; vector = value_in combination } ∷ h.kernel)) (sym (reverse_push relations combination))
+      vectors = subst (AllZip (IsVectorRow p (length rows)) (record { place = low; vector = value_in combination } ∷ h.kernel)) (sym (reverse-append relations (combination ∷ [])))
           (record { is_row = rows_are.1; below = below_of_zero p (length rows) combination rows_are.1 given.skips.at; same = λ x. Congruent_refl (value_in combination x) }, h.vectors);
       listed = h.listed;
       each = each_map {Q = IsGiven p rows low (record { place = low; vector = value_in combination } ∷ h.kernel)}

@@ -1,19 +1,12 @@
 -- Values at places, as lists of pairs.
-use Rattle.std.proofs.Common.{◌≡◌, ℕ, zero, suc, ◌+◌, ◌*◌, ◌-◌, ◌%◌, ◌<◌, ◌≤◌, List, [], ◌∷◌, ◌++◌, take, drop, length, get_or, set, arith, refl, sym, ◌∙◌, ap, subst, inl, inr, get_or-set_other, get_or-set_same, length-drop}
+use Rattle.std.proofs.Common.{◌≡◌, ℕ, zero, suc, ◌+◌, ◌*◌, ◌-◌, ◌%◌, ◌<◌, ◌≤◌, List, [], ◌∷◌, ◌++◌, take, drop, length, get_or, set, arith, refl, sym, ◌∙◌, ap, subst, inl, inr, get_or-set_other, get_or-set_same, length-drop, append-nil, get_or-drop, take_all}
 use Rattle.std.proofs.Math.ListN.{drop_of_length-le}
 use Rattle.std.proofs.lemmas.Bool.{cases_eq, cases_lt}
-use Rattle.std.proofs.lemmas.List.{append-nil, get_or-drop, take_all, take_more}
-use Rattle.linear_law.specs.Congruence.{Congruent}
-use Rattle.linear_law.specs.Lists.{Each}
-use Rattle.linear_law.specs.Listing.{unit_vector}
-use Rattle.linear_law.proofs.CongruenceLemmas.{Congruent_add, Congruent_from, Congruent_mod, Congruent_of, Congruent_sym, Congruent_trans}
-use Rattle.linear_law.proofs.ListLemmas.{each_get_or}
-use Rattle.linear_law.proofs.RowCombinations.{unit_one, unit_other}
-use Rattle.linear_law.proofs.SumLemmas.{sum_append}
+use Rattle.std.proofs.lemmas.List.{take_more}
+use Rattle.linear_law.specs.Names.{Congruent, Each, unit_vector, StartsAt}
+use Rattle.linear_law.proofs.Names.{Congruent_add, Congruent_from, Congruent_mod, Congruent_of, Congruent_sym, Congruent_trans, each_get_or, unit_one, unit_other, sum_append}
 use Rattle.sparse_rows.specs.Rows.{IsBelow, value_in}
-use Rattle.row_reduce.specs.Entries.{entries_of, run_from, zipped}
-use Rattle.linear_law.specs.Triangular.{StartsAt}
-use Rattle.row_reduce.specs.Stored.{IsClear, IsRest}
+use Rattle.row_reduce.specs.Names.{entries_of, run_from, zipped, IsClear, IsRest}
 use Rattle.row_reduce.proofs.SumLemmas.{read_at}
 
 -- ---- values at places of their own
@@ -167,18 +160,10 @@ once_more p j old now new v h g = Congruent_from (Congruent_add h g) (omega arit
 
 -- ---- what is taken from a sum
 
-pub rest_length : (start : ℕ) (xs : List ℕ) → start ≤ length xs → start + length (drop start xs) ≡ length xs
-rest_length zero xs b = omega arith
-rest_length (suc start) [] b = absurd (omega arith)
-rest_length (suc start) (x ∷ xs) b = let e = rest_length start xs (omega arith) in omega arith
-
-pub slice_end : (start : ℕ) (xs : List ℕ) → take (length xs - start) (drop start xs) ≡ drop start xs
-slice_end start xs = take_all (length xs - start) (drop start xs) (let e = length-drop start xs in omega (arith, e))
-
 pub run_rest : (p start : ℕ) (old new : List ℕ) → IsClear p new → start < length old → StartsAt p start (λ y. get_or old y 0) → IsRest p old new (run_from start (drop start old))
 run_rest p start old new clear inside before = record {
   clear = clear;
-  fits = let e = rest_length start old (omega arith) in each_run (length old) start (drop start old) (omega arith);
+  fits = let e = length-drop start old in each_run (length old) start (drop start old) (omega arith);
   row = λ y. elim (cases_lt y start) [
     | inl b ↦ Congruent_trans (Congruent_of (run_before start (drop start old) y b)) (Congruent_sym (before.before y b))
     | inr b ↦

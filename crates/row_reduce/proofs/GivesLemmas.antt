@@ -1,21 +1,10 @@
 -- What combinations of given rows give.
 use Rattle.std.proofs.Common.{◌≡◌, ℕ, zero, suc, ◌+◌, ◌*◌, ◌-◌, ◌<◌, ◌≤◌, List, [], ◌∷◌, map, length, get_or, arith, refl, sym, ap, ◌∙◌, subst}
 use Rattle.std.proofs.lemmas.List.{length-map}
-use Rattle.linear_law.specs.Congruence.{Congruent, negated, sum_over}
-use Rattle.linear_law.specs.Lists.{Each}
-use Rattle.linear_law.specs.Listing.{unit_vector}
-use Rattle.linear_law.specs.ReducedBases.{AgreesOn, IsReduced}
-use Rattle.linear_law.specs.Elimination.{ImageVector, IsLinear, KernelVector}
-use Rattle.linear_law.specs.Triangular.{Skips, StartsAt, Walked}
-use Rattle.linear_law.proofs.CongruenceLemmas.{Congruent_add, Congruent_from, Congruent_of, Congruent_refl, Congruent_scale, Congruent_sym, Congruent_trans, add-negated}
-use Rattle.linear_law.proofs.ListLemmas.{each_map, each_zip}
-use Rattle.linear_law.proofs.ReducedLemmas.{sum_picks}
-use Rattle.linear_law.proofs.RowCombinations.{row_combination-linear, row_combination-row, unit_other}
+use Rattle.linear_law.specs.Names.{Congruent, negated, sum_over, Each, unit_vector, AgreesOn, IsReduced, ImageVector, IsLinear, KernelVector, Skips, StartsAt, Walked}
+use Rattle.linear_law.proofs.Names.{Congruent_add, Congruent_from, Congruent_of, Congruent_refl, Congruent_scale, Congruent_sym, Congruent_trans, add-negated, each_map, each_zip, sum_picks, row_combination-linear, row_combination-row, unit_other}
 use Rattle.sparse_rows.specs.Rows.{value_in}
-use Rattle.row_reduce.specs.declared.EchelonRow.{EchelonRow}
-use Rattle.row_reduce.specs.Walk.{combined}
-use Rattle.row_reduce.specs.Echelon.{cleared, pivot_of, row_of}
-use Rattle.row_reduce.specs.Elimination.{Gives}
+use Rattle.row_reduce.specs.Names.{EchelonRow, combined, cleared, pivot_of, row_of, Gives}
 
 -- ---- the sum of the rows times coefficients
 

@@ -1,17 +1,10 @@
 -- Stored rows and classes with the vectors behind them.
 use Rattle.std.proofs.Common.{◌≡◌, ℕ, zero, suc, ◌+◌, ◌*◌, ◌<◌, ◌≤◌, ◌⊎◌, List, [], ◌∷◌, ◌++◌, map, length, get_or, arith, refl, sym, ap, ap₂, inl, inr}
 use Rattle.std.proofs.lemmas.List.{get_or_default}
-use Rattle.linear_law.specs.Lists.{Each, Among}
-use Rattle.linear_law.specs.Elimination.{KernelVector, ImageVector}
-use Rattle.linear_law.specs.Listing.{unit_vector}
-use Rattle.row_reduce.specs.declared.Stored.{Stored}
-use Rattle.row_reduce.specs.declared.Class.{Class}
-use Rattle.linear_law.specs.Triangular.{image_place}
+use Rattle.linear_law.specs.Names.{Each, Among, KernelVector, ImageVector, unit_vector, image_place}
+use Rattle.row_reduce.specs.Names.{Stored, Class, stored_place, added_from, IsFrom, image_of, images_of, kernel_of}
 use Rattle.sparse_rows.specs.Rows.{IsBelow}
-use Rattle.row_reduce.specs.Stored.{stored_place}
-use Rattle.row_reduce.specs.Walk.{added_from, IsFrom, image_of, images_of, kernel_of}
-use Rattle.linear_law.proofs.CongruenceLemmas.{Congruent_of, Congruent_trans}
-use Rattle.linear_law.proofs.ListLemmas.{each_map, get_before}
+use Rattle.linear_law.proofs.Names.{Congruent_of, Congruent_trans, each_map, get_before}
 
 pub images_push : {p : ℕ} (ss : List (Stored p)) (fs : List (ℕ → ℕ)) (done : List (ImageVector ℕ)) (s : Stored p) (f : ℕ → ℕ) → length fs ≡ length ss
     → images_of (ss ++ (s ∷ [])) (fs ++ (f ∷ [])) done ≡ image_of s f ∷ images_of ss fs done

@@ -3,29 +3,15 @@ use Rattle.std.proofs.Common.{◌≡◌, ℕ, suc, ◌+◌, ◌*◌, ◌%◌, �
 use Rattle.std.proofs.lemmas.Bool.{cases_lt}
 use Rattle.std.specs.List.{AllZip}
 use native.Mathlib.Nat.{zero-mod}
-use Rattle.linear_law.specs.Congruence.{Congruent, IsField}
-use Rattle.linear_law.specs.Lists.{Among, Each, IsAscending}
-use Rattle.linear_law.specs.Listing.{row_combination_from, unit_vector}
-use Rattle.linear_law.specs.ReducedBases.{AgreesOn, IsReduced, expansion}
-use Rattle.linear_law.specs.Elimination.{IsLinear, KernelVector}
-use Rattle.linear_law.specs.Pivots.{IsLead}
-use Rattle.linear_law.specs.Triangular.{StartsAt, kernel_place}
-use Rattle.linear_law.proofs.CongruenceLemmas.{Congruent_add, Congruent_from, Congruent_mul, Congruent_of, Congruent_refl, Congruent_scale, Congruent_sym, Congruent_trans}
-use Rattle.linear_law.proofs.ListLemmas.{each_right, each_map, each_unmap, each_zip, each_alike, length_alike}
-use Rattle.linear_law.proofs.PivotLemmas.{one-nonzero}
-use Rattle.linear_law.proofs.RowCombinations.{unit_other}
-use Rattle.linear_law.proofs.WalkedSpaces.{classes_span}
+use Rattle.linear_law.specs.Names.{Congruent, IsField, Among, Each, IsAscending, row_combination_from, unit_vector, AgreesOn, IsReduced, expansion, IsLinear, KernelVector, IsLead, StartsAt, kernel_place}
+use Rattle.linear_law.proofs.Names.{Congruent_add, Congruent_from, Congruent_mul, Congruent_of, Congruent_refl, Congruent_scale, Congruent_sym, Congruent_trans, each_right, each_map, each_unmap, each_zip, each_alike, length_alike, one-nonzero, unit_other, classes_span}
 use Rattle.sparse_rows.specs.Rows.{IsBelow, IsRow, value_in}
-use Rattle.sparse_rows.proofs.RowLemmas.{value_in-small}
-use Rattle.row_reduce.specs.declared.EchelonRow.{EchelonRow}
-use Rattle.row_reduce.specs.Walk.{combined}
-use Rattle.row_reduce.specs.Echelon.{combination_of, pivot_of, row_of}
-use Rattle.row_reduce.specs.Elimination.{Everywhere, IsEliminated, IsVectorRow, end_of}
-use Rattle.row_reduce.specs.Space.{AreOwnFrom, IsEchelonOf, IsKernelOf, IsOwnRow}
+use Rattle.sparse_rows.proofs.RowLemmas.{below_of_zero, value_in-small}
+use Rattle.row_reduce.specs.Names.{EchelonRow, combined, combination_of, pivot_of, row_of, Everywhere, IsEliminated, IsVectorRow, end_of, AreOwnFrom, IsEchelonOf, IsKernelOf, IsOwnRow}
 use Rattle.row_reduce.proofs.EliminationLemmas.{below_end}
 use Rattle.std.proofs.lemmas.List.{reverse-reverse}
 use Rattle.row_reduce.proofs.GivesLemmas.{combined_linear, combined_row}
-use Rattle.row_reduce.proofs.SpaceLemmas.{below_of_zero, combined_beyond, lead_inside, make_echelon}
+use Rattle.row_reduce.proofs.SpaceLemmas.{combined_beyond, lead_inside, make_echelon}
 
 -- a vector of the kernel and the echelon row that has it
 record IsSameVector (p : ℕ) (k : KernelVector) (e : EchelonRow p) : Type 0 where

@@ -1,28 +1,22 @@
 -- What a walk of all rows has found: the kernel as rows, and the leads.
-use Rattle.std.proofs.Common.{◌≡◌, ℕ, zero, suc, ◌<◌, ◌≤◌, ◌⊎◌, List, [], ◌∷◌, reverse, map, length, get_or, arith, refl, subst, inl, inr}
-use Rattle.std.proofs.lemmas.List.{append-nil}
+use Rattle.std.proofs.Common.{◌≡◌, ℕ, zero, suc, ◌<◌, ◌≤◌, ◌⊎◌, List, [], ◌∷◌, reverse, map, length, get_or, arith, refl, subst, inl, inr, append-nil, Bool, Option, None, Some}
 use Rattle.std.specs.List.{AllZip}
-use Rattle.linear_law.specs.Congruence.{Congruent}
-use Rattle.linear_law.specs.Lists.{Among, Each}
-use Rattle.linear_law.specs.Elimination.{ImageVector, KernelVector}
-use Rattle.linear_law.specs.Triangular.{image_place}
-use Rattle.linear_law.proofs.ListLemmas.{each_right, zip_change, zip_each}
-use Rattle.linear_law.proofs.CongruenceLemmas.{Congruent_sym}
+use Rattle.linear_law.specs.Names.{Congruent, Among, Each, ImageVector, KernelVector, image_place}
+use Rattle.linear_law.proofs.Names.{each_right, zip_change, zip_each, Congruent_sym}
 use Rattle.sparse_rows.specs.Rows.{IsBelow, IsRow, value_in}
-use Rattle.row_reduce.specs.declared.Class.{Class}
-use Rattle.row_reduce.specs.declared.Stored.{Stored}
-use Rattle.row_reduce.specs.Stored.{stored_place}
-use Rattle.row_reduce.specs.Walk.{IsFrom, IsSolved, Reached, image_of, images_of, kernel_of}
-use Rattle.row_reduce.specs.Pivots.{IsMarkedIn}
-use Rattle.std.specs.Prelude.{Bool, Option, None, Some}
-use Rattle.row_reduce.specs.Expansion.{AreOlder, HistoryFits, IsVectorOfClass}
+use Rattle.row_reduce.specs.Names.{Class, Stored, stored_place, IsFrom, IsSolved, Reached, image_of, images_of, kernel_of, IsMarkedIn, AreOlder, HistoryFits, IsVectorOfClass}
 use Rattle.row_reduce.proofs.ExpansionLemmas.{zip_reversed}
 use Rattle.row_reduce.proofs.HistoryLemmas.{among_images}
 
-among_at : {p : ℕ} (ss : List (Stored p)) (k y : ℕ) (d : Stored p) → k < length ss → (get_or ss k d).place ≡ y → Among y (map stored_place ss)
-among_at [] k y d b e = absurd (omega arith)
-among_at (s ∷ ss) zero y d b e = inl e
-among_at (s ∷ ss) (suc k) y d b e = inr (among_at ss k y d (omega arith) e)
+pub number_among : {X : Type 0} (f : X → ℕ) (xs : List X) (k t : ℕ) (d : X) → k < length xs → f (get_or xs k d) ≡ t → Among t (map f xs)
+number_among f [] k t d b e = absurd (omega arith)
+number_among f (x ∷ xs) zero t d b e = inl e
+number_among f (x ∷ xs) (suc k) t d b e = inr (number_among f xs k t d (omega arith) e)
+
+-- the lead of the row of a number
+pub stored_lead : {p : ℕ} (ss : List (Stored p)) (k y : ℕ) → k < length ss → ((d : Stored p) → (get_or ss k d).place ≡ y) → Among y (map stored_place ss)
+stored_lead [] k y b e = absurd (omega arith)
+stored_lead (s ∷ ss) k y b e = number_among stored_place (s ∷ ss) k y s b (e s)
 
 images_among : {p : ℕ} (ss : List (Stored p)) (fs : List (ℕ → ℕ)) (done : List (ImageVector ℕ)) (t : ℕ) → length fs ≡ length ss
     → Among t (map stored_place ss) ⊎ Among t (map image_place done) → Among t (map image_place (images_of ss fs done))
@@ -83,15 +77,11 @@ module _ (p width : ℕ) (rows : List (List (ℕ × ℕ))) (skip : List Bool) (c
             | inl e ↦ absurd (some e)
             | inr k ↦
                 let o = reached.owns.some y k.0 k.1 in
-                images_among stored reached.sources [] y reached.sources_length (inl (among_there stored k.0 y o.0 o.1))
+                images_among stored reached.sources [] y reached.sources_length (inl (stored_lead stored k.0 y o.0 o.1))
           ],
           λ m e. elim (among_images stored reached.sources [] y m) [ inr none ↦ elim none [ ] | inl a ↦ reached.owns.none y b e a ],
         );
       }
-    where
-      among_there : (ss : List (Stored p)) (k y : ℕ) → k < length ss → ((d : Stored p) → (get_or ss k d).place ≡ y) → Among y (map stored_place ss)
-      among_there [] k y b e = absurd (omega arith)
-      among_there (s ∷ ss) k y b e = among_at (s ∷ ss) k y s b (e s)
 
   pub solved_images : (found : List (List (ℕ × ℕ))) (h : AllZip (IsVectorOfClass p stored) classes found) → (solved found h).images ≡ images_of stored reached.sources []
   unfolding solved

@@ -1,34 +1,19 @@
 -- The reduced echelon list of a span, with no bound on the places.
-use Rattle.std.proofs.Common.{◌≡◌, ℕ, suc, ◌+◌, ◌*◌, ◌-◌, ◌%◌, ◌<◌, ◌≤◌, ◌≢◌, List, [], ◌∷◌, map, length, get_or, arith, refl, sym, ◌∙◌, ap, subst, inl, inr, mod-eq_of_lt}
+use Rattle.std.proofs.Common.{◌≡◌, ℕ, suc, ◌+◌, ◌*◌, ◌-◌, ◌%◌, ◌<◌, ◌≤◌, ◌≢◌, List, [], ◌∷◌, map, length, arith, refl, sym, ◌∙◌, ap, subst, inl, inr}
 use Rattle.std.proofs.lemmas.Bool.{cases_lt}
 use native.Mathlib.Nat.{zero-mod}
-use Rattle.linear_law.specs.Congruence.{Congruent, IsField, negated, sum_over}
-use Rattle.linear_law.specs.Lists.{Among, Each, IsAscending}
-use Rattle.linear_law.specs.Listing.{row_combination_from}
-use Rattle.linear_law.specs.ReducedBases.{IsReduced}
-use Rattle.linear_law.specs.Pivots.{IsCanonical, IsLead, IsPivot}
-use Rattle.linear_law.specs.Triangular.{StartsAt}
-use Rattle.linear_law.proofs.CongruenceLemmas.{Congruent_add, Congruent_from, Congruent_of, Congruent_refl, Congruent_scale, Congruent_sym, Congruent_trans, add-negated}
-use Rattle.linear_law.proofs.ListLemmas.{each_among, each_from_index, each_get_or, each_map, each_unmap, each_zip}
-use Rattle.linear_law.proofs.LeadLemmas.{nonzero_alike}
-use Rattle.linear_law.proofs.PivotLemmas.{one-nonzero, reduced_apart, reduced_one}
-use Rattle.linear_law.proofs.ReducedLemmas.{sum_vanishes}
-use Rattle.linear_law.proofs.TriangularBases.{each_of_index, found}
+use Rattle.linear_law.specs.Names.{Congruent, IsField, negated, sum_over, Among, Each, IsAscending, row_combination_from, IsReduced, IsCanonical, IsLead, IsPivot, StartsAt}
+use Rattle.linear_law.proofs.Names.{Congruent_add, Congruent_from, Congruent_of, Congruent_refl, Congruent_scale, Congruent_sym, Congruent_trans, add-negated, each_among, each_map, each_unmap, each_zip, nonzero_alike, one-nonzero, reduced_apart, reduced_one, sum_vanishes, each_of_index, found}
 use Rattle.sparse_rows.specs.Rows.{IsBelow, IsRow, value_in}
-use Rattle.sparse_rows.proofs.RowLemmas.{value_in-at, value_in-none}
-use Rattle.row_reduce.specs.declared.EchelonRow.{EchelonRow}
-use Rattle.row_reduce.specs.Walk.{combined}
-use Rattle.row_reduce.specs.Echelon.{cleared, combination_of, pivot_of, row_of}
-use Rattle.row_reduce.specs.Elimination.{Everywhere}
-use Rattle.row_reduce.specs.Space.{IsEchelonOf, IsRemainder, IsSpannedBy}
-use Rattle.row_reduce.specs.Elimination.{Gives}
+use Rattle.sparse_rows.proofs.RowLemmas.{below_of_zero, value_in-past}
+use Rattle.row_reduce.specs.Names.{EchelonRow, combined, cleared, combination_of, pivot_of, row_of, Everywhere, IsEchelonOf, IsRemainder, IsSpannedBy, Gives}
 use Rattle.row_reduce.proofs.GivesLemmas.{cleared_at, combined_on, gives_scale, gives_sum}
 
 -- rows below width give nothing beyond it
 pub combined_beyond : (k width : ℕ) (rows : List (List (ℕ × ℕ))) (v : ℕ → ℕ) (y : ℕ) → Each (IsBelow width) rows → width ≤ y → row_combination_from k (map value_in rows) v y ≡ 0
 combined_beyond k width [] v y h b = refl
 combined_beyond k width (r ∷ rs) v y h b =
-    let none : value_in r y ≡ 0 = value_in-none r y (each_map {Q = λ (f : ℕ × ℕ). f.0 ≢ y} (λ f c q. absurd (omega arith)) r h.0) in
+    let none : value_in r y ≡ 0 = value_in-past width y r h.0 b in
     let rest = combined_beyond (suc k) width rs v y h.1 b in
     rw none (omega (arith, rest))
 
@@ -38,20 +23,6 @@ lead_inside p width rows v t h n = elim (cases_lt t width) [
   | inl b ↦ b
   | inr b ↦ absurd (n (ap (λ m. m % p) (combined_beyond 0 width rows v t h b) ∙ zero-mod p))
 ]
-
--- a row that is zero from a bound on has no position there
-pub below_of_zero : (p bound : ℕ) (row : List (ℕ × ℕ)) → IsRow p row → ((x : ℕ) → bound ≤ x → Congruent p (value_in row x) 0) → IsBelow bound row
-below_of_zero p bound row h z = each_from_index (λ (e : ℕ × ℕ). e.0 < bound) row (λ i d b. elim (cases_lt (get_or row i d).0 bound) [
-  | inl l ↦ l
-  | inr m ↦
-      let at : value_in row (get_or row i d).0 ≡ (get_or row i d).1 = value_in-at row i d h.ascends b in
-      let v : ((get_or row i d).1 ≢ 0) × ((get_or row i d).1 < p) = each_get_or (λ (e : ℕ × ℕ). (e.1 ≢ 0) × (e.1 < p)) row i d b h.values in
-      absurd (v.0 (sym (mod-eq_of_lt v.1) ∙ ap (λ n. n % p) (sym at) ∙ (z (get_or row i d).0 m).same ∙ zero-mod p))
-])
-
--- what names rows below a bound is zero from there on
-pub zero_of_below : (p bound : ℕ) (row : List (ℕ × ℕ)) (x : ℕ) → IsBelow bound row → bound ≤ x → Congruent p (value_in row x) 0
-zero_of_below p bound row x h b = Congruent_of (value_in-none row x (each_map {Q = λ (f : ℕ × ℕ). f.0 ≢ x} (λ f c q. absurd (omega arith)) row h))
 
 module _ (p : ℕ) (field : IsField p) (given : List (List (ℕ × ℕ))) (echelon : List (EchelonRow p)) where
   -- an echelon list from its parts
@@ -125,7 +96,7 @@ module _ (p : ℕ) (field : IsField p) (given : List (List (ℕ × ℕ))) (echel
         rows_are = (rest_row, combination_row);
         inside = below_of_zero p (length given) combination combination_row (λ x b.
             let none = sum_vanishes p pivot_of combination_of k x echelon
-            (each_map {Q = λ (e : EchelonRow p). Congruent p (combination_of e x) 0} (λ e g. zero_of_below p (length given) e.combination x g b) echelon h.inside) in
+            (each_map {Q = λ (e : EchelonRow p). Congruent p (combination_of e x) 0} (λ e g. Congruent_of (value_in-past (length given) x e.combination g b)) echelon h.inside) in
             Congruent_from (Congruent_add (combination_is x) (Congruent_scale by (Congruent_add (sum_is x) none))) (omega arith));
         zero = each_map {Q = λ (e : EchelonRow p). Congruent p (value_in rest e.pivot) 0} (λ e z. Congruent_trans (rest_is e.pivot) z) echelon (cleared_at p field.large echelon (value_in row) (reduced_of echelon h.ascends h.canonical));
         sum = λ y.

@@ -1,33 +1,14 @@
 -- A walk takes one more row.
-use Rattle.std.proofs.Common.{◌≡◌, ℕ, zero, suc, ◌+◌, ◌<◌, ◌≤◌, List, [], ◌∷◌, ◌++◌, map, length, get_or, arith, refl, sym, ◌∙◌, ap, subst, inl, inr}
+use Rattle.std.proofs.Common.{◌≡◌, ℕ, zero, suc, ◌+◌, ◌<◌, ◌≤◌, List, [], ◌∷◌, ◌++◌, map, length, get_or, arith, refl, sym, ◌∙◌, ap, subst, inl, inr, Bool, Option, None, true, false}
 use Rattle.std.proofs.lemmas.Bool.{cases_eq}
-use Rattle.linear_law.specs.Congruence.{Congruent, IsField}
-use Rattle.linear_law.specs.Lists.{Each, Among}
-use Rattle.linear_law.specs.Elimination.{ImageVector, KernelVector}
-use Rattle.linear_law.specs.Listing.{unit_vector}
-use Rattle.linear_law.proofs.RowCombinations.{unit_one}
-use Rattle.linear_law.proofs.ListLemmas.{each_map, each_push, get_before, get_last, length_push, length_alike, zip_change, zip_push}
-use Rattle.linear_law.proofs.CongruenceLemmas.{Congruent_refl, Congruent_of, Congruent_sym, Congruent_trans, Congruent_add, Congruent_from}
-use Rattle.row_reduce.specs.declared.Stored.{Stored}
-use Rattle.row_reduce.specs.declared.Class.{Class}
-use Rattle.linear_law.specs.Triangular.{Walked, LeadsAt, StartsAt, image_place}
+use Rattle.linear_law.specs.Names.{Congruent, IsField, Each, Among, ImageVector, KernelVector, unit_vector, Walked, LeadsAt, StartsAt, image_place, copies}
+use Rattle.linear_law.proofs.Names.{unit_one, each_map, each_push, get_before, get_last, length_push, length_alike, zip_change, zip_push, Congruent_refl, Congruent_of, Congruent_sym, Congruent_trans, Congruent_add, Congruent_from, length-copies, each_get_or, nonzero_alike, sum_vanishes, keep_it, add_it, skip_it, start_it}
+use Rattle.row_reduce.specs.Names.{Stored, Class, IsLoaded, IsReducedTo, IsStoredFrom, Owns, StoredFits, added_row, IsFrom, IsSkippable, Reached, added_from, combined, images_of, kernel_of, IsMarkedIn, Gives}
 use Rattle.sparse_rows.specs.Rows.{IsBelow, value_in}
-use Rattle.row_reduce.specs.Stored.{IsLoaded, IsReducedTo, IsStoredFrom, Owns, StoredFits, added_row}
-use Rattle.row_reduce.specs.Walk.{IsFrom, IsSkippable, Reached, added_from, combined, images_of, kernel_of}
-use Rattle.row_reduce.specs.Pivots.{IsMarkedIn}
-use Rattle.std.specs.Prelude.{Bool, Option, None}
-use Rattle.std.specs.Prelude.{true, false}
 use Rattle.std.proofs.lemmas.List.{get_or_default}
-use Rattle.linear_law.specs.Lists.{copies}
-use Rattle.linear_law.proofs.Matrices.{length-copies}
-use Rattle.linear_law.proofs.ListLemmas.{each_get_or}
 use Rattle.row_reduce.proofs.StoredLemmas.{some_none}
-use Rattle.linear_law.proofs.LeadLemmas.{nonzero_alike}
-use Rattle.linear_law.proofs.ReducedLemmas.{sum_vanishes}
-use Rattle.row_reduce.specs.Elimination.{Gives}
 use Rattle.row_reduce.proofs.GivesLemmas.{combined_linear, gives_alike, gives_sum, gives_unit, images_give}
 use Rattle.row_reduce.proofs.HistoryLemmas.{images_push, kernel_push, each_number, among_images, added_default, from_more, from_wider}
-use Rattle.linear_law.proofs.WalkSteps.{keep_it, add_it, skip_it, start_it}
 
 module _ (p width : ℕ) (field : IsField p) (rows : List (List (ℕ × ℕ))) (skipped : ℕ → Type 0) (low : ℕ) (kernel : List (Class p)) (images : List (Stored p)) (pivots : List (Option ℕ))
     (reached : Reached p width rows skipped (suc low) kernel images pivots) (inside : low < length rows) (taken : skipped low → ⊥)

@@ -1,18 +1,13 @@
 -- What is left in a sum, and the table of the leads.
-use Rattle.std.proofs.Common.{◌≡◌, ℕ, ◌+◌, ◌*◌, ◌-◌, ◌<◌, ◌≤◌, ◌≢◌, ◌⊎◌, List, [], ◌∷◌, ◌++◌, map, take, length, get_or, set, arith, refl, sym, ◌∙◌, ap, subst, inl, inr, get_or-set_other, get_or-set_same, length-set}
+use Rattle.std.proofs.Common.{◌≡◌, ℕ, ◌+◌, ◌*◌, ◌-◌, ◌<◌, ◌≤◌, ◌≢◌, ◌⊎◌, List, [], ◌∷◌, ◌++◌, map, take, length, get_or, set, arith, refl, sym, ◌∙◌, ap, subst, inl, inr, get_or-set_other, get_or-set_same, length-set, Option, None, Some}
 use Rattle.std.proofs.lemmas.Bool.{cases_eq, cases_lt}
-use Rattle.linear_law.specs.Congruence.{Congruent}
-use Rattle.linear_law.specs.Lists.{Among}
+use Rattle.std.proofs.lemmas.List.{get_or_past}
+use Rattle.linear_law.specs.Names.{Congruent, Among, StartsAt}
 use Rattle.sparse_rows.specs.Rows.{IsBelow, value_in}
-use Rattle.row_reduce.specs.declared.Stored.{Stored}
-use Rattle.std.specs.Prelude.{Option, None, Some}
-use Rattle.linear_law.specs.Triangular.{StartsAt}
-use Rattle.row_reduce.specs.Stored.{IsClear, IsRest, IsStoredFrom, Owns, stored_place}
-use Rattle.linear_law.proofs.CongruenceLemmas.{Congruent_refl, Congruent_of, Congruent_sym, Congruent_trans, Congruent_add, Congruent_mul, Congruent_scale, Congruent_from, add-negated}
-use Rattle.linear_law.proofs.ListLemmas.{each_push, get_before, get_last, length_push}
-use Rattle.linear_law.proofs.SumLemmas.{sum_append}
+use Rattle.row_reduce.specs.Names.{Stored, IsClear, IsRest, IsStoredFrom, Owns, stored_place}
+use Rattle.linear_law.proofs.Names.{Congruent_refl, Congruent_of, Congruent_sym, Congruent_trans, Congruent_add, Congruent_mul, Congruent_scale, Congruent_from, add-negated, each_push, get_before, get_last, length_push, sum_append}
 use Rattle.sparse_rows.proofs.RowLemmas.{sum_take}
-use Rattle.row_reduce.proofs.SumLemmas.{entry_at, entry_away, entry_here, past_end}
+use Rattle.row_reduce.proofs.SumLemmas.{entry_at, entry_away, entry_here}
 
 -- while the rest is taken: what is before `at` has moved
 pub record Taking (p : ℕ) (old sum : List ℕ) (rest : List (ℕ × ℕ)) (at : ℕ) : Type 0 where
@@ -71,13 +66,13 @@ taking_start p sum start h = record { gone = h; left = λ y b. refl; fits = tt; 
 
 -- nothing is left past the end
 pub all_clear : (p : ℕ) (sum : List ℕ) (at : ℕ) → length sum ≤ at → StartsAt p at (λ y. get_or sum y 0) → IsClear p sum
-all_clear p sum at b h = record { zero = λ y. elim (cases_lt y at) [ inl c ↦ h.before y c | inr c ↦ Congruent_of (past_end sum y (omega arith)) ] }
+all_clear p sum at b h = record { zero = λ y. elim (cases_lt y at) [ inl c ↦ h.before y c | inr c ↦ Congruent_of (get_or_past sum y 0 (omega arith)) ] }
 
 pub taken_all : (p : ℕ) (old sum : List ℕ) (rest : List (ℕ × ℕ)) (at : ℕ) → length sum ≡ length old → length old ≤ at → Taking p old sum rest at → IsRest p old sum rest
 taken_all p old sum rest at full b h = record {
   clear = all_clear p sum at (omega arith) h.gone;
   fits = h.fits;
-  row = λ y. elim (cases_lt y at) [ inl c ↦ h.moved y c | inr c ↦ Congruent_of (h.nothing y c ∙ sym (past_end old y (omega arith))) ];
+  row = λ y. elim (cases_lt y at) [ inl c ↦ h.moved y c | inr c ↦ Congruent_of (h.nothing y c ∙ sym (get_or_past old y 0 (omega arith))) ];
 }
 
 pub stored_from : (p : ℕ) (old new : List ℕ) (t inv : ℕ) (i : Stored p) → IsRest p old new i.row → t < length old → StartsAt p t (λ y. get_or old y 0)

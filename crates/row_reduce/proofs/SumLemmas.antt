@@ -1,22 +1,13 @@
 -- Adding rows to a sum.
-use Rattle.std.proofs.Common.{◌≡◌, ℕ, zero, suc, ◌+◌, ◌*◌, ◌%◌, ◌<◌, ◌≤◌, ◌≢◌, List, [], ◌∷◌, take, length, get_or, set, arith, refl, sym, ◌∙◌, ap, subst, inl, inr, get_or-set_other, get_or-set_same, ◌++◌}
+use Rattle.std.proofs.Common.{◌≡◌, ℕ, zero, suc, ◌+◌, ◌*◌, ◌%◌, ◌<◌, ◌≢◌, List, [], ◌∷◌, take, length, get_or, set, arith, sym, ◌∙◌, ap, subst, inl, inr, get_or-set_other, get_or-set_same, ◌++◌, Option, None, Some}
 use Rattle.std.proofs.lemmas.Bool.{cases_eq, cases_lt}
 use Rattle.std.proofs.lemmas.List.{get_or_default, take_more}
 use Rattle.std.specs.List.{AllZip}
-use Rattle.linear_law.proofs.ListLemmas.{zip_push}
-use Rattle.linear_law.specs.Congruence.{Congruent}
-use Rattle.linear_law.specs.Lists.{Each}
+use Rattle.linear_law.proofs.Names.{zip_push, each_get_or, each_push, unit_one, unit_other, Congruent_refl, Congruent_of, Congruent_trans, Congruent_add, Congruent_mul, Congruent_scale, Congruent_from, Congruent_mod, sum_append}
+use Rattle.linear_law.specs.Names.{Congruent, Each, unit_vector, StartsAt}
 use Rattle.sparse_rows.specs.Rows.{IsBelow, value_in}
-use Rattle.linear_law.specs.Listing.{unit_vector}
-use Rattle.row_reduce.specs.declared.Stored.{Stored}
-use Rattle.linear_law.specs.Triangular.{StartsAt}
-use Rattle.row_reduce.specs.Stored.{Owns, StoredFits, added_row}
-use Rattle.std.specs.Prelude.{Option, None, Some}
+use Rattle.row_reduce.specs.Names.{Stored, Owns, StoredFits, added_row}
 use Rattle.sparse_rows.proofs.RowLemmas.{sum_take}
-use Rattle.linear_law.proofs.ListLemmas.{each_get_or, each_push}
-use Rattle.linear_law.proofs.RowCombinations.{unit_one, unit_other}
-use Rattle.linear_law.proofs.CongruenceLemmas.{Congruent_refl, Congruent_of, Congruent_trans, Congruent_add, Congruent_mul, Congruent_scale, Congruent_from, Congruent_mod}
-use Rattle.linear_law.proofs.SumLemmas.{sum_append}
 
 -- what one entry gives
 abbrev pub entry_at : ℕ × ℕ → ℕ → ℕ
@@ -66,12 +57,6 @@ add_entry p by old now row i v e is b inside v_is h k =
     let more : value_in (take (i + 1) row) k ≡ value_in (take i row) k + entry_at e k =
     sum_take (λ (f : ℕ × ℕ). entry_at f k) row i e b ∙ ap (λ (f : ℕ × ℕ). value_in (take i row) k + entry_at f k) (sym is) in
     Congruent_from (Congruent_add (set_adds p e.0 v (by * e.1) now k inside (Congruent_trans (Congruent_of v_is) (Congruent_mod p (get_or now e.0 0 + by * e.1)))) (h k)) (rw more (omega arith))
-
-pub past_end : (xs : List ℕ) (y : ℕ) → length xs ≤ y → get_or xs y 0 ≡ 0
-past_end [] zero h = refl
-past_end [] (suc y) h = refl
-past_end (x ∷ xs) zero h = absurd (omega arith)
-past_end (x ∷ xs) (suc y) h = past_end xs y (omega arith)
 
 -- what the factor of a row does at its lead and before
 pub cancel_before : (p width by : ℕ) (old new : List ℕ) (image : Stored p) → StoredFits p width image → by ≡ (get_or old image.place 0 * image.factor) % p

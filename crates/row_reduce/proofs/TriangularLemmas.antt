@@ -1,20 +1,9 @@
 -- The rows that a walk has stored are triangular, and lie in the span.
-use Rattle.std.proofs.Common.{◌≡◌, ℕ, ◌<◌, List, [], ◌∷◌, reverse, map, length, get_or, arith, refl, sym, subst, inl, inr}
+use Rattle.std.proofs.Common.{◌≡◌, ℕ, ◌<◌, List, [], ◌∷◌, reverse, map, length, get_or, arith, refl, sym, subst, inl, inr, Bool, Option}
 use Rattle.std.specs.List.{AllZip}
-use Rattle.linear_law.specs.Lists.{Among, Each, IsApart}
-use Rattle.linear_law.specs.Elimination.{ImageVector, IsImage}
-use Rattle.linear_law.specs.ReducedBases.{AgreesOn}
-use Rattle.linear_law.specs.Triangular.{image_place}
-use Rattle.linear_law.proofs.ListLemmas.{each_from_index}
-use Rattle.linear_law.proofs.CongruenceLemmas.{Congruent_sym}
-use Rattle.row_reduce.specs.declared.Class.{Class}
-use Rattle.row_reduce.specs.declared.Stored.{Stored}
-use Rattle.row_reduce.specs.Stored.{stored_place}
-use Rattle.row_reduce.specs.Walk.{Reached, combined, image_of, images_of}
-use Rattle.row_reduce.specs.Pivots.{IsMarkedIn}
-use Rattle.std.specs.Prelude.{Bool, Option}
-use Rattle.row_reduce.specs.Expansion.{IsVectorOfClass}
-use Rattle.row_reduce.specs.Triangular.{IsSolvedStored, stored_row}
+use Rattle.linear_law.specs.Names.{Among, Each, IsApart, ImageVector, IsImage, AgreesOn, image_place}
+use Rattle.linear_law.proofs.Names.{each_from_index, Congruent_sym}
+use Rattle.row_reduce.specs.Names.{Class, Stored, stored_place, Reached, combined, image_of, images_of, IsMarkedIn, IsVectorOfClass, IsSolvedStored, stored_row}
 use Rattle.row_reduce.proofs.HistoryLemmas.{each_number}
 use Rattle.row_reduce.proofs.SolvedLemmas.{older, solved, solved_images}
 

@@ -1,10 +1,6 @@
 -- The reduced echelon list of what given rows span, with a combination of given rows for each of its rows.
 use Rattle.std.specs.Prelude.{◌≡◌, ℕ, ◌+◌, ◌*◌, ◌<◌, ◌≤◌, Bool, List, Option, map, length}
-use Rattle.linear_law.specs.Congruence.{Congruent, negated, sum_over}
-use Rattle.linear_law.specs.Lists.{Among, Each, IsAscending}
-use Rattle.linear_law.specs.ReducedBases.{AgreesOn, IsReduced}
-use Rattle.linear_law.specs.Elimination.{KernelVector}
-use Rattle.linear_law.specs.Triangular.{Skips, StartsAt}
+use Rattle.linear_law.specs.Names.{Congruent, negated, sum_over, Among, Each, IsAscending, AgreesOn, IsReduced, KernelVector, Skips, StartsAt}
 use Rattle.sparse_rows.specs.Rows.{IsRow, value_in}
 use Rattle.row_reduce.specs.declared.Stored.{Stored}
 use Rattle.row_reduce.specs.declared.EchelonRow.{EchelonRow}

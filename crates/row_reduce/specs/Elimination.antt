@@ -1,11 +1,7 @@
 -- Elimination of given rows from the last to the first, with a reduced echelon list all along.
 use Rattle.std.specs.Prelude.{◌≡◌, ℕ, ◌+◌, ◌*◌, ◌≤◌, suc, List, [], ◌∷◌, map, length, reverse}
 use Rattle.std.specs.List.{AllZip}
-use Rattle.linear_law.specs.Congruence.{Congruent, negated}
-use Rattle.linear_law.specs.Lists.{Among, Each, IsAscending}
-use Rattle.linear_law.specs.ReducedBases.{AgreesOn, IsReduced}
-use Rattle.linear_law.specs.Elimination.{ImageVector, KernelVector}
-use Rattle.linear_law.specs.Triangular.{Skips, StartsAt, Walked, image_place}
+use Rattle.linear_law.specs.Names.{Congruent, negated, Among, Each, IsAscending, AgreesOn, IsReduced, ImageVector, KernelVector, Skips, StartsAt, Walked, image_place}
 use Rattle.sparse_rows.specs.Rows.{IsBelow, IsRow, value_in}
 use Rattle.row_reduce.specs.declared.EchelonRow.{EchelonRow}
 use Rattle.row_reduce.specs.Walk.{combined}

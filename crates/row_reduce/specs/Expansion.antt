@@ -1,6 +1,6 @@
 -- The vector behind a class, from its history.
-use Rattle.std.specs.Prelude.{ℕ, ◌+◌, ◌*◌, ◌<◌, zero, suc, List, length, slice_index, slice_index_or}
-use Rattle.linear_law.specs.Congruence.{Congruent}
+use Rattle.std.specs.Prelude.{ℕ, ◌+◌, ◌<◌, List, length, slice_index, slice_index_or}
+use Rattle.linear_law.specs.Names.{Congruent, paired}
 use Rattle.sparse_rows.specs.Rows.{IsBelow, IsRow, value_in}
 use Rattle.row_reduce.specs.declared.Class.{Class}
 use Rattle.row_reduce.specs.declared.Stored.{Stored}
@@ -8,8 +8,7 @@ use Rattle.row_reduce.specs.Walk.{AreNumbered, AreSources, IsFrom}
 
 -- the first k vectors, each by its weight
 abbrev pub weighted : ℕ → List ℕ → List (ℕ → ℕ) → (ℕ → ℕ) → ℕ → ℕ
-weighted zero ws fs d x = 0
-weighted (suc k) ws fs d x = weighted k ws fs d x + slice_index ws k * slice_index_or fs k d x
+weighted k ws fs d x = paired k (slice_index ws) (λ j. slice_index_or fs j d x)
 
 -- while weights move to older rows: out and the weights below k make up the vector
 pub record Expanding (p : ℕ) (images : List (Stored p)) (place : ℕ) (history : List (ℕ × ℕ)) (weights : List ℕ) (out : List (ℕ × ℕ)) (k : ℕ) : Type 0 where

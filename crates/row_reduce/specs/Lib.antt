@@ -7,3 +7,4 @@ pub mod Triangular
 pub mod Echelon
 pub mod Elimination
 pub mod Space
+pub mod Names

@@ -1,10 +1,6 @@
 -- Spaces: given rows and the reduced echelon list of their span.
 use Rattle.std.specs.Prelude.{◌≡◌, ℕ, ◌+◌, ◌<◌, ◌↔◌, suc, List, [], ◌∷◌, map, length}
-use Rattle.linear_law.specs.Congruence.{Congruent}
-use Rattle.linear_law.specs.Lists.{Among, Each, IsAscending}
-use Rattle.linear_law.specs.Listing.{unit_vector}
-use Rattle.linear_law.specs.Elimination.{IsImage}
-use Rattle.linear_law.specs.Pivots.{IsCanonical, IsPivot}
+use Rattle.linear_law.specs.Names.{Congruent, Among, Each, IsAscending, unit_vector, IsImage, IsCanonical, IsPivot}
 use Rattle.sparse_rows.specs.Rows.{IsBelow, IsFirst, IsRow, value_in}
 use Rattle.row_reduce.specs.declared.EchelonRow.{EchelonRow}
 use Rattle.row_reduce.specs.Walk.{combined}

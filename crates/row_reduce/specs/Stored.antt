@@ -1,8 +1,6 @@
 -- Stored rows: what a walk keeps of the rows that did not go to zero.
 use Rattle.std.specs.Prelude.{◌≡◌, ◌≢◌, ℕ, ◌+◌, ◌*◌, ◌%◌, ◌<◌, ◌≤◌, List, Option, None, Some, map, length, slice_index, slice_index_or}
-use Rattle.linear_law.specs.Congruence.{Congruent, sum_over}
-use Rattle.linear_law.specs.Lists.{Among}
-use Rattle.linear_law.specs.Triangular.{StartsAt}
+use Rattle.linear_law.specs.Names.{Congruent, sum_over, Among, StartsAt}
 use Rattle.sparse_rows.specs.Rows.{IsBelow, value_in}
 use Rattle.row_reduce.specs.declared.Stored.{Stored}
 

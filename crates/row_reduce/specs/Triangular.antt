@@ -1,6 +1,6 @@
 -- A triangular list of rows of a span.
 use Rattle.std.specs.Prelude.{◌≡◌, ℕ, Bool, List, Option, [], map, length}
-use Rattle.linear_law.specs.Lists.{Each, IsApart}
+use Rattle.linear_law.specs.Names.{Each, IsApart}
 use Rattle.sparse_rows.specs.Rows.{value_in}
 use Rattle.row_reduce.specs.declared.Stored.{Stored}
 use Rattle.row_reduce.specs.Stored.{Owns, StoredFits, stored_place}

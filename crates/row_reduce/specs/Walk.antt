@@ -2,11 +2,7 @@
 -- gives a coefficient to each given row.
 use Rattle.std.specs.Prelude.{◌≡◌, ℕ, ◌+◌, ◌*◌, ◌%◌, ◌^◌, ◌<◌, ◌≤◌, ◌≢◌, ◌↔◌, List, [], ◌∷◌, Bool, Option, map, length, slice_index_or}
 use Rattle.std.specs.List.{AllZip}
-use Rattle.linear_law.specs.Congruence.{Congruent, sum_over}
-use Rattle.linear_law.specs.Lists.{Among, Each}
-use Rattle.linear_law.specs.Listing.{row_combination, unit_vector}
-use Rattle.linear_law.specs.Elimination.{ImageVector, IsInKernel, KernelVector}
-use Rattle.linear_law.specs.Triangular.{StartsAt, Walked, image_place}
+use Rattle.linear_law.specs.Names.{Congruent, sum_over, Among, Each, row_combination, unit_vector, ImageVector, IsInKernel, KernelVector, StartsAt, Walked, image_place}
 use Rattle.sparse_rows.specs.Rows.{IsBelow, IsRow, value_in}
 use Rattle.row_reduce.specs.declared.Class.{Class}
 use Rattle.row_reduce.specs.declared.Stored.{Stored}

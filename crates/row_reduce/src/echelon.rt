@@ -1,12 +1,8 @@
 ghost use Rattle.std.specs.Prelude.{◌≡◌, ℕ, ◌+◌, ◌*◌, ◌%◌, ◌^◌, ◌<◌, ◌≤◌, length, reverse, List, Bool, [], OnOk, IfOk, IsTrue};
-ghost use Rattle.linear_law.specs.Congruence.{Congruent, negated};
-ghost use Rattle.linear_law.specs.Lists.{Each};
+ghost use Rattle.linear_law.specs.Names.{Congruent, negated, Each};
 ghost use Rattle.fp_field.specs.Served.{served};
 ghost use Rattle.sparse_rows.specs.Rows.{IsBelow, IsRow, value_in};
-ghost use Rattle.row_reduce.specs.Stored.{Owns};
-ghost use Rattle.row_reduce.specs.Expansion.{AreOlder};
-ghost use Rattle.row_reduce.specs.Triangular.{AreTriangular, IsSolvedStored};
-ghost use Rattle.row_reduce.specs.Echelon.{AreEchelon, IsEchelonFrom, IsMadeFrom, cleared, combination_of, row_of};
+ghost use Rattle.row_reduce.specs.Names.{Owns, AreOlder, AreTriangular, IsSolvedStored, AreEchelon, IsEchelonFrom, IsMadeFrom, cleared, combination_of, row_of};
 
 use crate::expanding::expand;
 use crate::{EchelonRow, Pivots, Stored};

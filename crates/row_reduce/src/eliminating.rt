@@ -4,7 +4,7 @@ ghost use Rattle.std.specs.List.{AllZip};
 ghost use Rattle.fp_field.specs.Served.{served};
 ghost use Rattle.sparse_rows.specs.Rows.{IsFirst};
 ghost use Rattle.row_reduce.specs.declared.EchelonRow as declared;
-ghost use Rattle.row_reduce.specs.Elimination.{IsClearedBy, IsEliminated, IsMonic};
+ghost use Rattle.row_reduce.specs.Names.{IsClearedBy, IsEliminated, IsMonic};
 
 use crate::EchelonRow;
 use crate::echelon::{clear, clear_one, multiple};

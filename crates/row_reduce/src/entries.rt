@@ -1,9 +1,9 @@
 //! Rows in little memory.
 ghost use Rattle.std.specs.Prelude.{◌≡◌, ℕ, ◌+◌, ◌*◌, ◌-◌, ◌%◌, ◌^◌, ◌<◌, ◌≤◌, length, slice_index, IfOk, IsTrue};
-ghost use Rattle.linear_law.specs.Congruence.{Congruent};
+ghost use Rattle.linear_law.specs.Names.{Congruent};
 ghost use Rattle.fp_field.specs.Served.{served};
 ghost use Rattle.sparse_rows.specs.Rows.{IsBelow, IsRow, value_in};
-ghost use Rattle.row_reduce.specs.Entries.{run_from, zipped};
+ghost use Rattle.row_reduce.specs.Names.{run_from, zipped};
 
 use crate::reducing::plus_product;
 use fp_field::Fp;

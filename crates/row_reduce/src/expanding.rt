@@ -1,12 +1,9 @@
 ghost use Rattle.std.specs.List.{AllZip};
 ghost use Rattle.std.specs.Prelude.{◌≡◌, ℕ, ◌+◌, ◌^◌, ◌<◌, ◌≤◌, length, List, [], ◌∷◌, OnOk, IfOk, IsTrue};
-ghost use Rattle.linear_law.specs.Lists.{Each};
+ghost use Rattle.linear_law.specs.Names.{Each};
 ghost use Rattle.fp_field.specs.Served.{served};
-ghost use Rattle.row_reduce.specs.Stored.{IsClear};
+ghost use Rattle.row_reduce.specs.Names.{IsClear, AreNumbered, AreRows, SkipsFit, AreOlder, Expanding, HistoryFits, IsExpanded, IsVectorOf, IsVectorOfClass, IsSolvedStored};
 ghost use Rattle.sparse_rows.specs.Rows.{IsBelow};
-ghost use Rattle.row_reduce.specs.Walk.{AreNumbered, AreRows, SkipsFit};
-ghost use Rattle.row_reduce.specs.Expansion.{AreOlder, Expanding, HistoryFits, IsExpanded, IsVectorOf, IsVectorOfClass};
-ghost use Rattle.row_reduce.specs.Triangular.{IsSolvedStored};
 
 use crate::walking::{Walk, zero_values};
 use crate::{Class, Entries, Pivots, Stored};

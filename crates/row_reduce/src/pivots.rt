@@ -1,6 +1,6 @@
 //! Which row has its lead at a place.
 ghost use Rattle.std.specs.Prelude.{◌≡◌, ◌≢◌, ◌↔◌, ◌<◌, length, set, slice_index_or, Some, None, IfOk, IsTrue};
-ghost use Rattle.linear_law.specs.Lists.{copies};
+ghost use Rattle.linear_law.specs.Names.{copies};
 
 use std::alloc::{AllocError, Global};
 use std::marker::Model;

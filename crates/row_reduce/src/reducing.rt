@@ -1,10 +1,8 @@
 ghost use Rattle.std.specs.Prelude.{◌≡◌, ℕ, ◌+◌, ◌*◌, ◌%◌, ◌<◌, ◌≤◌, length, slice_index, IfOk, IsTrue};
-ghost use Rattle.linear_law.specs.Congruence.{Congruent};
-ghost use Rattle.linear_law.specs.Lists.{Each};
-ghost use Rattle.linear_law.specs.Triangular.{StartsAt};
+ghost use Rattle.linear_law.specs.Names.{Congruent, Each, StartsAt};
 ghost use Rattle.fp_field.specs.Served.{served};
 ghost use Rattle.sparse_rows.specs.Rows.{IsBelow, value_in};
-ghost use Rattle.row_reduce.specs.Stored.{IsReducedTo, Owns, StoredFits};
+ghost use Rattle.row_reduce.specs.Names.{IsReducedTo, Owns, StoredFits};
 
 use crate::{Pivots, Stored};
 use fp_field::Fp;

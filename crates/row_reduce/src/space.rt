@@ -2,7 +2,7 @@ ghost use Rattle.std.specs.Prelude.{◌≡◌, ℕ, ◌+◌, ◌^◌, ◌<◌, l
 ghost use Rattle.fp_field.specs.Served.{served};
 ghost use Rattle.sparse_rows.specs.Rows.{IsFirst};
 ghost use Rattle.row_reduce.specs.declared.EchelonRow as declared;
-ghost use Rattle.row_reduce.specs.Space.{AreOwnFrom, IsEchelonOf, IsKernelOf, IsOwnRow, IsRemainder, Spanned};
+ghost use Rattle.row_reduce.specs.Names.{AreOwnFrom, IsEchelonOf, IsKernelOf, IsOwnRow, IsRemainder, Spanned};
 
 use crate::EchelonRow;
 use crate::echelon::{clear, multiple};

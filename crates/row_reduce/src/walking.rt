@@ -1,12 +1,8 @@
 ghost use Rattle.std.specs.Prelude.{◌≡◌, ℕ, ◌+◌, ◌^◌, ◌<◌, ◌≤◌, ◌≢◌, ◌%◌, length, slice_index, slice_index_or, List, [], ◌∷◌, ◌++◌, None, Some, OnOk, IfOk, IsTrue};
-ghost use Rattle.linear_law.specs.Congruence.{Congruent};
-ghost use Rattle.linear_law.specs.Lists.{Each};
-ghost use Rattle.linear_law.specs.Triangular.{StartsAt};
+ghost use Rattle.linear_law.specs.Names.{Congruent, Each, StartsAt};
 ghost use Rattle.fp_field.specs.Served.{served};
 ghost use Rattle.sparse_rows.specs.Rows.{IsBelow, value_in};
-ghost use Rattle.row_reduce.specs.Pivots.{IsMarkedIn};
-ghost use Rattle.row_reduce.specs.Stored.{IsClear, IsLoaded, IsRest, IsStoredFrom, Owns};
-ghost use Rattle.row_reduce.specs.Walk.{AreRows, IsReached, Reached, SkipsFit};
+ghost use Rattle.row_reduce.specs.Names.{IsMarkedIn, IsClear, IsLoaded, IsRest, IsStoredFrom, Owns, AreRows, IsReached, Reached, SkipsFit};
 
 use crate::reducing::{add_row, reduce};
 use crate::{Class, Entries, Pivots, Stored};

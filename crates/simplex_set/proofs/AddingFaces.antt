@@ -1,7 +1,7 @@
 -- The simplices so far, and one more with its faces.
-use Rattle.std.proofs.Common.{◌≡◌, ℕ, zero, suc, ◌+◌, ◌-◌, ◌<◌, ◌≤◌, ◌⊎◌, inl, inr, arith, ◌||◌, refl, sym, ◌∙◌, ap, subst, List, [], ◌∷◌, ◌++◌, map, length, take, take_all, drop, length-drop, add-one, get_or, true}
+use Rattle.std.proofs.Common.{◌≡◌, ℕ, zero, suc, ◌+◌, ◌<◌, ◌≤◌, ◌⊎◌, inl, inr, arith, ◌||◌, refl, sym, ◌∙◌, ap, subst, List, [], ◌∷◌, ◌++◌, length, take, drop, add-one, get_or, true}
 use Rattle.std.proofs.lemmas.Bool.{cases_eq}
-use Rattle.std.proofs.lemmas.List.{length-map}
+use Rattle.std.proofs.lemmas.List.{get_or-map, length-map}
 use Rattle.std.specs.Ordering.{is_eq}
 use Rattle.std.specs.Str.{bytes_eq}
 use Rattle.std.proofs.lemmas.Map.Text.{is_eq-slice_cmp}
@@ -9,12 +9,10 @@ use Rattle.std.specs.Cmp.Lexicographic.{nat_list_cmp_total}
 use Rattle.std.specs.BTreeSet.{insert_key}
 use Rattle.std.specs.List.{fold, list_any}
 use Rattle.std.proofs.lemmas.List.Sums.{fold_more}
-use Rattle.linear_law.specs.Lists.{Among}
-use Rattle.simplicial_law.specs.Cochains.{faces}
-use Rattle.simplicial_law.specs.ListedSimplices.{IsClosed, simplex_cmp, simplices, sublists, with_facet}
-use Rattle.simplicial_law.proofs.OrderedKeys.{among_inserted, insert_keeps, insert_puts, among_found, sorted_inserted, sorted_same}
-use Rattle.simplicial_law.proofs.Sublists.{sublists_without, sublist_whole, sublist_whole_or_less, sublists_twice, without}
-use Rattle.simplicial_law.proofs.ListedSimplices.{exact, fold_keeps, fold_puts, of_fold, simplices_push, sorted_fold}
+use Rattle.linear_law.specs.Names.{Among}
+use Rattle.simplicial_law.specs.Names.{faces, IsClosed, simplex_cmp, sublists}
+use Rattle.simplicial_law.specs.ListedSimplices.{simplices, with_facet}
+use Rattle.simplicial_law.proofs.Names.{among_inserted, insert_keeps, insert_puts, among_found, sorted_inserted, sorted_same, sublists_without, sublist_whole, sublist_whole_or_less, sublists_twice, without, exact, fold_keeps, fold_puts, of_fold, simplices_push, sorted_fold}
 
 -- ns has what ks has, and s with its faces
 pub record IsWith (ks : List (List ℕ)) (s : List ℕ) (ns : List (List ℕ)) : Type 0 where
@@ -110,19 +108,14 @@ without_suc i [] h = absurd (omega arith)
 without_suc zero (v ∷ vs) h = refl
 without_suc (suc i) (v ∷ vs) h = ap (λ t. v ∷ t) (without_suc i vs (omega arith))
 
-length_faces : (s : List ℕ) → length (faces s) ≡ length s
+pub length_faces : (s : List ℕ) → length (faces s) ≡ length s
 length_faces [] = refl
 length_faces (v ∷ vs) = ap suc (length-map (faces vs) (λ t. v ∷ t) ∙ length_faces vs)
-
-get_map : (v : ℕ) (ts : List (List ℕ)) (i : ℕ) → i < length ts → get_or (map (λ t. v ∷ t) ts) i [] ≡ v ∷ get_or ts i []
-get_map v [] i h = absurd (omega arith)
-get_map v (t ∷ ts) zero h = refl
-get_map v (t ∷ ts) (suc i) h = get_map v ts i (omega arith)
 
 pub face_at : (s : List ℕ) (i : ℕ) → i < length s → get_or (faces s) i [] ≡ without i s
 face_at [] i h = absurd (omega arith)
 face_at (v ∷ vs) zero h = refl
-face_at (v ∷ vs) (suc i) h = get_map v (faces vs) i (omega (arith, length_faces vs)) ∙ ap (λ t. v ∷ t) (face_at vs i (omega arith))
+face_at (v ∷ vs) (suc i) h = get_or-map (λ t. v ∷ t) (faces vs) i [] [] (omega (arith, length_faces vs)) ∙ ap (λ t. v ∷ t) (face_at vs i (omega arith))
 
 pub face_made : (i : ℕ) (s : List ℕ) → i < length s → take i s ++ drop (i + 1) s ≡ get_or (faces s) i []
 face_made i s h = rw add-one (without_suc i s h) ∙ sym (face_at s i h)
@@ -134,9 +127,6 @@ length_without (suc i) (v ∷ vs) h = omega (arith, length_without i vs (omega a
 
 pub length_face : (i : ℕ) (s : List ℕ) → i < length s → length (get_or (faces s) i []) + 1 ≡ length s
 length_face i s h = omega (arith, ap length (face_at s i h), length_without i s h)
-
-pub rest_all : (n : ℕ) (xs : List ℕ) → take (length xs - n) (drop n xs) ≡ drop n xs
-rest_all n xs = take_all (length xs - n) (drop n xs) (omega (arith, length-drop n xs))
 
 -- ---- as the code has them
 

@@ -1,24 +1,25 @@
 -- A set's keys in order.
-use Rattle.std.proofs.Common.{◌≡◌, ℕ, zero, suc, ◌+◌, ◌<◌, ◌≤◌, inl, inr, arith, refl, sym, ◌∙◌, ap, subst, List, [], ◌∷◌, ◌++◌, length, get_or, Bool, true, false, ◌||◌, cond, eqb, Ordering, Less, Equal, Greater, Result, Ok, Err}
+use Rattle.std.proofs.lemmas.Bool.{or_left, or_right}
+use Rattle.std.proofs.Common.{◌≡◌, ℕ, zero, suc, ◌+◌, ◌≤◌, inl, inr, arith, refl, sym, ◌∙◌, ap, subst, List, [], ◌∷◌, ◌++◌, length, get_or, Bool, true, false, cond, eqb, Ordering, Less, Equal, Greater, Result, Ok, Err}
 use Rattle.std.specs.Result.{IfOk}
 use Rattle.std.specs.declared.alloc.AllocError.{AllocError}
 use Rattle.std.specs.Ordering.{eq_by_cmp, is_eq, is_lt, ordering_reverse}
 use Rattle.std.specs.Cmp.{both_ways, eq_by_cmp_equiv}
 use Rattle.std.specs.Cmp.Lexicographic.{nat_list_cmp_total}
 use Rattle.std.specs.BTreeSet.{insert_key}
-use Rattle.std.specs.List.{AllByRecursion, IsDistinct, filter, fold, list_any}
+use Rattle.std.specs.List.{AllByRecursion, IsDistinct, filter, list_any}
 use Rattle.std.specs.List.Sorted.{IsPermutation, IsSorted, IsStrictlySortedBy}
-use Rattle.std.proofs.lemmas.List.Elements.{All-from_recursion, recursion_from_All}
+use Rattle.std.proofs.lemmas.List.Elements.{All-filter, All-from_recursion, recursion_from_All}
+use Rattle.std.proofs.lemmas.List.Sums.{fold-append}
 use Rattle.std.proofs.lemmas.List.Kept.{IsStrictlySortedBy-filter}
 use Rattle.std.proofs.lemmas.List.Sorted.{All-permutation, IsPermutation-sym}
 use Rattle.std.proofs.lemmas.Map.Keys.{IsDistinct-IsPermutation, IsDistinct-from_sorted, apart_from_distinct, sorted_from_all_adjacent}
 use Rattle.std.proofs.lemmas.Map.Made.{length-from_same_keys}
 use Rattle.indexmap.specs.IndexSet.{insert_key as insert_last}
-use Rattle.linear_law.specs.Lists.{Among, Each}
-use Rattle.linear_law.proofs.ListLemmas.{each_among}
-use Rattle.simplicial_law.specs.ListedSimplices.{of_degree, simplex_cmp}
-use Rattle.simplicial_law.proofs.OrderedKeys.{among_found, among_inserted, insert_keeps, sorted_inserted, sorted_same}
-use Rattle.simplicial_law.proofs.ListedSimplices.{each_of, exact, fold_puts, in_filter, length_of_test, of_filter, of_fold, sorted_fold}
+use Rattle.linear_law.specs.Names.{Among, Each}
+use Rattle.linear_law.proofs.Names.{each_among}
+use Rattle.simplicial_law.specs.Names.{simplex_cmp}
+use Rattle.simplicial_law.proofs.Names.{among_found, among_inserted, insert_keeps, sorted_inserted, sorted_same, each_of, exact, fold_puts, in_filter, length_of_test, of_filter, of_fold, sorted_fold}
 use Rattle.simplex_set.specs.InOrder.{in_order}
 use Rattle.simplex_set.specs.Levels.{IsLargest}
 
@@ -36,24 +37,12 @@ into_order ks t m = fold_puts ks [] t m
 pub from_order : (ks : List (List ℕ)) (t : List ℕ) → Among t (in_order ks) → Among t ks
 from_order ks t m = elim (of_fold ks [] t m) [ inl a ↦ elim a [ ] | inr b ↦ b ]
 
-either_first : (b r : Bool) → b ≡ true → (b || r) ≡ true
-either_first true r e = refl
-either_first false r e = cc
-
-either_second : (b r : Bool) → r ≡ true → (b || r) ≡ true
-either_second true r e = refl
-either_second false r e = e
-
 pub any_there : (s : List ℕ) (ks : List (List ℕ)) → Among s ks → list_any (same s) ks ≡ true
 any_there s [] m = elim m [ ]
 any_there s (k ∷ ks) m = elim m [
-  | inl e ↦ either_first (same s k) (list_any (same s) ks) (subst (λ (t : List ℕ). same s t ≡ true) (sym e) ((eq_by_cmp_equiv nat_list_cmp_total).refl s))
-  | inr n ↦ either_second (same s k) (list_any (same s) ks) (any_there s ks n)
+  | inl e ↦ or_left (same s k) (list_any (same s) ks) (subst (λ (t : List ℕ). same s t ≡ true) (sym e) ((eq_by_cmp_equiv nat_list_cmp_total).refl s))
+  | inr n ↦ or_right (same s k) (list_any (same s) ks) (any_there s ks n)
 ]
-
-fold_append : (xs ys zs : List (List ℕ)) → fold (insert_key simplex_cmp) zs (xs ++ ys) ≡ fold (insert_key simplex_cmp) (fold (insert_key simplex_cmp) zs xs) ys
-fold_append [] ys zs = refl
-fold_append (x ∷ xs) ys zs = fold_append xs ys (insert_key simplex_cmp zs x)
 
 -- a key that is there stays at its place
 present_stays : (ks : List (List ℕ)) (s : List ℕ) → Among s ks → in_order ks ≡ insert_key simplex_cmp (in_order ks) s
@@ -67,7 +56,7 @@ one_inserted ks ns s e = ap in_order e ∙ go ks s (list_any (same s) ks) (λ b.
   where
     go : (ks : List (List ℕ)) (s : List ℕ) (b : Bool) → (b ≡ true → Among s ks) → in_order (cond b ks (ks ++ s ∷ [])) ≡ insert_key simplex_cmp (in_order ks) s
     go ks s true f = present_stays ks s (f refl)
-    go ks s false f = fold_append ks (s ∷ []) []
+    go ks s false f = fold-append (insert_key simplex_cmp) [] ks (s ∷ [])
 
 pub found_in_order : (ks : List (List ℕ)) (s : List ℕ) → list_any (same s) ks ≡ true → list_any (same s) (in_order ks) ≡ true
 found_in_order ks s e = any_there s (in_order ks) (into_order ks s (among_found simplex_cmp exact s ks e))
@@ -113,12 +102,7 @@ distinct_kept p [] d = tt
 distinct_kept p (x ∷ xs) d = go (p x) x (filter p xs) (apart p x xs d.0) (distinct_kept p xs d.1)
   where
     apart : (p : List ℕ → Bool) (x : List ℕ) (xs : List (List ℕ)) → AllByRecursion (λ y. same x y ≡ false) xs → AllByRecursion (λ y. same x y ≡ false) (filter p xs)
-    apart p x [] h = tt
-    apart p x (y ∷ ys) h = more (p y) y (filter p ys) h.0 (apart p x ys h.1)
-      where
-        more : (b : Bool) (y : List ℕ) (zs : List (List ℕ)) → same x y ≡ false → AllByRecursion (λ y. same x y ≡ false) zs → AllByRecursion (λ y. same x y ≡ false) (cond b (y ∷ zs) zs)
-        more true y zs e h = (e, h)
-        more false y zs e h = h
+    apart p x xs h = recursion_from_All (λ y. same x y ≡ false) (filter p xs) (All-filter p (λ y. same x y ≡ false) xs (All-from_recursion (λ y. same x y ≡ false) xs h))
 
     go : (b : Bool) (x : List ℕ) (zs : List (List ℕ)) → AllByRecursion (λ y. same x y ≡ false) zs → IsDistinct same zs → IsDistinct same (cond b (x ∷ zs) zs)
     go true x zs a d = (a, d)

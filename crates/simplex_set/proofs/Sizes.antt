@@ -1,18 +1,16 @@
 -- The simplices of each size, and the greatest size.
-use Rattle.std.proofs.Common.{◌≡◌, ℕ, ◌+◌, zero, suc, ◌-◌, ◌*◌, ◌<◌, ◌≤◌, inl, inr, arith, refl, sym, ◌∙◌, ap, subst, List, [], ◌∷◌, ◌++◌, length, take, get_or, max, Bool, true, false, eqb, Option, None, Some}
-use Rattle.std.specs.Prelude.{MatchOption, is_some}
+use Rattle.std.proofs.Common.{◌≡◌, ℕ, ◌+◌, zero, suc, ◌-◌, ◌*◌, ◌<◌, ◌≤◌, inl, inr, arith, refl, sym, ◌∙◌, ap, subst, List, [], ◌∷◌, ◌++◌, length, take, get_or, max, Bool, true, false, eqb, Option, None, Some, MatchOption, is_some, append-nil, length-append}
 use mathlib.Core.Bool.{true≢false}
 use Rattle.std.proofs.lemmas.Bool.{cases_eq, cases_lt}
-use Rattle.std.proofs.lemmas.List.{length-append, take_more}
+use Rattle.std.proofs.lemmas.List.{take_more}
 use Rattle.std.specs.Cmp.{both_ways}
-use Rattle.std.specs.List.{filter, list_any}
-use Rattle.std.specs.List.Sorted.{IsStrictlySortedBy}
+use Rattle.std.specs.List.{list_any}
 use Rattle.std.specs.Str.{bytes_eq}
-use Rattle.linear_law.specs.Lists.{Among, Each}
-use Rattle.linear_law.proofs.ListLemmas.{among_left, each_among, each_append, each_get_or, each_map}
-use Rattle.simplicial_law.specs.ListedSimplices.{of_degree, simplex_cmp, simplices, sublists}
-use Rattle.simplicial_law.proofs.OrderedKeys.{among_found}
-use Rattle.simplicial_law.proofs.ListedSimplices.{exact, get_or_any, in_filter, of_all, of_filter, sublists_some, test_of_length}
+use Rattle.linear_law.specs.Names.{Among, Each}
+use Rattle.linear_law.proofs.Names.{among_left, among_right, each_among, each_append, each_get_or, each_itself, each_map, get_before, get_last, length_push as length_more}
+use Rattle.simplicial_law.specs.Names.{of_degree, simplex_cmp}
+use Rattle.simplicial_law.specs.ListedSimplices.{simplices}
+use Rattle.simplicial_law.proofs.Names.{among_found, exact, get_or_any, in_filter, of_all, of_filter, sublists_some, test_of_length}
 use Rattle.simplex_set.specs.Levels.{AreLevelsOf, IsLargest}
 use Rattle.simplex_set.specs.Pieces.{pieces}
 use Rattle.simplex_set.proofs.AddingFaces.{any_simplex}
@@ -24,16 +22,12 @@ use Rattle.simplex_set.proofs.Ordered.{any_there, same}
 pub largest_none : IsLargest [] 0
 largest_none = record { bound = tt; top = inl refl }
 
-among_last : {X : Type 0} (x : X) (xs : List X) → Among x (xs ++ x ∷ [])
-among_last x [] = inl refl
-among_last x (z ∷ xs) = inr (among_last x xs)
-
 pub largest_more : (ks : List (List ℕ)) (i n m : ℕ) (s : List ℕ) → i < length ks → s ≡ get_or ks i s → IsLargest (take i ks) n → m ≡ max n (length s) → IsLargest (take (i + 1) ks) m
 largest_more ks i n m s l e h q =
     subst (λ (xs : List (List ℕ)). IsLargest xs m) (sym (take_more ks i s l ∙ ap (λ (t : List ℕ). take i ks ++ t ∷ []) (sym e))) (record {
       bound = each_append (λ t. length t ≤ m) (take i ks) (s ∷ []) (each_map (λ t b. omega (arith, q)) (take i ks) h.bound) (omega (arith, q), tt);
       top = elim (cases_lt n (length s)) [
-        | inl a ↦ inr (s, (among_last s (take i ks), omega (arith, q)))
+        | inl a ↦ inr (s, (among_right s (take i ks) (s ∷ []) (inl refl), omega (arith, q)))
         | inr b ↦ elim h.top [
           | inl z ↦ inl (omega (arith, q))
           | inr k ↦ inr (k.0, (among_left k.0 (take i ks) (s ∷ []) k.1.0, k.1.1 ∙ omega (arith, q)))
@@ -71,9 +65,7 @@ out_of_degree : (ks : List (List ℕ)) (n : ℕ) (s : List ℕ) → Among s (of_
 out_of_degree ks n s m = (of_filter (λ t. eqb (length t) (n + 1)) ks s m).0
 
 pub among_place : {X : Type 0} (xs : List X) (k : ℕ) (d : X) → k < length xs → Among (get_or xs k d) xs
-among_place [] k d h = absurd (omega arith)
-among_place (x ∷ xs) zero d h = inl refl
-among_place (x ∷ xs) (suc k) d h = inr (among_place xs k d (omega arith))
+among_place xs k d h = each_get_or (λ y. Among y xs) xs k d h (each_itself xs)
 
 absent_is : (ks : List (List ℕ)) (s : List ℕ) → (Among s ks → ⊥) → false ≡ list_any (bytes_eq s) ks
 absent_is ks s n = there_is ks s false (λ e. absurd (true≢false (sym e))) (λ m. absurd (n m))
@@ -87,30 +79,13 @@ level_here ks ls s v l a e p q f = f ∙ get_or_any ls (length v - 1) l [] (omeg
 
 pub looked_up : (ks : List (List ℕ)) (s v : List ℕ) (l : List (List ℕ)) (o : Option ℕ) (b : Bool) → 0 < length s → l ≡ of_degree (length s - 1) ks → v ≡ s → b ≡ is_some o
     → MatchOption o (Among (v ++ []) l → ⊥) (λ k. (k < length l) × (get_or l k [] ≡ v ++ [])) → b ≡ list_any (bytes_eq s) ks
-looked_up ks s v l o b p f e q r = q ∙ go ks s l o p f (subst (λ (t : List ℕ). MatchOption o (Among t l → ⊥) (λ k. (k < length l) × (get_or l k [] ≡ t))) (nothing_behind v ∙ e) r)
+looked_up ks s v l o b p f e q r = q ∙ go ks s l o p f (subst (λ (t : List ℕ). MatchOption o (Among t l → ⊥) (λ k. (k < length l) × (get_or l k [] ≡ t))) (append-nil v ∙ e) r)
   where
-    nothing_behind : (xs : List ℕ) → xs ++ [] ≡ xs
-    nothing_behind [] = refl
-    nothing_behind (x ∷ xs) = ap (λ ys. x ∷ ys) (nothing_behind xs)
-
     go : (ks : List (List ℕ)) (s : List ℕ) (l : List (List ℕ)) (o : Option ℕ) → 0 < length s → l ≡ of_degree (length s - 1) ks → MatchOption o (Among s l → ⊥) (λ k. (k < length l) × (get_or l k [] ≡ s)) → is_some o ≡ list_any (bytes_eq s) ks
     go ks s l None p f r = absent_is ks s (λ m. r (subst (Among s) (sym f) (in_degree ks s p m)))
     go ks s l (Some k) p f r = there_is ks s true (λ e. out_of_degree ks (length s - 1) s (subst (Among s) f (subst (λ (t : List ℕ). Among t l) r.1 (among_place l k [] r.0)))) (λ m. refl)
 
 -- ---- one level after the other
-
-get_push : (ls : List (List (List ℕ))) (l : List (List ℕ)) (n : ℕ) → n < length ls → get_or (ls ++ l ∷ []) n [] ≡ get_or ls n []
-get_push [] l n h = absurd (omega arith)
-get_push (k ∷ ls) l zero h = refl
-get_push (k ∷ ls) l (suc n) h = get_push ls l n (omega arith)
-
-get_last : (ls : List (List (List ℕ))) (l : List (List ℕ)) → get_or (ls ++ l ∷ []) (length ls) [] ≡ l
-get_last [] l = refl
-get_last (k ∷ ls) l = get_last ls l
-
-levels_pushed : (ls : List (List (List ℕ))) (l : List (List ℕ)) → length (ls ++ l ∷ []) ≡ length ls + 1
-levels_pushed [] l = refl
-levels_pushed (y ∷ ys) l = omega (arith, levels_pushed ys l)
 
 -- the levels below degree n
 pub record AreFirst (ks : List (List ℕ)) (ls : List (List (List ℕ))) (n : ℕ) : Type 0 where
@@ -122,10 +97,10 @@ first_none ks ls e = record { len = ap length e; levels = λ m h. absurd (omega 
 
 pub first_more : (ks : List (List ℕ)) (ls ns : List (List (List ℕ))) (n : ℕ) (l : List (List ℕ)) → AreFirst ks ls n → ns ≡ ls ++ l ∷ [] → l ≡ of_degree n ks → AreFirst ks ns (n + 1)
 first_more ks ls ns n l a e f = subst (λ (ms : List (List (List ℕ))). AreFirst ks ms (n + 1)) (sym e) (record {
-  len = omega (arith, levels_pushed ls l, a.len);
+  len = omega (arith, length_more ls l, a.len);
   levels = λ m h. elim (cases_eq m (length ls)) [
-    | inl q ↦ ap (λ (k : ℕ). get_or (ls ++ l ∷ []) k []) q ∙ get_last ls l ∙ f ∙ ap (λ (k : ℕ). of_degree k ks) (sym (q ∙ a.len))
-    | inr d ↦ (let b : m < length ls = omega (arith, h, levels_pushed ls l, d) in get_push ls l m b ∙ a.levels m b)
+    | inl q ↦ ap (λ (k : ℕ). get_or (ls ++ l ∷ []) k []) q ∙ get_last ls l [] ∙ f ∙ ap (λ (k : ℕ). of_degree k ks) (sym (q ∙ a.len))
+    | inr d ↦ (let b : m < length ls = omega (arith, h, length_more ls l, d) in get_before ls l m [] b ∙ a.levels m b)
   ];
 })
 

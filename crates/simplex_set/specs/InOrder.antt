@@ -1,7 +1,7 @@
 -- Lists of vertices in the order of simplices.
 use Rattle.std.specs.Prelude.{ℕ, List, [], fold}
 use Rattle.std.specs.BTreeSet.{insert_key}
-use Rattle.simplicial_law.specs.ListedSimplices.{simplex_cmp}
+use Rattle.simplicial_law.specs.Names.{simplex_cmp}
 
 -- the lists in order, each once
 abbrev pub in_order : List (List ℕ) → List (List ℕ)

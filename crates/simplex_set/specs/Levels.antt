@@ -1,7 +1,7 @@
 -- The simplices of a complex by their number of vertices.
 use Rattle.std.specs.Prelude.{◌≡◌, ℕ, ◌≤◌, ◌<◌, ◌⊎◌, List, [], length, get_or}
-use Rattle.linear_law.specs.Lists.{Among, Each}
-use Rattle.simplicial_law.specs.ListedSimplices.{of_degree}
+use Rattle.linear_law.specs.Names.{Among, Each}
+use Rattle.simplicial_law.specs.Names.{of_degree}
 
 -- n is the greatest length
 pub record IsLargest (ks : List (List ℕ)) (n : ℕ) : Type 0 where

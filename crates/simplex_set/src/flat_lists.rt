@@ -1,7 +1,7 @@
 ghost use Rattle.std.specs.Prelude.{◌≡◌, ◌<◌, ◌*◌, ◌++◌, [], length, get_or, IfOk, MatchOption};
 ghost use Rattle.std.specs.List.Sorted.{IsStrictlySortedBy};
-ghost use Rattle.linear_law.specs.Lists.{Among, Each};
-ghost use Rattle.simplicial_law.specs.ListedSimplices.{simplex_cmp};
+ghost use Rattle.linear_law.specs.Names.{Among, Each};
+ghost use Rattle.simplicial_law.specs.Names.{simplex_cmp};
 ghost use Rattle.simplex_set.specs.Pieces.{pieces};
 
 use crate::{Simplex, compare};

@@ -1,7 +1,7 @@
 ghost use Rattle.std.specs.Prelude.{◌≡◌, ◌<◌, [], length, get_or, IfOk};
-ghost use Rattle.simplicial_law.specs.Cochains.{faces};
+ghost use Rattle.simplicial_law.specs.Names.{faces};
 ghost use Rattle.std.proofs.Common.{ap, rules};
-ghost use Rattle.simplicial_law.proofs.ListedSimplices.{exact};
+ghost use Rattle.simplicial_law.proofs.Names.{exact};
 ghost use Rattle.std.specs.Cmp.{Equal-is, partial_order_from_own_ties};
 ghost use Rattle.std.specs.Cmp.Rules.{comparing};
 ghost use Rattle.std.specs.Cmp.Lexicographic.{slice_cmp};

@@ -1,4 +1,5 @@
 pub mod RowLemmas
+pub mod PairedRows
 pub mod MergeLemmas
 pub mod SearchLemmas
 pub mod SortLemmas

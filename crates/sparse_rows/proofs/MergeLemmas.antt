@@ -3,12 +3,8 @@ use Rattle.std.proofs.Common.{◌≡◌, ℕ, ◌+◌, ◌*◌, ◌%◌, ◌<◌
 use Rattle.std.proofs.lemmas.Bool.{cases_eq}
 use Rattle.std.proofs.Math.Nat.{mod-eq_of_lt}
 use Rattle.std.proofs.lemmas.List.{get_or_default, take_more}
-use Rattle.linear_law.specs.Congruence.{Congruent}
-use Rattle.linear_law.specs.Lists.{Each, IsAscending}
-use Rattle.linear_law.specs.Listing.{unit_vector}
-use Rattle.linear_law.proofs.CongruenceLemmas.{Congruent_add, Congruent_from, Congruent_mod, Congruent_mul, Congruent_of, Congruent_refl, Congruent_trans}
-use Rattle.linear_law.proofs.ListLemmas.{each_map, each_push}
-use Rattle.linear_law.proofs.SumLemmas.{sum_append}
+use Rattle.linear_law.specs.Names.{Congruent, Each, IsAscending, unit_vector}
+use Rattle.linear_law.proofs.Names.{Congruent_add, Congruent_from, Congruent_mod, Congruent_mul, Congruent_of, Congruent_refl, Congruent_trans, each_map, each_push, sum_append}
 use Rattle.sparse_rows.specs.Rows.{IsBelow, IsRow, value_in}
 use Rattle.sparse_rows.specs.Merging.{IsNext, StartsFrom, StepsOver, position_of}
 use Rattle.sparse_rows.proofs.RowLemmas.{ascending_from, sum_take, value_in-small}

@@ -1,12 +1,9 @@
 -- What a row has at each place.
-use Rattle.std.proofs.Common.{◌≡◌, ◌≢◌, ℕ, zero, suc, ◌+◌, ◌*◌, ◌%◌, ◌<◌, ◌≤◌, List, [], ◌∷◌, map, take, length, get_or, arith, refl, sym, ◌∙◌, ap, ap₂, subst, inl, inr, add-one}
+use Rattle.std.proofs.Common.{◌≡◌, ◌≢◌, ℕ, zero, suc, ◌+◌, ◌*◌, ◌%◌, ◌<◌, ◌≤◌, List, [], ◌∷◌, map, take, length, get_or, arith, refl, sym, ◌∙◌, ap, ap₂, subst, inl, inr, add-one, mod-eq_of_lt}
 use Rattle.std.proofs.lemmas.Bool.{cases_eq, cases_lt}
 use native.Mathlib.Nat.{add-mod, zero-mod}
-use Rattle.linear_law.specs.Congruence.{sum_over}
-use Rattle.linear_law.specs.Lists.{Each, IsAscending}
-use Rattle.linear_law.specs.Listing.{unit_vector}
-use Rattle.linear_law.proofs.ListLemmas.{each_map, each_get_or, each_unmap}
-use Rattle.linear_law.proofs.RowCombinations.{unit_one, unit_other}
+use Rattle.linear_law.specs.Names.{Congruent, sum_over, Each, IsAscending, unit_vector}
+use Rattle.linear_law.proofs.Names.{Congruent_mod, Congruent_of, Congruent_trans, each_from_index, each_map, each_get_or, each_unmap, unit_one, unit_other}
 use Rattle.sparse_rows.specs.Rows.{IsBelow, IsFirst, IsRow, pairing, value_in}
 use Rattle.sparse_rows.specs.Merging.{position_of}
 
@@ -85,20 +82,20 @@ pairing_more p row other i pair sum at product is b s a m =
     ∙ ap (λ (x : ℕ × ℕ). (pairing (take i row) other + x.1 * value_in other x.0) % p) is
     ∙ ap (λ x. x % p) (sym (sum_take (λ (e : ℕ × ℕ). e.1 * value_in other e.0) row i pair b))
 
-each_by_index : (P : ℕ × ℕ → Type 0) (row : List (ℕ × ℕ)) → ((i : ℕ) → i < length row → P (get_or row i (0, 0))) → Each P row
-each_by_index P [] h = tt
-each_by_index P (e ∷ es) h = (h 0 (omega arith), each_by_index P es (λ i b. h (suc i) (omega arith)))
+-- beyond a bound of the positions there is nothing
+pub value_in-past : (bound k : ℕ) (row : List (ℕ × ℕ)) → IsBelow bound row → bound ≤ k → value_in row k ≡ 0
+value_in-past bound k row h b = value_in-none row k (each_map {Q = λ (e : ℕ × ℕ). e.0 ≢ k} (λ e c q. absurd (omega arith)) row h)
 
--- a row that is the sum of the pairs has no position beyond theirs
-pub below_of_sum : (p : ℕ) (pairs row : List (ℕ × ℕ)) → IsRow p row → ((k : ℕ) → value_in row k ≡ value_in pairs k % p) → (bound : ℕ) → IsBelow bound pairs → IsBelow bound row
-below_of_sum p pairs row h s bound below = each_by_index (λ e. e.0 < bound) row (λ i b. elim (cases_lt (get_or row i (0, 0)).0 bound) [
+-- a row that is zero from a bound on has its positions below
+pub below_of_zero : (p bound : ℕ) (row : List (ℕ × ℕ)) → IsRow p row → ((k : ℕ) → bound ≤ k → Congruent p (value_in row k) 0) → IsBelow bound row
+below_of_zero p bound row h z = each_from_index (λ (e : ℕ × ℕ). e.0 < bound) row (λ i d b. elim (cases_lt (get_or row i d).0 bound) [
   | inl l ↦ l
-  | inr m ↦ absurd (nonzero i b (sym (value_in-at row i (0, 0) h.ascends b) ∙ s (get_or row i (0, 0)).0
-      ∙ ap (λ x. x % p) (value_in-none pairs (get_or row i (0, 0)).0 (each_map (away (get_or row i (0, 0)).0 m) pairs below)) ∙ zero-mod p))
+  | inr m ↦
+      let v = each_get_or (λ (e : ℕ × ℕ). (e.1 ≢ 0) × (e.1 < p)) row i d b h.values in
+      absurd (v.0 (sym (mod-eq_of_lt v.1) ∙ ap (λ n. n % p) (sym (value_in-at row i d h.ascends b)) ∙ (z (get_or row i d).0 m).same ∙ zero-mod p))
 ])
-  where
-    nonzero : (i : ℕ) → i < length row → (get_or row i (0, 0)).1 ≢ 0
-    nonzero i b = (each_get_or (λ e. (e.1 ≢ 0) × (e.1 < p)) row i (0, 0) b h.values).0
 
-    away : (k : ℕ) → bound ≤ k → (e : ℕ × ℕ) → e.0 < bound → e.0 ≢ k
-    away k m e l q = absurd (omega arith)
+-- so a row that is the sum of pairs has no position beyond theirs
+pub below_of_sum : (p : ℕ) (pairs row : List (ℕ × ℕ)) → IsRow p row → ((k : ℕ) → value_in row k ≡ value_in pairs k % p) → (bound : ℕ) → IsBelow bound pairs → IsBelow bound row
+below_of_sum p pairs row h s bound below =
+    below_of_zero p bound row h (λ k b. Congruent_trans (Congruent_of (s k)) (Congruent_trans (Congruent_mod p (value_in pairs k)) (Congruent_of (value_in-past bound k pairs below b))))

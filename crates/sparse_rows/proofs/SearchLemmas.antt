@@ -7,7 +7,7 @@ use Rattle.std.specs.Cmp.{nat_cmp_is}
 use Rattle.std.specs.declared.cmp.Ordering.{Ordering}
 use Rattle.std.specs.declared.cmp.Ordering.TheVariants.{Less, Equal, Greater}
 use Rattle.std.specs.List.Sorted.{IsNonDecreasingBy, IsPartitionPoint}
-use Rattle.linear_law.specs.Lists.{IsAscending}
+use Rattle.linear_law.specs.Names.{IsAscending}
 use Rattle.sparse_rows.specs.Rows.{IsRow, value_in}
 use Rattle.sparse_rows.specs.Merging.{position_of}
 use Rattle.sparse_rows.proofs.RowLemmas.{ascending_from, value_in-at, value_in-nowhere}

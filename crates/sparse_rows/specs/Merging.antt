@@ -1,6 +1,6 @@
 -- Two rows walked side by side.
 use Rattle.std.specs.Prelude.{◌≡◌, ℕ, ◌+◌, ◌*◌, ◌<◌, ◌≤◌, ◌⊎◌, List, length, slice_index_or, take}
-use Rattle.linear_law.specs.Listing.{unit_vector}
+use Rattle.linear_law.specs.Names.{unit_vector}
 use Rattle.sparse_rows.specs.Rows.{value_in}
 
 -- the position of the k-th pair

@@ -1,8 +1,6 @@
 -- Rows: pairs of a position and a value modulo p.
 use Rattle.std.specs.Prelude.{◌≡◌, ◌≢◌, ℕ, ◌*◌, ◌<◌, List, map}
-use Rattle.linear_law.specs.Congruence.{sum_over}
-use Rattle.linear_law.specs.Lists.{Each, IsAscending}
-use Rattle.linear_law.specs.Listing.{unit_vector}
+use Rattle.linear_law.specs.Names.{sum_over, Each, IsAscending, unit_vector}
 
 -- The value at k: the sum of the values that stand there. A row has one at most, so it is that value, or 0.
 abbrev pub value_in : List (ℕ × ℕ) → ℕ → ℕ

@@ -1,7 +1,7 @@
 //! One row plus a multiple of another, in one pass over both, and the sum of ascending pairs.
 ghost use Rattle.std.specs.Prelude.{◌≡◌, ℕ, ◌+◌, ◌*◌, ◌%◌, ◌<◌, ◌≤◌, ◌≢◌, ◌⊎◌, [], ◌∷◌, ◌++◌, length, IfOk, OnOk, OnErr, IsTrue};
 ghost use Rattle.std.specs.List.Sorted.{IsNonDecreasingBy};
-ghost use Rattle.linear_law.specs.Listing.{unit_vector};
+ghost use Rattle.linear_law.specs.Names.{unit_vector};
 ghost use Rattle.fp_field.specs.Served.{served};
 ghost use Rattle.sparse_rows.specs.Rows.{IsBelow, IsRow, value_in};
 ghost use Rattle.sparse_rows.specs.Merging.{IsNext, StartsFrom, StepsOver};

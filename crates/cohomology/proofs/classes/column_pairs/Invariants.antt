@@ -1,4 +1,4 @@
-use Rattle.cohomology.specs.Cycles.{IsColumnRow}
+use Rattle.cohomology.specs.Names.{IsColumnRow}
 use Rattle.cohomology.proofs.classes.column_pairs.Given as goal
 
 abbrev pub invariant-loop-at : goal.invariant-loop-at

@@ -2,10 +2,10 @@ use Rattle.std.proofs.Common.{◌<◌, ◌^◌, List, ℕ, length, lit<, sym, su
 use Rattle.std.specs.List.{AllZip}
 use Rattle.fp_field.proofs.ServedLemmas.{served_field}
 use Rattle.complex_index.specs.declared.indexed.Cochain.{Cochain}
+use Rattle.row_reduce.specs.Names.{AreTriangular}
 use Rattle.row_reduce.specs.declared.Stored.{Stored}
-use Rattle.row_reduce.specs.Triangular.{AreTriangular}
 use Rattle.cycle_table.specs.Tables.{AreCycles, AreFree}
-use Rattle.cohomology.specs.Cycles.{IsLeadOf}
+use Rattle.cohomology.specs.Names.{IsLeadOf}
 use Rattle.cohomology.proofs.ClassLemmas.{duals_made, few_leads, places_free, triangular_here}
 use Rattle.cohomology.proofs.classes.degree_at.Goals as goal
 

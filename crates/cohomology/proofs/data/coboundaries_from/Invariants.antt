@@ -1,5 +1,5 @@
 use Rattle.std.specs.List.{AllZip}
-use Rattle.cohomology.specs.Data.{IsCoboundaryFrom}
+use Rattle.cohomology.specs.Names.{IsCoboundaryFrom}
 use Rattle.cohomology.proofs.data.coboundaries_from.Given as goal
 
 abbrev pub invariant-loop-row : goal.invariant-loop-row

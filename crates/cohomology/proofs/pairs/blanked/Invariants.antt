@@ -1,4 +1,4 @@
-use Rattle.cohomology.specs.Pairs.{AreBlanked}
+use Rattle.cohomology.specs.Names.{AreBlanked}
 use Rattle.cohomology.proofs.pairs.blanked.Given as goal
 
 abbrev pub invariant-loop-row : goal.invariant-loop-row

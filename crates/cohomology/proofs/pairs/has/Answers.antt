@@ -1,7 +1,6 @@
-use Rattle.std.proofs.Common.{subst, sym}
-use Rattle.std.specs.Prelude.{◌↔◌, Bool, IsTrue}
-use Rattle.linear_law.specs.Lists.{Among}
-use Rattle.complex_index.specs.Levels.{level}
+use Rattle.std.proofs.Common.{subst, sym, ◌↔◌, Bool, IsTrue}
+use Rattle.linear_law.specs.Names.{Among}
+use Rattle.complex_index.specs.Names.{level}
 use Rattle.cohomology.proofs.PairLemmas.{has_simplex}
 use Rattle.cohomology.proofs.pairs.has.Goals as goal
 

@@ -1,5 +1,5 @@
 use Rattle.std.proofs.Common.{◌⊎◌}
-use Rattle.row_reduce.specs.Pivots.{IsLeadIn, IsMarkedIn}
+use Rattle.row_reduce.specs.Names.{IsLeadIn, IsMarkedIn}
 use Rattle.cohomology.proofs.PairLemmas.{MarksTo}
 use Rattle.cohomology.proofs.pairs.joined.Given as goal
 

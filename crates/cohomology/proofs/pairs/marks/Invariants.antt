@@ -1,6 +1,6 @@
 use Rattle.std.proofs.Common.{get_or, []}
-use Rattle.linear_law.specs.Lists.{Among}
-use Rattle.complex_index.specs.Levels.{level}
+use Rattle.linear_law.specs.Names.{Among}
+use Rattle.complex_index.specs.Names.{level}
 use Rattle.cohomology.proofs.PairLemmas.{MarksTo}
 use Rattle.cohomology.proofs.pairs.marks.Given as goal
 

@@ -1,6 +1,6 @@
 use Rattle.std.proofs.Common.{List, ℕ, lit<, sym, subst}
 use Rattle.std.proofs.lemmas.Result.{IfOk-weaker}
-use Rattle.cohomology.specs.Pairs.{IsSubIndex}
+use Rattle.cohomology.specs.Names.{IsSubIndex}
 use Rattle.cohomology.proofs.LoopLemmas.{bases_all, placed_from}
 use Rattle.cohomology.proofs.WalkLemmas.{complex_pair}
 use Rattle.cohomology.proofs.walk.classes_of.Goals as goal

@@ -1,4 +1,4 @@
-use Rattle.cohomology.specs.Classes.{IsReachedIn}
+use Rattle.cohomology.specs.Names.{IsReachedIn}
 use Rattle.cohomology.proofs.LoopLemmas.{AreMade, IsFoundAlone}
 use Rattle.cohomology.proofs.walk.relative_classes_of.Given as goal
 

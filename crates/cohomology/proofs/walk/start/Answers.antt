@@ -1,6 +1,5 @@
-use Rattle.std.proofs.Common.{rules, ap, ◌∙◌}
-use Rattle.std.specs.Prelude.{Option, None, ℕ}
-use Rattle.linear_law.specs.Lists.{copies}
+use Rattle.std.proofs.Common.{rules, ap, ◌∙◌, Option, None, ℕ}
+use Rattle.linear_law.specs.Names.{copies}
 use Rattle.cohomology.proofs.WalkLemmas.{nothing_reached}
 use Rattle.cohomology.proofs.walk.start.Goals as goal
 

@@ -1,7 +1,6 @@
 use Rattle.std.proofs.Common.{rules, List, ℕ, subst, sym, lit<}
 use Rattle.fp_field.proofs.ServedLemmas.{served_field}
-use Rattle.row_reduce.specs.Walk.{AreRows, SkipsFit}
-use Rattle.row_reduce.specs.Triangular.{IsSolvedStored}
+use Rattle.row_reduce.specs.Names.{AreRows, SkipsFit, IsSolvedStored}
 use Rattle.cohomology.proofs.CoboundaryLemmas.{solved_tells}
 use Rattle.cohomology.proofs.WalkLemmas.{walked_rows, solved_degree, solved_next}
 use Rattle.cohomology.proofs.walk.step_at.Goals as goal

@@ -1,5 +1,5 @@
 use Rattle.std.proofs.Common.{◌≡◌, ◌++◌, drop}
-use Rattle.complex_index.specs.Chains.{shrunk}
+use Rattle.complex_index.specs.Names.{shrunk}
 use Rattle.complex_index.proofs.chains.boundary_pairs.Given as goal
 
 abbrev pub invariant-loop-pair : goal.invariant-loop-pair

@@ -1,5 +1,5 @@
 use Rattle.std.proofs.Common.{◌≡◌, ◌++◌, drop}
-use Rattle.complex_index.specs.Chains.{spread}
+use Rattle.complex_index.specs.Names.{spread}
 use Rattle.complex_index.proofs.chains.coboundary_pairs.Given as goal
 
 abbrev pub invariant-loop-pair : goal.invariant-loop-pair

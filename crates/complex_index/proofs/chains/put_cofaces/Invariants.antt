@@ -1,5 +1,5 @@
 use Rattle.std.proofs.Common.{◌≡◌, ◌++◌, map, take}
-use Rattle.complex_index.specs.Chains.{pair_of}
+use Rattle.complex_index.specs.Names.{pair_of}
 use Rattle.complex_index.proofs.chains.put_cofaces.Given as goal
 
 abbrev pub invariant-loop-coface : goal.invariant-loop-coface

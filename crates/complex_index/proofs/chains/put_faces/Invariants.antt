@@ -1,5 +1,5 @@
 use Rattle.std.proofs.Common.{◌≡◌, ◌++◌, false, drop}
-use Rattle.complex_index.specs.Chains.{signed_places}
+use Rattle.complex_index.specs.Names.{signed_places}
 use Rattle.complex_index.proofs.chains.put_faces.Given as goal
 
 abbrev pub invariant-loop-place : goal.invariant-loop-place

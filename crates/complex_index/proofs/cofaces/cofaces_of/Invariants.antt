@@ -1,5 +1,5 @@
 use Rattle.std.proofs.Common.{◌≡◌, ◌++◌, ℕ, length, drop}
-use Rattle.complex_index.specs.Incidence.{above_at, list_at}
+use Rattle.complex_index.specs.Names.{above_at, list_at}
 use Rattle.complex_index.proofs.cofaces.cofaces_of.Given as goal
 
 abbrev pub invariant-loop-y : goal.invariant-loop-y

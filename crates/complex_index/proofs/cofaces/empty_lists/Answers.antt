@@ -1,7 +1,6 @@
 use Rattle.std.proofs.Common.{◌≡◌, [], arith, subst, sym, List, Vec, Global}
-use Rattle.complex_index.specs.Incidence.{list_at}
+use Rattle.complex_index.specs.Names.{list_at, Coface}
 use Rattle.complex_index.proofs.FacePlaces.{rows_push}
-use Rattle.complex_index.specs.declared.cofaces.Coface.{Coface}
 use Rattle.complex_index.proofs.cofaces.empty_lists.Goals as goal
 
 pub loop-preserved : goal.loop-preserved

@@ -1,5 +1,5 @@
 use Rattle.std.proofs.Common.{◌≡◌, ℕ, [], length}
-use Rattle.complex_index.specs.Incidence.{list_at}
+use Rattle.complex_index.specs.Names.{list_at}
 use Rattle.complex_index.proofs.cofaces.empty_lists.Given as goal
 
 abbrev pub invariant-loop : goal.invariant-loop

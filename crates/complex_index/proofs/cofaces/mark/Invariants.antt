@@ -1,5 +1,5 @@
 use Rattle.std.proofs.Common.{◌≡◌, ◌++◌, ℕ, false, drop}
-use Rattle.complex_index.specs.Incidence.{marks, list_at}
+use Rattle.complex_index.specs.Names.{marks, list_at}
 use Rattle.complex_index.proofs.cofaces.mark.Given as goal
 
 abbrev pub invariant-loop-place : goal.invariant-loop-place

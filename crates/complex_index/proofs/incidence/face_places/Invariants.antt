@@ -1,6 +1,6 @@
 use Rattle.std.proofs.Common.{◌≡◌, ◌*◌, length, take}
 use Rattle.simplex_set.specs.Pieces.{pieces}
-use Rattle.complex_index.specs.Incidence.{ArePlacesOf}
+use Rattle.complex_index.specs.Names.{ArePlacesOf}
 use Rattle.complex_index.proofs.incidence.face_places.Given as goal
 
 abbrev pub invariant-loop-y : goal.invariant-loop-y

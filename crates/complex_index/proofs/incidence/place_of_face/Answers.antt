@@ -1,5 +1,5 @@
 use Rattle.std.proofs.Common.{◌∙◌, sym, subst, List, ℕ}
-use Rattle.linear_law.specs.Lists.{Among}
+use Rattle.linear_law.specs.Names.{Among}
 use Rattle.complex_index.proofs.FacePlaces.{face_joined}
 use Rattle.complex_index.proofs.incidence.place_of_face.Goals as goal
 

@@ -1,8 +1,9 @@
 use Rattle.std.proofs.Common.{arith, List, ℕ, []}
-use Rattle.linear_law.specs.Lists.{Among}
-use Rattle.linear_law.proofs.ListLemmas.{each_get_or}
-use Rattle.simplicial_law.specs.Cochains.{faces}
-use Rattle.complex_index.proofs.FacePlaces.{adding_all, adding_more, adding_none, length_faces}
+use Rattle.linear_law.specs.Names.{Among}
+use Rattle.linear_law.proofs.Names.{each_get_or}
+use Rattle.simplicial_law.specs.Names.{faces}
+use Rattle.simplex_set.proofs.AddingFaces.{length_faces}
+use Rattle.complex_index.proofs.FacePlaces.{adding_all, adding_more, adding_none}
 use Rattle.complex_index.proofs.incidence.put_places.Goals as goal
 
 pub loop-at-init : goal.loop-at-init

@@ -1,6 +1,6 @@
 use Rattle.std.proofs.Common.{◌≡◌, ◌∙◌, ◌+◌, ◌-◌, [], arith, length, subst, sym, ℕ, List}
-use Rattle.linear_law.specs.Lists.{Each}
-use Rattle.simplicial_law.proofs.ListedSimplices.{get_or_any}
+use Rattle.linear_law.specs.Names.{Each}
+use Rattle.simplicial_law.proofs.Names.{get_or_any}
 use Rattle.complex_index.proofs.LevelLemmas.{present_at}
 use Rattle.complex_index.proofs.levels.level_at.Goals as goal
 

@@ -1,5 +1,5 @@
 use Rattle.std.proofs.Common.{◌<◌, arith, subst, sym, ℕ, List}
-use Rattle.linear_law.specs.Lists.{Each}
+use Rattle.linear_law.specs.Names.{Each}
 use Rattle.complex_index.proofs.LevelLemmas.{places_below, places_length}
 use Rattle.complex_index.proofs.levels.level_over.Goals as goal
 

@@ -1,5 +1,5 @@
 use Rattle.std.proofs.Common.{◌<◌, take, ℕ}
-use Rattle.linear_law.specs.Lists.{Each}
+use Rattle.linear_law.specs.Names.{Each}
 use Rattle.complex_index.proofs.maps.past_all.Given as goal
 
 abbrev pub invariant-loop-send : goal.invariant-loop-send

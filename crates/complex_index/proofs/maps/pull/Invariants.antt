@@ -1,9 +1,8 @@
 use Rattle.std.proofs.Common.{◌≡◌, ◌<◌, ℕ, [], get_or}
-use Rattle.simplicial_law.specs.CanonicalClasses.{cochain_of}
-use Rattle.simplicial_law.specs.Places.{terms_of}
-use Rattle.steenrod_law.specs.Operations.{pull_back}
+use Rattle.simplicial_law.specs.Names.{cochain_of, terms_of}
+use Rattle.steenrod_law.specs.Names.{pull_back}
 use Rattle.sparse_rows.specs.Rows.{IsBelow, value_in}
-use Rattle.complex_index.specs.Levels.{level}
+use Rattle.complex_index.specs.Names.{level}
 use Rattle.complex_index.proofs.maps.pull.Given as goal
 
 abbrev pub invariant-loop-place : goal.invariant-loop-place

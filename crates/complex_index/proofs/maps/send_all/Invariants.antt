@@ -1,5 +1,5 @@
 use Rattle.std.proofs.Common.{◌≡◌, ℕ, get_or, length, take}
-use Rattle.complex_index.specs.Maps.{image_of}
+use Rattle.complex_index.specs.Names.{image_of}
 use Rattle.complex_index.proofs.maps.send_all.Given as goal
 
 abbrev pub invariant-loop-send : goal.invariant-loop-send

@@ -1,5 +1,5 @@
 use Rattle.std.proofs.Common.{◌<◌, ◌≤◌, ◌^◌, List, ℕ, length, sym, subst}
-use Rattle.linear_law.specs.Lists.{Each, IsAscending}
+use Rattle.linear_law.specs.Names.{Each, IsAscending}
 use Rattle.simplicial_law.specs.ListedSimplices.{simplices}
 use Rattle.complex_index.proofs.Triangle.{edges_ascend, edges_few, edges_short}
 use Rattle.complex_index.proofs.tests.a_circle_has_coboundaries_and_boundaries.Goals as goal

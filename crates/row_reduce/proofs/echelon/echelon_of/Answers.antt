@@ -1,5 +1,5 @@
 use Rattle.std.proofs.Common.{sym, subst}
-use Rattle.row_reduce.specs.Echelon.{IsEchelonFrom}
+use Rattle.row_reduce.specs.Names.{IsEchelonFrom}
 use Rattle.row_reduce.proofs.echelon.echelon_of.Goals as goal
 
 pub returns : goal.returns

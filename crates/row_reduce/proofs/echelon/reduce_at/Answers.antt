@@ -1,12 +1,10 @@
-use Rattle.std.proofs.Common.{◌≡◌, ◌+◌, ◌∷◌, reverse, length, List, sym, ap, ◌∙◌, subst, lit<}
+use Rattle.std.proofs.Common.{◌≡◌, ◌+◌, ◌∷◌, reverse, length, List, sym, ap, ◌∙◌, subst, lit<, []}
+use Rattle.std.proofs.lemmas.List.{reverse-append}
 use Rattle.fp_field.proofs.ServedLemmas.{served_field}
-use Rattle.row_reduce.specs.declared.EchelonRow.{EchelonRow}
-use Rattle.row_reduce.specs.declared.Stored.{Stored}
-use Rattle.row_reduce.specs.Pivots.{IsLeadIn}
-use Rattle.row_reduce.specs.Echelon.{AreEchelon, IsMadeFrom}
+use Rattle.row_reduce.specs.Names.{EchelonRow, Stored, IsLeadIn, AreEchelon, IsMadeFrom}
 use Rattle.row_reduce.proofs.SumLemmas.{named}
 use Rattle.row_reduce.proofs.StoredLemmas.{some_none}
-use Rattle.row_reduce.proofs.EchelonLemmas.{echelon_more, echelon_past, history_wide, reverse_push}
+use Rattle.row_reduce.proofs.EchelonLemmas.{echelon_more, echelon_past, history_wide}
 use Rattle.row_reduce.proofs.echelon.reduce_at.Goals as goal
 
 pub canonical_row-requires : goal.canonical_row-requires
@@ -33,7 +31,7 @@ returns-in_ok-push g c = λ width rows skip solutions given h.
     let K = given.solved.kernel in
     let more = echelon_more p width (served_field p c.requires.prime) rows skip solutions pivots images given k s e forward n.0 c.index-images-row.is
     (subst (IsLeadIn pivots) (sym q) own) made (subst (λ n. AreEchelon p width rows skip K pivots (n + 1) (reverse forward)) (sym q) h) in
-    subst (λ (ds : List (EchelonRow p)). AreEchelon p width rows skip K pivots at ds) (sym (reverse_push forward e) ∙ ap reverse (sym c.in_ok-push.ensures.items))
+    subst (λ (ds : List (EchelonRow p)). AreEchelon p width rows skip K pivots at ds) (sym (reverse-append forward (e ∷ [])) ∙ ap reverse (sym c.in_ok-push.ensures.items))
     (subst (λ n. AreEchelon p width rows skip K pivots n (e ∷ reverse forward)) q more)
 
 pub returns-in_default : goal.returns-in_default

@@ -1,6 +1,5 @@
 use Rattle.std.proofs.Common.{ℕ, ◌-◌, Bool, reverse, length, List}
-use Rattle.row_reduce.specs.Triangular.{IsSolvedStored}
-use Rattle.row_reduce.specs.Echelon.{AreEchelon}
+use Rattle.row_reduce.specs.Names.{IsSolvedStored, AreEchelon}
 use Rattle.row_reduce.proofs.echelon.reduce_down.Given as goal
 
 abbrev pub invariant-loop-count : goal.invariant-loop-count

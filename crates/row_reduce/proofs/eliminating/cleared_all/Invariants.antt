@@ -1,6 +1,6 @@
 use Rattle.std.proofs.Common.{take}
 use Rattle.std.specs.List.{AllZip}
-use Rattle.row_reduce.specs.Elimination.{IsClearedBy}
+use Rattle.row_reduce.specs.Names.{IsClearedBy}
 use Rattle.row_reduce.proofs.eliminating.cleared_all.Given as goal
 
 abbrev pub invariant-loop-old : goal.invariant-loop-old

@@ -1,5 +1,5 @@
 use Rattle.std.proofs.Common.{ℕ, ◌<◌, get_or}
-use Rattle.row_reduce.specs.declared.EchelonRow.{EchelonRow}
+use Rattle.row_reduce.specs.Names.{EchelonRow}
 use Rattle.row_reduce.proofs.eliminating.place_for.Given as goal
 
 abbrev pub invariant-loop-at : goal.invariant-loop-at

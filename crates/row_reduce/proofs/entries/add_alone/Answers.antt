@@ -1,7 +1,6 @@
-use Rattle.std.proofs.Common.{◌≡◌, ℕ, ◌+◌, ◌*◌, ◌%◌, ◌<◌, length, get_or, arith, ap, ◌∙◌}
-use Rattle.std.proofs.lemmas.List.{take_all}
-use Rattle.linear_law.proofs.CongruenceLemmas.{Congruent_from}
-use Rattle.row_reduce.specs.Entries.{zipped}
+use Rattle.std.proofs.Common.{◌≡◌, ℕ, ◌+◌, ◌*◌, ◌%◌, ◌<◌, length, get_or, arith, ap, ◌∙◌, take_all}
+use Rattle.linear_law.proofs.Names.{Congruent_from}
+use Rattle.row_reduce.specs.Names.{zipped}
 use Rattle.row_reduce.proofs.SumLemmas.{add_entry, read_at}
 use Rattle.row_reduce.proofs.EntryLemmas.{zipped_fits, zipped_length, zipped_read}
 use Rattle.row_reduce.proofs.entries.add_alone.Goals as goal

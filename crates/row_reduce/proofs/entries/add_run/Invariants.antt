@@ -1,7 +1,7 @@
 use Rattle.std.proofs.Common.{ℕ, ◌+◌, ◌*◌, get_or}
-use Rattle.linear_law.specs.Congruence.{Congruent}
+use Rattle.linear_law.specs.Names.{Congruent}
 use Rattle.sparse_rows.specs.Rows.{value_in}
-use Rattle.row_reduce.specs.Entries.{run_from}
+use Rattle.row_reduce.specs.Names.{run_from}
 use Rattle.row_reduce.proofs.entries.add_run.Given as goal
 
 abbrev pub invariant-loop : goal.invariant-loop

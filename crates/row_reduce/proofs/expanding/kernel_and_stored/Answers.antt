@@ -1,12 +1,7 @@
 use Rattle.std.proofs.Common.{Bool, Vec, Global, length, List, ℕ, sym, subst, lit<}
 use Rattle.std.specs.List.{AllZip}
-use Rattle.linear_law.specs.Lists.{Each}
-use Rattle.row_reduce.specs.declared.Class.{Class}
-use Rattle.row_reduce.specs.declared.Stored.{Stored}
-use Rattle.row_reduce.specs.Triangular.{IsSolvedStored}
-use Rattle.row_reduce.specs.Expansion.{AreOlder, HistoryFits, IsVectorOfClass}
-use Rattle.row_reduce.specs.Pivots.{IsMarkedIn}
-use Rattle.row_reduce.specs.Walk.{Reached}
+use Rattle.linear_law.specs.Names.{Each}
+use Rattle.row_reduce.specs.Names.{Class, Stored, IsSolvedStored, AreOlder, HistoryFits, IsVectorOfClass, IsMarkedIn, Reached}
 use Rattle.row_reduce.proofs.SolvedLemmas.{histories_fit, older}
 use Rattle.row_reduce.proofs.TriangularLemmas.{solved_stored}
 use Rattle.row_reduce.proofs.expanding.kernel_and_stored.Goals as goal

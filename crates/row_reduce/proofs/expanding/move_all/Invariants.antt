@@ -1,7 +1,6 @@
 use Rattle.std.proofs.Common.{ℕ, ◌-◌, length, List}
 use Rattle.sparse_rows.specs.Rows.{IsBelow}
-use Rattle.row_reduce.specs.Walk.{AreNumbered}
-use Rattle.row_reduce.specs.Expansion.{Expanding}
+use Rattle.row_reduce.specs.Names.{AreNumbered, Expanding}
 use Rattle.row_reduce.proofs.expanding.move_all.Given as goal
 
 abbrev pub invariant-loop-done : goal.invariant-loop-done

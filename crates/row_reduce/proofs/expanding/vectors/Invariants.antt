@@ -1,6 +1,6 @@
 use Rattle.std.proofs.Common.{take}
 use Rattle.std.specs.List.{AllZip}
-use Rattle.row_reduce.specs.Expansion.{IsVectorOfClass}
+use Rattle.row_reduce.specs.Names.{IsVectorOfClass}
 use Rattle.row_reduce.proofs.expanding.vectors.Given as goal
 
 abbrev pub invariant-loop-class : goal.invariant-loop-class

@@ -1,5 +1,5 @@
 use Rattle.std.proofs.Common.{◌≡◌, ℕ, ◌+◌, ◌*◌, ◌%◌, ◌<◌, length, get_or, arith, subst, sym, ap, ◌∙◌}
-use Rattle.linear_law.proofs.ListLemmas.{each_get_or}
+use Rattle.linear_law.proofs.Names.{each_get_or}
 use Rattle.row_reduce.proofs.SumLemmas.{add_entry, read_at}
 use Rattle.row_reduce.proofs.reducing.add_row.Goals as goal
 

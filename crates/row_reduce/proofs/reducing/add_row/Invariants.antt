@@ -1,5 +1,5 @@
 use Rattle.std.proofs.Common.{ℕ, ◌+◌, ◌*◌, get_or, take}
-use Rattle.linear_law.specs.Congruence.{Congruent}
+use Rattle.linear_law.specs.Names.{Congruent}
 use Rattle.sparse_rows.specs.Rows.{value_in}
 use Rattle.row_reduce.proofs.reducing.add_row.Given as goal
 

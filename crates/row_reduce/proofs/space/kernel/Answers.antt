@@ -1,8 +1,7 @@
 use Rattle.std.proofs.Common.{List, ℕ, length, reverse, ◌<◌, ◌^◌, lit<, sym, ap, ◌∙◌, subst}
 use Rattle.std.proofs.lemmas.List.{reverse-reverse}
 use Rattle.fp_field.proofs.ServedLemmas.{served_field}
-use Rattle.row_reduce.specs.Elimination.{IsEliminated}
-use Rattle.row_reduce.specs.Space.{AreOwnFrom}
+use Rattle.row_reduce.specs.Names.{IsEliminated, AreOwnFrom}
 use Rattle.row_reduce.proofs.KernelLemmas.{few_relations, kernel_echelon, kernel_space}
 use Rattle.row_reduce.proofs.space.kernel.Goals as goal
 

@@ -1,5 +1,5 @@
 use Rattle.std.proofs.Common.{◌≡◌, take, length}
-use Rattle.row_reduce.specs.Space.{AreOwnFrom}
+use Rattle.row_reduce.specs.Names.{AreOwnFrom}
 use Rattle.row_reduce.proofs.space.own_rows.Given as goal
 
 abbrev pub invariant-loop-row : goal.invariant-loop-row

@@ -1,7 +1,5 @@
-use Rattle.std.proofs.Common.{length, set, List, arith, sym, subst}
-use Rattle.std.specs.Prelude.{ℕ, Option, Some}
-use Rattle.row_reduce.specs.declared.Stored.{Stored}
-use Rattle.row_reduce.specs.Stored.{Owns}
+use Rattle.std.proofs.Common.{length, set, List, arith, sym, subst, ℕ, Option, Some}
+use Rattle.row_reduce.specs.Names.{Stored, Owns}
 use Rattle.row_reduce.proofs.StoredLemmas.{owns_more}
 use Rattle.row_reduce.proofs.walking.append.Goals as goal
 

@@ -1,5 +1,5 @@
 use Rattle.std.proofs.Common.{get_or}
-use Rattle.linear_law.specs.Triangular.{StartsAt}
+use Rattle.linear_law.specs.Names.{StartsAt}
 use Rattle.row_reduce.proofs.walking.clear_from.Given as goal
 
 abbrev pub invariant-loop-at : goal.invariant-loop-at

@@ -1,5 +1,4 @@
-use Rattle.std.proofs.Common.{◌≡◌, ℕ, List, ap, sym, ◌∙◌, ◌<◌, ◌≤◌, length, get_or, arith}
-use Rattle.std.proofs.lemmas.List.{take_all}
+use Rattle.std.proofs.Common.{◌≡◌, ℕ, List, ap, sym, ◌∙◌, ◌<◌, ◌≤◌, length, get_or, arith, take_all}
 use Rattle.sparse_rows.specs.Rows.{value_in}
 use Rattle.row_reduce.proofs.StoredLemmas.{first_step}
 use Rattle.row_reduce.proofs.walking.first_place.Goals as goal

@@ -1,9 +1,8 @@
 use Rattle.std.proofs.Common.{ℕ, List, ◌+◌, ◌*◌, ◌%◌, get_or, refl, sym, ap, ◌∙◌, subst, arith, mod-eq_of_lt}
-use Rattle.linear_law.specs.Congruence.{Congruent, negated}
-use Rattle.linear_law.proofs.CongruenceLemmas.{Congruent_add, Congruent_from, Congruent_mod, Congruent_of, Congruent_trans, add-negated}
+use Rattle.linear_law.specs.Names.{Congruent, negated}
+use Rattle.linear_law.proofs.Names.{Congruent_add, Congruent_from, Congruent_mod, Congruent_of, Congruent_trans, add-negated}
 use Rattle.fp_field.proofs.ServedLemmas.{served_large}
-use Rattle.row_reduce.specs.declared.Stored.{Stored}
-use Rattle.row_reduce.specs.Stored.{IsStoredFrom}
+use Rattle.row_reduce.specs.Names.{Stored, IsStoredFrom}
 use Rattle.row_reduce.proofs.SumLemmas.{read_at}
 use Rattle.row_reduce.proofs.StoredLemmas.{stored_from}
 use Rattle.row_reduce.proofs.walking.store.Goals as goal

@@ -1,6 +1,6 @@
 use Rattle.std.proofs.Common.{◌*◌, ◌-◌, get_or, arith}
-use Rattle.linear_law.specs.Congruence.{Congruent}
-use Rattle.linear_law.proofs.CongruenceLemmas.{Congruent_add, Congruent_mod, Congruent_mul, Congruent_of, Congruent_refl, Congruent_scale, Congruent_trans}
+use Rattle.linear_law.specs.Names.{Congruent}
+use Rattle.linear_law.proofs.Names.{Congruent_add, Congruent_mod, Congruent_mul, Congruent_of, Congruent_refl, Congruent_scale, Congruent_trans}
 use Rattle.fp_field.proofs.ServedLemmas.{served_large}
 use Rattle.sparse_rows.specs.Rows.{value_in}
 use Rattle.row_reduce.proofs.StoredLemmas.{given_rest}

@@ -1,5 +1,4 @@
-use Rattle.std.proofs.Common.{◌≡◌, take, length, List, ℕ}
-use Rattle.std.specs.Prelude.{◌==◌}
+use Rattle.std.proofs.Common.{◌≡◌, take, length, List, ℕ, ◌==◌}
 use Rattle.std.specs.List.{filter}
 use Rattle.simplex_set.proofs.levels.copies_of_size.Given as goal
 

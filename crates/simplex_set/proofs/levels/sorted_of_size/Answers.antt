@@ -1,7 +1,6 @@
-use Rattle.std.proofs.Common.{◌≡◌, ◌∙◌, ap, length, sym, subst, List, ℕ}
-use Rattle.std.specs.Prelude.{◌==◌}
+use Rattle.std.proofs.Common.{◌≡◌, ◌∙◌, ap, length, sym, subst, List, ℕ, ◌==◌}
 use Rattle.std.specs.List.{filter}
-use Rattle.linear_law.specs.Lists.{Each}
+use Rattle.linear_law.specs.Names.{Each}
 use Rattle.simplex_set.specs.InOrder.{in_order}
 use Rattle.simplex_set.proofs.Ordered.{made_same, part_sized, sorted_part}
 use Rattle.simplex_set.proofs.levels.sorted_of_size.Goals as goal

@@ -1,5 +1,4 @@
-use Rattle.std.proofs.Common.{arith}
-use Rattle.std.proofs.lemmas.List.{take_all}
+use Rattle.std.proofs.Common.{arith, take_all}
 use Rattle.fp_field.proofs.ServedLemmas.{served_large}
 use Rattle.sparse_rows.proofs.SortLemmas.{summed_end, summed_step}
 use Rattle.sparse_rows.proofs.merging.summed.Goals as goal

@@ -1,6 +1,6 @@
 use Rattle.std.proofs.Common.{◌-◌, []}
 use Rattle.std.proofs.lemmas.Result.{IfOk-weaker}
-use Rattle.cohomology.specs.Cycles.{classes_in}
+use Rattle.cohomology.specs.Names.{classes_in}
 use Rattle.cohomology.proofs.BasisLemmas.{cycle_absolute}
 use Rattle.cohomology.proofs.basis.ClassesBasis.cycle.Goals as goal
 

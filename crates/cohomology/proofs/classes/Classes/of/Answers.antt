@@ -1,7 +1,6 @@
 use Rattle.std.proofs.Common.{List, ℕ, lit<, sym, subst}
 use Rattle.std.proofs.lemmas.Result.{IfOk-weaker}
-use Rattle.cohomology.specs.Pairs.{IsSubIndex}
-use Rattle.cohomology.specs.Cycles.{AreClassesOfPair}
+use Rattle.cohomology.specs.Names.{IsSubIndex, AreClassesOfPair}
 use Rattle.cohomology.proofs.LoopLemmas.{absolute_classes}
 use Rattle.cohomology.proofs.WalkLemmas.{complex_pair}
 use Rattle.cohomology.proofs.classes.Classes.of.Goals as goal

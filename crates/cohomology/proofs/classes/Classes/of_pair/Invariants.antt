@@ -1,4 +1,4 @@
-use Rattle.cohomology.specs.Classes.{IsReachedIn}
+use Rattle.cohomology.specs.Names.{IsReachedIn}
 use Rattle.cohomology.proofs.LoopLemmas.{AreMade, IsFound}
 use Rattle.cohomology.proofs.classes.Classes.of_pair.Given as goal
 

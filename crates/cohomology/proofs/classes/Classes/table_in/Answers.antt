@@ -1,6 +1,5 @@
 use Rattle.std.proofs.Common.{List, ℕ, length, ◌<◌, ◌^◌, subst, sym, ◌∙◌}
-use Rattle.cohomology.specs.declared.classes.DegreeClasses.{DegreeClasses}
-use Rattle.cohomology.specs.Cycles.{table_in}
+use Rattle.cohomology.specs.Names.{DegreeClasses, table_in}
 use Rattle.cohomology.proofs.LoopLemmas.{found_in, none_in}
 use Rattle.cohomology.proofs.classes.Classes.table_in.Goals as goal
 

@@ -1,8 +1,6 @@
-use Rattle.std.proofs.Common.{List, length, ◌<◌, ◌^◌, ap, subst, sym, ◌∙◌}
-use Rattle.std.specs.Prelude.{Vec}
+use Rattle.std.proofs.Common.{List, length, ◌<◌, ◌^◌, ap, subst, sym, ◌∙◌, Vec}
 use Rattle.std.specs.declared.alloc.Global.{Global}
-use Rattle.cohomology.specs.declared.data.Coboundary.{Coboundary}
-use Rattle.cohomology.specs.Data.{CohomologyData, coboundaries_in}
+use Rattle.cohomology.specs.Names.{Coboundary, CohomologyData, coboundaries_in}
 use Rattle.cohomology.proofs.LoopLemmas.{found_in, none_in}
 use Rattle.cohomology.proofs.data.Cohomology.coboundaries_in.Goals as goal
 

@@ -1,7 +1,6 @@
 use Rattle.std.proofs.Common.{◌-◌, List, [], sym, subst}
 use Rattle.std.proofs.lemmas.Result.{IfOk-weaker}
-use Rattle.cohomology.specs.declared.classes.DegreeClasses.{DegreeClasses}
-use Rattle.cohomology.specs.Cycles.{AreClassesOfPair, IsRelativeCycle, classes_in}
+use Rattle.cohomology.specs.Names.{DegreeClasses, AreClassesOfPair, IsRelativeCycle, classes_in}
 use Rattle.cohomology.proofs.BasisLemmas.{cycle_absolute}
 use Rattle.cohomology.proofs.data.Cohomology.cycle.Goals as goal
 

@@ -1,7 +1,6 @@
 use Rattle.std.proofs.Common.{List, ℕ, lit<, sym, subst}
 use Rattle.std.proofs.lemmas.Result.{IfOk-weaker}
-use Rattle.cohomology.specs.Pairs.{IsSubIndex}
-use Rattle.cohomology.specs.Data.{IsCohomologyOfPair}
+use Rattle.cohomology.specs.Names.{IsSubIndex, IsCohomologyOfPair}
 use Rattle.cohomology.proofs.CoboundaryLemmas.{absolute_data}
 use Rattle.cohomology.proofs.WalkLemmas.{complex_pair}
 use Rattle.cohomology.proofs.data.Cohomology.of.Goals as goal

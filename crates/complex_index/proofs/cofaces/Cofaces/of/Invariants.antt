@@ -1,5 +1,5 @@
 use Rattle.std.proofs.Common.{take}
-use Rattle.complex_index.specs.Incidence.{lists_of}
+use Rattle.complex_index.specs.Names.{lists_of}
 use Rattle.complex_index.proofs.Bounds.{AreParts}
 use Rattle.complex_index.proofs.cofaces.Cofaces.of.Given as goal
 

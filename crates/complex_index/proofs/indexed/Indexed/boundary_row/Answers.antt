@@ -1,9 +1,8 @@
 use Rattle.std.proofs.Common.{◌≡◌, ◌∙◌, ap, sym, subst, length, arith, List, ℕ}
 use Rattle.fp_field.proofs.ServedLemmas.{served_large}
 use Rattle.sparse_rows.specs.Rows.{IsBelow}
-use Rattle.complex_index.specs.Chains.{IsBoundaryOf, shrunk}
-use Rattle.complex_index.specs.Levels.{faces_at, level}
-use Rattle.complex_index.proofs.LevelLemmas.{faces_count, faces_is, nothing_past}
+use Rattle.complex_index.specs.Names.{IsBoundaryOf, shrunk, faces_at, level}
+use Rattle.complex_index.proofs.LevelLemmas.{faces_count, nothing_past, part_is}
 use Rattle.complex_index.proofs.RowLemmas.{boundary_at, boundary_of_none, if_made}
 use Rattle.complex_index.proofs.indexed.Indexed.boundary_row.Goals as goal
 
@@ -16,7 +15,7 @@ returns-then-degree-len g c =
 pub boundary_pairs-requires : goal.boundary_pairs-requires
 boundary_pairs-requires g c =
     let m : ℕ = c.args.degree in
-    let e : c.index.result.now.faces ≡ faces_at c.self.inside.levels.items m = faces_is c.self.inside.levels.items m c.index.result.now (omega arith) c.index.ensures in (
+    let e : c.index.result.now.faces ≡ faces_at c.self.inside.levels.items m = part_is (λ l. l.faces) c.self.inside.levels.items m c.index.result.now (omega arith) c.index.ensures in (
       omega arith,
       (
         c.requires.prime,
@@ -29,7 +28,7 @@ pub returns : goal.returns
 returns g c =
     let m : ℕ = c.args.degree in
     let p : ℕ = g.row.P in
-    let e : c.index.result.now.faces ≡ faces_at c.self.inside.levels.items m = faces_is c.self.inside.levels.items m c.index.result.now (omega arith) c.index.ensures in
+    let e : c.index.result.now.faces ≡ faces_at c.self.inside.levels.items m = part_is (λ l. l.faces) c.self.inside.levels.items m c.index.result.now (omega arith) c.index.ensures in
     if_made p c.deref.result.now (IsBoundaryOf p c.args.self.now m c.args.row.now) c.from_pairs.result
     (λ r s w. subst (λ (ls : List (List (List ℕ))). IsBoundaryOf p ls m c.args.row.now r) c.self.view_is
     (boundary_at p c.self.inside.levels.items m c.args.row.now c.deref.result.now r (served_large p c.requires.prime) c.self.invariant c.requires.positive (omega arith)

@@ -1,9 +1,9 @@
 use Rattle.std.proofs.Common.{◌+◌, length, map, take}
 use Rattle.std.specs.List.{AllZip}
-use Rattle.linear_law.specs.Lists.{Each}
-use Rattle.simplicial_law.specs.Places.{IsCoboundaryRow}
+use Rattle.linear_law.specs.Names.{Each}
+use Rattle.simplicial_law.specs.Names.{IsCoboundaryRow}
 use Rattle.sparse_rows.specs.Rows.{IsBelow, value_in}
-use Rattle.complex_index.specs.Levels.{level}
+use Rattle.complex_index.specs.Names.{level}
 use Rattle.complex_index.proofs.indexed.Indexed.coboundary_rows.Given as goal
 
 abbrev pub invariant-loop-place : goal.invariant-loop-place

@@ -1,9 +1,9 @@
-use Rattle.std.proofs.Common.{◌≡◌, ◌-◌, ap, sym, subst, length, arith, List, ℕ}
+use Rattle.std.proofs.Common.{◌-◌, ap, sym, subst, length, arith, List, ℕ}
 use Rattle.std.specs.List.Sorted.{IsStrictlySortedBy}
-use Rattle.linear_law.specs.Lists.{Among}
-use Rattle.simplicial_law.specs.ListedSimplices.{simplex_cmp}
-use Rattle.complex_index.specs.Levels.{level}
-use Rattle.complex_index.proofs.LevelLemmas.{nowhere_else, simplices_is, sized_at}
+use Rattle.linear_law.specs.Names.{Among}
+use Rattle.simplicial_law.specs.Names.{simplex_cmp}
+use Rattle.complex_index.specs.Names.{level}
+use Rattle.complex_index.proofs.LevelLemmas.{nowhere_else, part_is, sized_at}
 use Rattle.complex_index.proofs.indexed.Indexed.place_of.Goals as goal
 use Rattle.complex_index.proofs.indexed.Indexed.place_of.Goals.{then-size-eq0-via-then-size-eq0, then-size-eq0-via-else-size-eq0+then-size-len}
 
@@ -17,15 +17,15 @@ returns-then-size-eq0 c = λ n m.
 
 pub place_of-requires : goal.place_of-requires
 place_of-requires c =
-    subst (IsStrictlySortedBy simplex_cmp) (sym (simplices_is c.self.inside.levels.items (length c.args.vertices.now - 1) c.index.result.now (omega arith) c.index.ensures))
+    subst (IsStrictlySortedBy simplex_cmp) (sym (part_is (λ l. l.simplices) c.self.inside.levels.items (length c.args.vertices.now - 1) c.index.result.now (omega arith) c.index.ensures))
     (c.self.invariant.levels.ordered (length c.args.vertices.now - 1))
 
 pub overflow_cast-result : goal.overflow_cast-result
 overflow_cast-result c =
-    omega (arith, ap length (simplices_is c.self.inside.levels.items (length c.args.vertices.now - 1) c.index.result.now (omega arith) c.index.ensures), c.in-Some.ensures.0, c.self.invariant.levels.small (length c.args.vertices.now - 1))
+    omega (arith, ap length (part_is (λ l. l.simplices) c.self.inside.levels.items (length c.args.vertices.now - 1) c.index.result.now (omega arith) c.index.ensures), c.in-Some.ensures.0, c.self.invariant.levels.small (length c.args.vertices.now - 1))
 
 pub returns-in-None : goal.returns-in-None
 returns-in-None c = λ n m.
     nowhere_else c.self.inside.levels.items n c.args.vertices.now c.index.result.now.simplices c.self.invariant
-    (simplices_is c.self.inside.levels.items (length c.args.vertices.now - 1) c.index.result.now (omega arith) c.index.ensures) c.in-None.ensures
+    (part_is (λ l. l.simplices) c.self.inside.levels.items (length c.args.vertices.now - 1) c.index.result.now (omega arith) c.index.ensures) c.in-None.ensures
     (subst (λ (ls : List (List (List ℕ))). Among c.args.vertices.now (level ls n)) (sym c.self.view_is) m)

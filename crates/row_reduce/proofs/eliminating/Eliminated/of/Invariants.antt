@@ -1,5 +1,5 @@
 use Rattle.std.proofs.Common.{◌-◌, length}
-use Rattle.row_reduce.specs.Elimination.{IsEliminated}
+use Rattle.row_reduce.specs.Names.{IsEliminated}
 use Rattle.row_reduce.proofs.eliminating.Eliminated.of.Given as goal
 
 abbrev pub invariant-loop-done : goal.invariant-loop-done

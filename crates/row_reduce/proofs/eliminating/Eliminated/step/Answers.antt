@@ -1,14 +1,10 @@
 use Rattle.std.proofs.Common.{◌<◌, ◌≤◌, ◌∷◌, [], ◌++◌, ℕ, suc, List, take, drop, length, get_or, arith, sym, subst, add-one}
 use Rattle.std.specs.List.{AllZip}
-use Rattle.linear_law.specs.Congruence.{Congruent}
-use Rattle.linear_law.specs.Listing.{unit_vector}
-use Rattle.linear_law.proofs.CongruenceLemmas.{Congruent_from, Congruent_mod, Congruent_mul, Congruent_of, Congruent_refl, Congruent_trans}
+use Rattle.linear_law.specs.Names.{Congruent, unit_vector}
+use Rattle.linear_law.proofs.Names.{Congruent_from, Congruent_mod, Congruent_mul, Congruent_of, Congruent_refl, Congruent_trans}
 use Rattle.fp_field.proofs.ServedLemmas.{served_field}
 use Rattle.sparse_rows.specs.Rows.{IsRow, value_in}
-use Rattle.row_reduce.specs.declared.EchelonRow.{EchelonRow}
-use Rattle.row_reduce.specs.declared.eliminating.Eliminated.{Eliminated}
-use Rattle.row_reduce.specs.Echelon.{cleared, combination_of, row_of}
-use Rattle.row_reduce.specs.Elimination.{IsClearedBy, IsEliminated}
+use Rattle.row_reduce.specs.Names.{EchelonRow, Eliminated, cleared, combination_of, row_of, IsClearedBy, IsEliminated}
 use Rattle.row_reduce.proofs.SumLemmas.{row_read}
 use Rattle.row_reduce.proofs.EliminationLemmas.{eliminated_relation, eliminated_row}
 use Rattle.row_reduce.proofs.eliminating.Eliminated.step.Goals as goal

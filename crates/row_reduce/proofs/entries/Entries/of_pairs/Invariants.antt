@@ -1,5 +1,5 @@
 use Rattle.std.proofs.Common.{◌≡◌, length, take}
-use Rattle.row_reduce.specs.Entries.{zipped}
+use Rattle.row_reduce.specs.Names.{zipped}
 use Rattle.row_reduce.proofs.entries.Entries.of_pairs.Given as goal
 
 abbrev pub invariant-loop-pair : goal.invariant-loop-pair

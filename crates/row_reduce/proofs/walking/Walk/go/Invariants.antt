@@ -1,6 +1,5 @@
 use Rattle.std.proofs.Common.{◌≡◌, ◌-◌, length}
-use Rattle.row_reduce.specs.Stored.{IsClear}
-use Rattle.row_reduce.specs.Walk.{IsReached}
+use Rattle.row_reduce.specs.Names.{IsClear, IsReached}
 use Rattle.row_reduce.proofs.walking.Walk.go.Given as goal
 
 abbrev pub invariant-loop-done : goal.invariant-loop-done

@@ -1,11 +1,7 @@
 use Rattle.std.proofs.Common.{◌≡◌, ◌<◌, length, List, ◌∷◌, [], ◌++◌, arith, sym, ◌∙◌, subst, add-one, lit<}
 use Rattle.fp_field.proofs.ServedLemmas.{served_field}
 use Rattle.sparse_rows.specs.Rows.{IsBelow}
-use Rattle.row_reduce.specs.declared.Stored.{Stored}
-use Rattle.row_reduce.specs.declared.Class.{Class}
-use Rattle.row_reduce.specs.Pivots.{IsMarkedIn}
-use Rattle.row_reduce.specs.Stored.{Owns}
-use Rattle.row_reduce.specs.Walk.{Reached}
+use Rattle.row_reduce.specs.Names.{Stored, Class, IsMarkedIn, Owns, Reached}
 use Rattle.row_reduce.proofs.SumLemmas.{row_read}
 use Rattle.row_reduce.proofs.StepLemmas.{mark_read, not_both, reached_skip, reduced_here, row_within, step_class, step_stored, still_row}
 use Rattle.row_reduce.proofs.walking.Walk.step.Goals as goal

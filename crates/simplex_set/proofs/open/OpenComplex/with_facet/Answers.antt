@@ -1,6 +1,7 @@
 use Rattle.std.proofs.Common.{◌∙◌, ◌++◌, ◌∷◌, [], ap, sym, subst, length, arith, List, ℕ}
-use Rattle.simplicial_law.specs.ListedSimplices.{IsClosed, simplices}
-use Rattle.simplicial_law.proofs.ListedSimplices.{simplices_closed}
+use Rattle.simplicial_law.specs.Names.{IsClosed}
+use Rattle.simplicial_law.specs.ListedSimplices.{simplices}
+use Rattle.simplicial_law.proofs.Names.{simplices_closed}
 use Rattle.simplex_set.specs.InOrder.{in_order}
 use Rattle.simplex_set.proofs.AddingFaces.{one_more}
 use Rattle.simplex_set.proofs.Ordered.{length_in_order}
