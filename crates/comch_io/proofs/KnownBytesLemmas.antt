@@ -1,13 +1,12 @@
 -- Known bytes over several reads and writes, one after another.
-use Rattle.std.proofs.Common.{ℕ, ◌+◌, ◌-◌, ◌≤◌, List, [], ◌++◌, length, take, drop, ap, sym, ◌∙◌, append_assoc, arith, length-append}
+use Rattle.std.proofs.Common.{ℕ, ◌+◌, ◌-◌, ◌≤◌, List, [], ◌++◌, length, take, drop, ap, sym, ◌∙◌, append_assoc, arith, length-append, Some, None, Err}
 use Rattle.std.proofs.Math.Seq.{take-add}
 use Rattle.std.proofs.lemmas.List.{take_rest}
-use Rattle.std.specs.Prelude.{Some, None, Err}
 use Rattle.std.specs.declared.option.Option.{Option}
 use Rattle.std.specs.Io.KnownBytes.{Consumes, Appends, Keeps}
 use Rattle.comch_io.specs.declared.read_end.ReadEnd.{ReadEnd}
 use Rattle.comch_io.specs.declared.read_end.ReadEnd.TheVariants.{Fault, TooLong, OutOfMemory}
-use Rattle.comch_io.specs.Reading.{PieceLeaves, ReadLeaves}
+use Rattle.comch_io.specs.Reading.{Gave, PieceGave, ReadGave}
 
 pub consumes_both : (a b c : Option (List ℕ)) (x y : List ℕ) → Consumes a b x → Consumes b c y → Consumes a c (x ++ y)
 consumes_both None b c x y p q = tt
@@ -31,11 +30,15 @@ appends_kept (Some a) (Some b) (Some c) x p q = q ∙ p
 pub appends_more : (a b c : Option (List ℕ)) (text : List ℕ) (i n : ℕ) → Appends a b (take i text) → Appends b c (take n (take (length text - i) (drop i text))) → Appends a c (take (i + n) text)
 appends_more a b c text i n p q = rw (take-add i n text) (appends_both a b c _ _ p (rw (take_rest text i) at q))
 
+-- bytes that were given one after another
+pub gave_both : (a b c : Option (List ℕ)) (i j k : ℕ) (x y : List ℕ) → Gave a b i j x → Gave b c j k y → Gave a c i k (x ++ y)
+gave_both a b c i j k x y p q = (consumes_both a b c x y p.0 q.0, omega (arith, length-append x y, p.1, q.1))
+
 -- a read that did not come to its end after others that took these bytes
-pub piece_left : (limit most : ℕ) (old mid new : Option (List ℕ)) (all after : List ℕ) (e : ReadEnd) → Consumes old mid all → most + length all ≤ limit
-    → PieceLeaves most mid new all after (Err e) → ReadLeaves limit old new (Err e)
-piece_left limit most old mid new all after Fault p le q =
-    (all ++ [], simp length-append (omega arith), consumes_both old mid new all [] p q)
-piece_left limit most old mid new all after TooLong p le q = absurd q
-piece_left limit most old mid new all after OutOfMemory p le q =
-    (all ++ q.0, omega (arith, length-append all q.0, q.1), consumes_both old mid new all q.0 p q.2)
+pub piece_gave : (limit most : ℕ) (old mid new : Option (List ℕ)) (i j k : ℕ) (all more : List ℕ) (e : ReadEnd) → Gave old mid i j all → most + length all ≤ limit
+    → PieceGave most mid new j k all more (Err e) → ReadGave limit old new i k (Err e)
+piece_gave limit most old mid new i j k all more Fault p le q =
+    (all ++ [], simp length-append (omega arith), gave_both old mid new i j k all [] p q)
+piece_gave limit most old mid new i j k all more TooLong p le q = absurd q
+piece_gave limit most old mid new i j k all more OutOfMemory p le q =
+    (all ++ q.0, omega (arith, length-append all q.0, q.1), gave_both old mid new i j k all q.0 p q.2)

@@ -2,7 +2,7 @@
 use Rattle.std.specs.Prelude.{◌≡◌, ℕ, ◌+◌, ◌≤◌, List, [], ◌++◌, length, Result, Ok, Err, if◌then◌else◌, nat_lt}
 use Rattle.std.specs.declared.option.Option.{Option}
 use Rattle.std.specs.Io.KnownBytes.{Consumes, Appends, IsAtEnd}
-use Rattle.comch_io.specs.Causes.{Rose}
+use Rattle.comch_io.specs.Causes.{Rose, counted}
 use Rattle.comch_io.specs.declared.read_end.ReadEnd.{ReadEnd}
 use Rattle.comch_io.specs.declared.read_end.ReadEnd.TheVariants.{Fault, TooLong, OutOfMemory}
 
@@ -17,16 +17,22 @@ ReadsAs (Err TooLong) answer = answer ≡ Err TooLong
 ReadsAs (Err Fault) answer = Unit {0}
 ReadsAs (Err OutOfMemory) answer = Unit {0}
 
--- at most n bytes were taken
-abbrev pub TakesAtMost : ℕ → Option (List ℕ) → Option (List ℕ) → Type 0
-TakesAtMost n old new = (taken : List ℕ) × (length taken ≤ n) × Consumes old new taken
+-- Bytes that a source gave between two moments: what it tells to be left lost them at its front, and its count of bytes
+-- goes on by as many.
+abbrev pub Gave : Option (List ℕ) → Option (List ℕ) → ℕ → ℕ → List ℕ → Type 0
+Gave old new before now bytes = Consumes old new bytes × (now ≡ counted before (length bytes))
 
--- what is left of known bytes, for each answer of a read to the end
-abbrev pub ReadLeaves : ℕ → Option (List ℕ) → Option (List ℕ) → Result (List ℕ) ReadEnd → Type 0
-ReadLeaves limit old new (Ok bytes) = (length bytes ≤ limit) × Consumes old new bytes × IsAtEnd new
-ReadLeaves limit old new (Err TooLong) = (taken : List ℕ) × (length taken ≡ limit + 1) × Consumes old new taken
-ReadLeaves limit old new (Err Fault) = TakesAtMost limit old new
-ReadLeaves limit old new (Err OutOfMemory) = TakesAtMost (limit + 1) old new
+-- it gave at most n bytes
+abbrev pub GaveAtMost : ℕ → Option (List ℕ) → Option (List ℕ) → ℕ → ℕ → Type 0
+GaveAtMost n old new before now = (taken : List ℕ) × (length taken ≤ n) × Gave old new before now taken
+
+-- What a source gave, for each answer of a read to the end. A read that answers that the source has too much took one byte
+-- more than the limit.
+abbrev pub ReadGave : ℕ → Option (List ℕ) → Option (List ℕ) → ℕ → ℕ → Result (List ℕ) ReadEnd → Type 0
+ReadGave limit old new before now (Ok bytes) = (length bytes ≤ limit) × Gave old new before now bytes × IsAtEnd new
+ReadGave limit old new before now (Err TooLong) = (taken : List ℕ) × (length taken ≡ limit + 1) × Gave old new before now taken
+ReadGave limit old new before now (Err Fault) = GaveAtMost limit old new before now
+ReadGave limit old new before now (Err OutOfMemory) = GaveAtMost (limit + 1) old new before now
 
 -- A read answers a fault only where the count of faults rose, and every other answer leaves the count.
 abbrev pub ReadCause : {X : Type 0} → ℕ → ℕ → Result X ReadEnd → Type 0
@@ -37,10 +43,10 @@ ReadCause before now _ = now ≡ before
 abbrev pub AppendsPrefix : Option (List ℕ) → Option (List ℕ) → List ℕ → Type 0
 AppendsPrefix old new text = (front : List ℕ) × (rest : List ℕ) × (text ≡ front ++ rest) × Appends old new front
 
--- One read puts what it took at the end of `before`: at most one byte more than `most`, and nothing only at the end.
-abbrev pub PieceLeaves : ℕ → Option (List ℕ) → Option (List ℕ) → List ℕ → List ℕ → Result ℕ ReadEnd → Type 0
-PieceLeaves most old new before after (Ok n) = (taken : List ℕ) × (length taken ≡ n) × (n ≤ most + 1)
-    × (after ≡ before ++ taken) × Consumes old new taken × (n ≡ 0 → IsAtEnd new)
-PieceLeaves most old new before after (Err TooLong) = ⊥
-PieceLeaves most old new before after (Err Fault) = Consumes old new []
-PieceLeaves most old new before after (Err OutOfMemory) = TakesAtMost (most + 1) old new
+-- One read puts what it was given at the end of `all`: at most one byte more than `most`, and nothing only at the end.
+abbrev pub PieceGave : ℕ → Option (List ℕ) → Option (List ℕ) → ℕ → ℕ → List ℕ → List ℕ → Result ℕ ReadEnd → Type 0
+PieceGave most old new before now all more (Ok n) = (taken : List ℕ) × (length taken ≡ n) × (n ≤ most + 1)
+    × (more ≡ all ++ taken) × Gave old new before now taken × (n ≡ 0 → IsAtEnd new)
+PieceGave most old new before now all more (Err TooLong) = ⊥
+PieceGave most old new before now all more (Err Fault) = Gave old new before now []
+PieceGave most old new before now all more (Err OutOfMemory) = GaveAtMost (most + 1) old new before now

@@ -1,19 +1,21 @@
-ghost use Rattle.std.specs.Prelude.{◌≡◌, ℕ, ◌<◌, List, [], IfOk, Ok, Err, Some, None, is_some, min, length, ◌+◌, ◌-◌, ◌^◌, if◌then◌else◌};
+ghost use Rattle.std.specs.Prelude.{◌≡◌, ℕ, ◌<◌, ◌≤◌, List, [], IfOk, Ok, Err, Some, None, is_some, min, length, ◌+◌, ◌-◌, ◌^◌, if◌then◌else◌};
 ghost use Rattle.std.specs.declared.option.Option.{Option};
 ghost use Rattle.std.specs.Io.{WritesAtMost};
 ghost use Rattle.std.specs.Io.KnownBytes.{WriteAppends};
 ghost use Rattle.comch_io.specs.Causes.{HasCause};
-ghost use Rattle.comch_io.specs.Devices.{after_write, is_refused, fitting_count};
+ghost use Rattle.comch_io.specs.Devices.{after_write, is_refused, taken_count};
 
 use crate::{Failed, Sink};
 use std::alloc::{AllocError, Global};
 use std::marker::Model;
 
-/// A sink in memory with a fixed room that is taken when it is made, and a list of the calls that fail.
+/// A sink in memory with a fixed room that is taken when it is made, a list of the calls that fail, and a bound on what one
+/// call takes.
 #[derive(Debug, Drop)]
 pub struct MemSink {
     text: Vec<u8>,
     room: usize,
+    step: usize,
     failing: Vec<u64>,
     calls: u64,
     faults: u64,
@@ -28,22 +30,37 @@ impl Model for MemSink {
     ghost view = { λ s. record {
       written = s.text.items;
       room = s.room;
+      step = s.step;
       failing = s.failing.items;
       calls = s.calls;
       faults = s.faults;
     } };
 
-    ghost invariant = { λ s. FitsItsRoom (length s.text.items) s.room (vec_capacity s.text) };
+    ghost invariant = { λ s. FitsItsRoom (length s.text.items) s.room (vec_capacity s.text) s.step };
 }
 
 impl MemSink {
     /// Nothing written, with this room; the calls with these numbers, counted from 0, will fail.
     pub fn new(alloc: Global, room: usize, failing: &[u64]) -> Result<MemSink, AllocError>
-        ensures { IfOk result (λ s. s ≡ record { written = []; room = room; failing = failing.now; calls = 0; faults = 0 }) }
+        ensures { IfOk result (λ s. s ≡ record { written = []; room = room; step = usize.MAX; failing = failing.now; calls = 0; faults = 0 }) }
+    {
+        MemSink::in_steps(alloc, room, usize::MAX, failing)
+    }
+
+    /// The same sink, of which one call takes at most `step` bytes.
+    pub fn in_steps(
+        alloc: Global,
+        room: usize,
+        step: usize,
+        failing: &[u64],
+    ) -> Result<MemSink, AllocError>
+        requires { 1 ≤ step }
+        ensures { IfOk result (λ s. s ≡ record { written = []; room = room; step = step; failing = failing.now; calls = 0; faults = 0 }) }
     {
         Ok(MemSink {
             text: Vec::with_capacity(alloc, room)?,
             room,
+            step,
             failing: Vec::from_slice(alloc, failing)?,
             calls: 0,
             faults: 0,
@@ -76,7 +93,7 @@ impl Sink for MemSink {
         ensures bytes { WriteAppends (Some self.old.written) (Some self.new.written) result piece.now }
         ensures cause { HasCause self.old.faults self.new.faults result }
         ensures after { self.new ≡ after_write piece.now self.old }
-        ensures exact { result ≡ (if is_refused piece.now self.old then Err record {} else Ok (fitting_count piece.now self.old)) }
+        ensures exact { result ≡ (if is_refused piece.now self.old then Err record {} else Ok (taken_count piece.now self.old)) }
     {
         let call = self.calls;
         self.calls = call.saturating_add(1);
@@ -85,7 +102,7 @@ impl Sink for MemSink {
             self.faults = self.faults.saturating_add(1);
             return Err(Failed);
         }
-        let count = piece.len().min(self.room - self.text.len());
+        let count = piece.len().min(self.step).min(self.room - self.text.len());
         self.text.extend_from_slice(&piece[..count]).unwrap();
         Ok(count)
     }

@@ -1,43 +1,55 @@
 ghost use Rattle.std.specs.Prelude.{◌≡◌, ◌<◌, ◌≤◌, None, IfOk, IfSome, length, take};
 ghost use Rattle.std.specs.Io.{ReadsAtMost, WritesAtMost};
 ghost use Rattle.std.specs.Io.KnownBytes.{Appends, ReadConsumes, WriteAppends};
-ghost use Rattle.comch_io.specs.Causes.{HasCause};
+ghost use Rattle.comch_io.specs.Causes.{CountsGiven, HasCause};
 
 use crate::{Failed, Sink, Source};
 use std::io::{Read, Write};
 
 /// A source over any reader of std: the trusted edge. Each call is passed on once, and an error
-/// raises the count of faults. It tells no bytes.
+/// raises the count of faults. It tells no bytes, but counts those that it gave.
 #[derive(Debug, Drop)]
 pub struct StdSource<R: Read> {
     inner: R,
+    given: u64,
     faults: u64,
 }
 
 impl<R: Read> StdSource<R> {
-    /// The adapter over this reader, with no fault yet.
+    /// The adapter over this reader, with no byte given and no fault yet.
     pub fn new(inner: R) -> StdSource<R>
-        ensures { result.faults ≡ 0 }
+        ensures given { result.given ≡ 0 }
+        ensures faults { result.faults ≡ 0 }
     {
-        StdSource { inner, faults: 0 }
+        StdSource {
+            inner,
+            given: 0,
+            faults: 0,
+        }
     }
 }
 
 impl<R: Read> Source for StdSource<R> {
     ghost left = { λ _. None };
 
+    ghost given = { λ s. s.given };
+
     ghost faults = { λ s. s.faults };
 
     fn read(&mut self, into: &mut [u8]) -> Result<usize, Failed>
         ensures bound { ReadsAtMost result into.new }
         ensures bytes { ReadConsumes None None result into.new }
+        ensures given { CountsGiven self.old.given self.new.given result }
         ensures cause { HasCause self.old.faults self.new.faults result }
 
         // The call is passed on: what the reader gives is what it answers.
         ensures passed { ReadConsumes (R.remaining self.old.inner) (R.remaining self.new.inner) result into.new }
     {
         match self.inner.read(into) {
-            Ok(count) => Ok(count),
+            Ok(count) => {
+                self.given = self.given.saturating_add(count as u64);
+                Ok(count)
+            }
             Err(_) => {
                 self.faults = self.faults.saturating_add(1);
                 Err(Failed)

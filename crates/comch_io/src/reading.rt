@@ -1,7 +1,7 @@
 ghost use Rattle.std.specs.Prelude.{◌≡◌, ◌+◌, ◌≤◌, ◌<◌, ◌++◌, List, ℕ, length, drop, IfSome, IfOk, MatchResult, vec_len};
 ghost use Rattle.std.specs.Io.KnownBytes.{Consumes, Appends, IsAtEnd};
 ghost use Rattle.comch_io.specs.Causes.{HasCause};
-ghost use Rattle.comch_io.specs.Reading.{ReadsAs, read_answer, ReadLeaves, ReadCause, AppendsPrefix, PieceLeaves};
+ghost use Rattle.comch_io.specs.Reading.{ReadsAs, read_answer, ReadGave, ReadCause, AppendsPrefix, PieceGave};
 
 use crate::{Bytes, Failed, ReadEnd, Sink, Source};
 use std::alloc::Global;
@@ -11,7 +11,7 @@ const PIECE: usize = 4096;
 
 // Reads once, at most one byte more than `most`, and puts what came at the end.
 fn read_piece<S: Source>(source: &mut S, all: &mut Bytes, most: u64) -> Result<usize, ReadEnd>
-    ensures piece { PieceLeaves most (S.left source.old) (S.left source.new) all.old all.new result }
+    ensures piece { PieceGave most (S.left source.old) (S.left source.new) (S.given source.old) (S.given source.new) all.old all.new result }
     ensures cause { ReadCause (S.faults source.old) (S.faults source.new) result }
 {
     let mut piece = [0u8; PIECE];
@@ -35,8 +35,8 @@ pub fn read_all<S: Source>(alloc: Global, source: &mut S, limit: u64) -> Result<
     // Where the source tells what it has left, the answer is settled but for faults and memory.
     ensures exact { IfSome (S.left source.old) (λ xs. ReadsAs result (read_answer limit xs)) }
 
-    // What it leaves, whatever the answer.
-    ensures left { ReadLeaves limit (S.left source.old) (S.left source.new) result }
+    // What the source gave, whatever the answer and whatever it tells.
+    ensures gave { ReadGave limit (S.left source.old) (S.left source.new) (S.given source.old) (S.given source.new) result }
     ensures cause { ReadCause (S.faults source.old) (S.faults source.new) result }
 {
     let mut all = Bytes::new(alloc);

@@ -11,9 +11,11 @@ fn a_source_is_read_to_its_end(rt: HostRuntime) -> Result<(), Fail> {
     let mut sure = SureSource::new(alloc, b"ab")?;
     let all = read_all(alloc, &mut sure, 2).expect(&rt, "two bytes");
     assert_eq!(rt; all.as_slice(), b"ab".as_slice());
-    let mut source = MemSource::new(alloc, b"ab", [].as_slice())?;
-    let all = read_all(alloc, &mut source, 2).expect(&rt, "two bytes");
-    assert_eq!(rt; all.as_slice(), b"ab".as_slice());
+    for step in [1, 8] {
+        let mut source = MemSource::in_steps(alloc, b"ab", step, [].as_slice())?;
+        let all = read_all(alloc, &mut source, 2).expect(&rt, "two bytes");
+        assert_eq!(rt; all.as_slice(), b"ab".as_slice());
+    }
     let mut source = StdSource::new(Cursor::new(b"ab".as_slice()));
     let all = read_all(alloc, &mut source, 2).expect(&rt, "two bytes");
     assert_eq!(rt; all.as_slice(), b"ab".as_slice());
@@ -38,23 +40,27 @@ fn a_long_source_is_refused_after_one_byte_more(rt: HostRuntime) -> Result<(), F
 #[test]
 fn a_call_that_fails_is_a_fault(rt: HostRuntime) -> Result<(), Fail> {
     let alloc = rt.alloc();
-    let mut source = MemSource::new(alloc, b"ab", [1].as_slice())?;
-    let end = read_all(alloc, &mut source, 2).expect_err(&rt, "a fault");
-    assert_eq!(rt; end, ReadEnd::Fault);
-    assert_eq!(rt; source.faults(), 1);
+    for (step, call) in [(2, 1), (1, 0), (1, 1), (1, 2)] {
+        let mut source = MemSource::in_steps(alloc, b"ab", step, [call].as_slice())?;
+        let end = read_all(alloc, &mut source, 2).expect_err(&rt, "a fault");
+        assert_eq!(rt; end, ReadEnd::Fault);
+        assert_eq!(rt; source.faults(), 1);
+    }
     Ok(())
 }
 
 #[test]
 fn a_text_is_written_whole_or_a_front_of_it(rt: HostRuntime) -> Result<(), Fail> {
     let alloc = rt.alloc();
-    let cases: [(usize, &[u64], bool, &[u8], u64); 3] = [
-        (8, &[], true, b"abc", 0),
-        (2, &[], false, b"ab", 1),
-        (8, &[0], false, b"", 1),
+    let cases: [(usize, usize, &[u64], bool, &[u8], u64); 5] = [
+        (8, 8, &[], true, b"abc", 0),
+        (8, 1, &[], true, b"abc", 0),
+        (2, 8, &[], false, b"ab", 1),
+        (8, 8, &[0], false, b"", 1),
+        (8, 1, &[2], false, b"ab", 1),
     ];
-    for (room, failing, is_whole, written, faults) in cases {
-        let mut sink = MemSink::new(alloc, room, failing)?;
+    for (room, step, failing, is_whole, written, faults) in cases {
+        let mut sink = MemSink::in_steps(alloc, room, step, failing)?;
         assert_eq!(rt; write_all(&mut sink, b"abc").is_ok(), is_whole);
         assert_eq!(rt; sink.text(), written);
         assert_eq!(rt; sink.faults(), faults);
@@ -64,15 +70,14 @@ fn a_text_is_written_whole_or_a_front_of_it(rt: HostRuntime) -> Result<(), Fail>
 
 #[test]
 fn other_sinks_take_a_text(rt: HostRuntime) -> Result<(), Fail> {
-    let alloc = rt.alloc();
     let mut count = CountSink::new();
     write_all(&mut count, b"abc").expect(&rt, "a count");
     assert_eq!(rt; count.bytes(), 3);
-    let mut outer = StdSink::new(Vec::new(alloc));
+    let mut room = [0u8; 4];
+    let mut outer = StdSink::new(room.as_mut_slice());
     write_all(&mut outer, b"abc").expect(&rt, "room");
-    let mut room = [0u8; 2];
-    let mut full = StdSink::new(room.as_mut_slice());
-    assert!(rt; write_all(&mut full, b"abc").is_err());
+    assert!(rt; write_all(&mut outer, b"de").is_err());
+    assert_eq!(rt; room.as_slice(), b"abcd".as_slice());
     Ok(())
 }
 

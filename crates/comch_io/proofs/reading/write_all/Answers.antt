@@ -1,5 +1,4 @@
-use Rattle.std.proofs.Common.{take, drop, sym, rules}
-use Rattle.std.proofs.lemmas.List.{take-append-drop}
+use Rattle.std.proofs.Common.{take, drop, sym, rules, take-append-drop}
 use Rattle.comch_io.proofs.KnownBytesLemmas.{appends_more, appends_kept}
 use Rattle.comch_io.proofs.reading.write_all.Goals as goal
 
