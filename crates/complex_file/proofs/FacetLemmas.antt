@@ -1,6 +1,5 @@
 -- The facets of a complex, one behind the other.
-use Rattle.std.proofs.Common.{◌≡◌, ◌∙◌, ◌+◌, ◌<◌, ◌≤◌, ◌*◌, ◌-◌, ◌^◌, ◌&&◌, List, [], ◌∷◌, ◌++◌, ℕ, suc, Bool, true, false, cond, refl, sym, ap, subst, arith, length, drop, get_or, add-one, append-nil, not, nat_lt, option_map, append_assoc, drop-cons, lit<}
-use Rattle.std.specs.Prelude.{Ok, Err, Some, None, nat_le, fold, is_none}
+use Rattle.std.proofs.Common.{◌≡◌, ◌∙◌, ◌+◌, ◌<◌, ◌≤◌, ◌*◌, ◌-◌, ◌^◌, ◌&&◌, List, [], ◌∷◌, ◌++◌, ℕ, suc, Bool, true, false, cond, refl, sym, ap, subst, arith, length, drop, get_or, add-one, append-nil, not, nat_lt, option_map, append_assoc, drop-cons, lit<, Ok, Err, Some, None, nat_le, fold, is_none, leb-true, le-leb, ltb-false, ne_eqb}
 use Rattle.std.specs.declared.option.Option.{Option}
 use Rattle.std.specs.List.{list_all}
 use Rattle.std.specs.List.Sorted.{IsStrictlySortedBy}
@@ -10,19 +9,14 @@ use Rattle.std.specs.declared.cmp.Ordering.TheVariants.{Less, Equal, Greater}
 use Rattle.std.specs.BTreeSet.{insert_key}
 use Rattle.std.proofs.lemmas.Cmp.{nat_cmp_total}
 use Rattle.std.proofs.lemmas.List.Folds.{list_all-append}
-use Rattle.std.proofs.lemmas.Bool.{and_from, and_parts, leb-true, le-leb, ltb-false, ne_eqb}
+use Rattle.std.proofs.lemmas.Bool.{and_from, and_parts}
 use Rattle.std.proofs.lemmas.Bool.Decides.{nat_tests}
 use Rattle.std.proofs.Math.Nat.{mul-le-mul_right, pow-le-pow_right, pow-suc}
-use Rattle.simplicial_law.proofs.OrderedKeys.{sorted_inserted}
-use Rattle.complex_file.specs.declared.fault.BlockFault.{BlockFault}
-use Rattle.complex_file.specs.declared.kind.InputKind.{InputKind}
-use Rattle.complex_file.specs.declared.fault.LineFault.{LineFault}
+use Rattle.simplicial_law.proofs.Names.{sorted_inserted}
+use Rattle.complex_file.specs.Names.{BlockFault, InputKind, LineFault, Fails, is_digit, is_not_empty, number_after, numbers, with_number, ascending, complex_fault, facet_fault, first_facet_fault, has_repeat, is_ascending, is_complex, is_facet, or_later, with_facet}
 use Rattle.complex_file.specs.declared.fault.LineFault.TheVariants as fault
-use Rattle.complex_file.specs.Reading.{Fails}
-use Rattle.complex_file.specs.Text.{is_digit, is_not_empty, number, number_after}
-use Rattle.complex_file.specs.Lines.{numbers, with_number}
-use Rattle.complex_file.specs.Complexes.{ascending, complex_fault, facet_fault, first_facet_fault, has_repeat, is_ascending, is_complex, is_facet, or_later, with_facet}
-use Rattle.complex_file.proofs.RepeatLemmas.{nothing_sorted, repeat_by_length}
+use Rattle.complex_file.specs.Text.{number}
+use Rattle.complex_file.proofs.RepeatLemmas.{nothing_sorted, repeat_by_length, sorted_vertices}
 use Rattle.complex_file.proofs.Steps.{later_fault, later_none, fault_free, fault_found, none_from}
 
 -- numbers in front of others
@@ -88,10 +82,6 @@ all_inserted p k (x ∷ xs) h pk = all_step (nat_cmp k x) p k x xs (insert_key n
 all_sorted : (p : ℕ → Bool) (vs ks : List ℕ) → list_all p ks ≡ true → list_all p vs ≡ true → list_all p (fold (insert_key nat_cmp) ks vs) ≡ true
 all_sorted p [] ks h g = h
 all_sorted p (v ∷ vs) ks h g = let parts = and_parts (p v) (list_all p vs) g in all_sorted p vs (insert_key nat_cmp ks v) (all_inserted p v ks h parts.0) parts.1
-
-sorted_vertices : (vs ks : List ℕ) → IsStrictlySortedBy nat_cmp ks → IsStrictlySortedBy nat_cmp (fold (insert_key nat_cmp) ks vs)
-sorted_vertices [] ks h = h
-sorted_vertices (v ∷ vs) ks h = sorted_vertices vs (insert_key nat_cmp ks v) (sorted_inserted nat_cmp nat_cmp_total v ks h)
 
 less_test : (v w : ℕ) → nat_cmp v w ≡ Less → nat_lt v w ≡ true
 less_test v w h = grind (arith, nat_tests)

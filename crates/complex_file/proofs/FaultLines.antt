@@ -1,43 +1,72 @@
--- On which lines faults stand.
-use Rattle.std.proofs.Common.{◌≡◌, ◌+◌, ◌≤◌, List, [], ◌∷◌, ℕ, Bool, true, false, cond, sym, ap, arith, length, nat_lt}
-use Rattle.std.specs.Prelude.{Ok, Err, Result, count_by}
-use Rattle.std.proofs.lemmas.List.Splits.{length-slice_split}
-use Rattle.complex_file.specs.declared.kind.InputKind.{InputKind}
-use Rattle.complex_file.specs.declared.kind.InputKind.TheVariants.{TooLong}
-use Rattle.complex_file.specs.Text.{is_line_end, lines}
-use Rattle.complex_file.specs.Input.{Fault, Place, Spelled, after_line, at_end, at_line, at_start, input_of, lines_spell, place_after, ◌>>=◌}
+-- Where the first fault of a text stands.
+use Rattle.std.proofs.Common.{◌≡◌, ◌∙◌, ◌+◌, ◌<◌, ◌⊎◌, inl, inr, List, [], ◌∷◌, ◌++◌, ℕ, Bool, true, false, cond, refl, sym, ap, subst, arith, length, nat_lt, Ok, Err, Result, Some, None, count_by, ltb-true}
+use Rattle.std.specs.Result.{result_err}
+use Rattle.complex_file.specs.Names.{InputKind, TooLong, Unfinished, is_line_end, lines, Fault, Place, Spelled, at_end, at_line, at_start, between, in_complex, in_map, at_prime, lines_spell, place_after, ◌>>=◌, IsLong, IsOnLine, IsUnfinished, ReadsTo}
+use Rattle.complex_file.specs.Input.{after_line, input_of}
+use Rattle.complex_file.specs.FaultTable.{fault_at}
+use Rattle.complex_file.proofs.FaultTable.{line_table}
 
-pub one_answer : (text : List ℕ) (s : Spelled) (f : Fault) → input_of text ≡ Ok s → input_of text ≡ Err f → ⊥
-one_answer text s f h g = absurd cc
+-- what reading lines gives: a fault on one of them, or the place that they lead to
+abbrev Reads : ℕ → Place → List (List ℕ) → Result Place Fault → Type 0
+Reads n p ls (Ok q) = ReadsTo p ls q
+Reads n p ls (Err f) = IsOnLine n p ls f
 
-at_line_fault : {A : Type 0} (n : ℕ) (r : Result A InputKind) (f : Fault) → at_line n r ≡ Err f → f.line ≡ n
-at_line_fault n (Ok x) f h = absurd cc
-at_line_fault n (Err k) f h = let same : record { kind = k; line = n } ≡ f = cc in sym (ap (λ (g : Fault). g.line) same)
+-- the same with one line more in front
+line_first : (n : ℕ) (p q : Place) (l : List ℕ) (ls : List (List ℕ)) (r : Result Place Fault) → after_line p l ≡ Ok q → Reads (n + 1) q ls r → Reads n p (l ∷ ls) r
+line_first n p q l ls (Ok end) e h = (q, sym (line_table p l) ∙ ap result_err e, e, h)
+line_first n p q l ls (Err f) e h = record {
+  before = l ∷ h.before;
+  line = h.line;
+  rest = h.rest;
+  place = h.place;
+  parts = ap (λ (more : List (List ℕ)). l ∷ more) h.parts;
+  number = omega (arith, h.number);
+  read = (q, sym (line_table p l) ∙ ap result_err e, e, h.read);
+  kind = h.kind;
+}
 
--- a line that is read next, or is at fault
-line_step : (n bound : ℕ) (r : Result Place InputKind) (next : Place → Result Place Fault) (f : Fault) → n ≤ bound
-    → ((p : Place) → next p ≡ Err f → f.line ≤ bound) → (at_line n r >>= next) ≡ Err f → f.line ≤ bound
-line_step n bound (Ok p) next f b later h = later p h
-line_step n bound (Err k) next f b later h = omega (arith, b, at_line_fault n (Err k) f h)
+lines_read : (ls : List (List ℕ)) (n : ℕ) (p : Place) → Reads n p ls (place_after n p ls)
+lines_read [] n p = refl
+lines_read (l ∷ ls) n p = by_line (after_line p l) refl (λ q. lines_read ls (n + 1) q)
+  where
+    by_line : (r : Result Place InputKind) → after_line p l ≡ r → ((q : Place) → Reads (n + 1) q ls (place_after (n + 1) q ls)) → Reads n p (l ∷ ls) (at_line n r >>= λ next. place_after (n + 1) next ls)
+    by_line (Ok q) e more = line_first n p q l ls (place_after (n + 1) q ls) e (more q)
+    by_line (Err k) e more = record {
+      before = [];
+      line = l;
+      rest = ls;
+      place = p;
+      parts = refl;
+      number = omega arith;
+      read = refl;
+      kind = sym (line_table p l) ∙ ap result_err e;
+    }
 
-lines_fault : (ls : List (List ℕ)) (n : ℕ) (p : Place) (f : Fault) → place_after n p ls ≡ Err f → f.line + 1 ≤ n + length ls
-lines_fault [] n p f h = absurd cc
-lines_fault (l ∷ ls) n p f h =
-    let later : (q : Place) → place_after (n + 1) q ls ≡ Err f → f.line ≤ n + length ls = λ q e. omega (arith, lines_fault ls (n + 1) q f e) in
-    let found : f.line ≤ n + length ls = line_step n (n + length ls) (after_line p l) (λ q. place_after (n + 1) q ls) f (omega arith) later h in
-    omega (arith, found)
+fault_is : {f g : Fault} → ◌≡◌ {A = Result Spelled Fault} (Err f) (Err g) → f ≡ g
+fault_is h = cc
 
-end_step : (r : Result Place Fault) (n : ℕ) (f : Fault) → (r ≡ Err f → f.line ≤ n) → (r >>= λ p. at_line n (at_end p)) ≡ Err f → f.line ≤ n
-end_step (Ok p) n f early h = omega (arith, at_line_fault n (at_end p) f h)
-end_step (Err g) n f early h = let same : g ≡ f = cc in early (ap (λ (e : Fault). Err e) same)
+-- an input that may not end there
+end_fault : (text : List ℕ) (p : Place) (f : Fault) → ReadsTo at_start (lines text) p → at_line (count_by is_line_end text + 1) (at_end p) ≡ Err f → IsUnfinished text f
+end_fault text (between s) f read h = absurd cc
+end_fault text p f read h = let same : record { kind = Unfinished; line = count_by is_line_end text + 1 } ≡ f = fault_is h in record {
+  place = p;
+  read = read;
+  open_end = refl;
+  number = sym (ap (λ (g : Fault). g.line) same);
+  kind = sym (ap (λ (g : Fault). g.kind) same);
+}
 
-limit_step : (b : Bool) (r : Result Spelled Fault) (n : ℕ) (f : Fault) → (r ≡ Err f → f.line ≤ n) → cond b (Err (record { kind = TooLong; line = 0 })) r ≡ Err f → f.line ≤ n
-limit_step true r n f later h = let same : record { kind = TooLong; line = 0 } ≡ f = cc in omega (arith, ap (λ (g : Fault). g.line) same)
-limit_step false r n f later h = later h
+spelled_fault : (text : List ℕ) (r : Result Place Fault) (f : Fault) → Reads 1 at_start (lines text) r → (r >>= λ p. at_line (count_by is_line_end text + 1) (at_end p)) ≡ Err f
+    → IsOnLine 1 at_start (lines text) f ⊎ IsUnfinished text f
+spelled_fault text (Ok p) f read h = inr (end_fault text p f read h)
+spelled_fault text (Err g) f read h = inl (subst (IsOnLine 1 at_start (lines text)) (fault_is h) read)
 
-pub fault_line : (text : List ℕ) (f : Fault) → input_of text ≡ Err f → f.line ≤ count_by is_line_end text + 1
+pub text_fault : (text : List ℕ) (f : Fault) → input_of text ≡ Err f → IsLong text f ⊎ (IsOnLine 1 at_start (lines text) f ⊎ IsUnfinished text f)
 unfolding input_of
-fault_line text f h =
-    limit_step (nat_lt 1048576 (length text)) (lines_spell text) (count_by is_line_end text + 1) f
-    (end_step (place_after 1 at_start (lines text)) (count_by is_line_end text + 1) f
-    (λ e. omega (arith, lines_fault (lines text) 1 at_start f e, length-slice_split is_line_end text))) h
+text_fault text f h = by_length (nat_lt 1048576 (length text)) refl h
+  where
+    by_length : (b : Bool) → nat_lt 1048576 (length text) ≡ b → cond b (Err (record { kind = TooLong; line = 0 })) (lines_spell text) ≡ Err f → IsLong text f ⊎ (IsOnLine 1 at_start (lines text) f ⊎ IsUnfinished text f)
+    by_length true e h =
+        let same : record { kind = TooLong; line = 0 } ≡ f = fault_is h in
+        inl (record { long = ltb-true 1048576 (length text) e; number = sym (ap (λ (g : Fault). g.line) same); kind = sym (ap (λ (g : Fault). g.kind) same) })
+    by_length false e h = inr (spelled_fault text (place_after 1 at_start (lines text)) f (lines_read (lines text) 1 at_start) h)

@@ -6,6 +6,7 @@ pub mod VertexLemmas
 pub mod NameLemmas
 pub mod MapLemmas
 pub mod JobLemmas
+pub mod FaultTable
 pub mod FaultLines
 pub mod WrittenLines
 pub mod WrittenBlocks

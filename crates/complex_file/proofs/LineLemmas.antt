@@ -1,6 +1,6 @@
 -- Lines of many words.
 use Rattle.std.proofs.Common.{◌≡◌, ◌≤◌, List, [], ◌∷◌, ℕ, arith, length, refl}
-use Rattle.complex_file.specs.Lines.{line_of_few, no_line}
+use Rattle.complex_file.specs.Names.{line_of_few, no_line}
 
 pub few_many : (w : List ℕ) (vs : List (List ℕ)) → 4 ≤ length vs → no_line ≡ line_of_few w vs
 few_many w [] h = absurd (omega arith)

@@ -1,10 +1,7 @@
 -- What tests and steps that went well tell.
-use Rattle.std.proofs.Common.{ℕ, ◌≡◌, Bool, true, false, cond, refl}
-use Rattle.std.specs.Prelude.{Ok, Err, Result, Some, None, is_none}
+use Rattle.std.proofs.Common.{ℕ, ◌≡◌, Bool, true, false, cond, refl, Ok, Err, Result, Some, None, is_none}
 use Rattle.std.specs.declared.option.Option.{Option}
-use Rattle.complex_file.specs.declared.fault.BlockFault.{BlockFault}
-use Rattle.complex_file.specs.declared.kind.InputKind.{InputKind}
-use Rattle.complex_file.specs.Complexes.{or_later, unless}
+use Rattle.complex_file.specs.Names.{BlockFault, InputKind, or_later, unless}
 
 pub record Both (P Q : Type 0) : Type 0 where
   pub first : P

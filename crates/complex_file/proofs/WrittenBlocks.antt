@@ -1,6 +1,5 @@
 -- The lines of a job lead, block by block, to what the job is.
-use Rattle.std.proofs.Common.{◌≡◌, ◌∙◌, ◌+◌, ◌≤◌, ◌<◌, ◌&&◌, ◌||◌, List, [], ◌∷◌, ◌++◌, ℕ, suc, zero, Bool, true, false, cond, refl, sym, ap, subst, arith, length, map, append_assoc, append-nil, length-append, not, nat_lt, nat_eq}
-use Rattle.std.specs.Prelude.{Ok, Some, None, nat_le, is_none, fold, flat_map, codes}
+use Rattle.std.proofs.Common.{◌≡◌, ◌∙◌, ◌+◌, ◌≤◌, ◌<◌, ◌&&◌, ◌||◌, List, [], ◌∷◌, ◌++◌, ℕ, suc, zero, Bool, true, false, cond, refl, sym, ap, subst, arith, length, map, append_assoc, append-nil, length-append, not, nat_lt, nat_eq, Ok, Some, None, nat_le, is_none, fold, flat_map, codes, eq-eqb, eqb-true, leb-true, le-ltb, lt-ltb, ltb-true}
 use Rattle.std.specs.declared.option.Option.{Option}
 use Rattle.std.specs.List.{list_all, position_or_len}
 use Rattle.std.specs.Str.{bytes_eq}
@@ -10,22 +9,13 @@ use Rattle.std.specs.declared.cmp.Ordering.TheVariants.{Greater}
 use Rattle.std.specs.BTreeSet.{insert_key}
 use Rattle.std.proofs.lemmas.List.{map-append}
 use Rattle.std.proofs.lemmas.List.Folds.{list_all-append, list_any-append}
-use Rattle.std.proofs.lemmas.Bool.{and_from, and_parts, eq-eqb, eqb-true, leb-true, le-ltb, lt-leb, lt-ltb, ltb-true, not-true, or_cases}
+use Rattle.std.proofs.lemmas.Bool.{and_from, and_parts, lt-leb, not-true, or_cases}
 use Rattle.std.proofs.lemmas.Bool.Decides.{nat_tests}
 use Rattle.std.proofs.Math.Logic.{⊎_elim}
 use Rattle.fp_field.specs.Served.{served}
-use Rattle.complex_file.specs.declared.block.ComplexBlock.{ComplexBlock}
-use Rattle.complex_file.specs.declared.block.MapBlock.{MapBlock}
-use Rattle.complex_file.specs.declared.block.Sent.{Sent}
-use Rattle.complex_file.specs.declared.fault.BlockFault.{BlockFault}
-use Rattle.complex_file.specs.declared.kind.InputKind.{InputKind}
-use Rattle.complex_file.specs.Text.{is_name, is_not_empty, lines}
-use Rattle.complex_file.specs.Lines.{facet_line, line_of, send_line, send_of}
-use Rattle.complex_file.specs.Complexes.{ascending, complex_fault, facet_fault, first_facet_fault, has_repeat, has_vertex, is_ascending, is_complex, is_facet, or_later}
-use Rattle.complex_file.specs.Maps.{end_fault, first_send_fault, is_vertex, map_fault, send_fault}
-use Rattle.complex_file.specs.Jobs.{are_distinct, block_names, facets_at, has_name, is_job, is_map, place_of_name}
-use Rattle.complex_file.specs.Input.{Place, Spelled, after, after_line, after_prime, at_prime, at_start, between, in_complex, in_map, input_of, place_after, with_complex, with_map}
-use Rattle.complex_file.specs.Written.{complex_lines, facet_words, job_lines, map_lines, name_at, send_words, written}
+use Rattle.complex_file.specs.Names.{ComplexBlock, MapBlock, Sent, BlockFault, InputKind, is_name, is_not_empty, lines, facet_line, line_of, send_line, send_of, ascending, complex_fault, facet_fault, first_facet_fault, has_repeat, has_vertex, is_ascending, is_complex, is_facet, or_later, end_fault, first_send_fault, is_vertex, map_fault, send_fault, are_distinct, block_names, facets_at, has_name, is_map, place_of_name, Place, Spelled, after, after_prime, at_prime, at_start, between, in_complex, in_map, lines_spell, place_after, with_complex, with_map, complex_lines, facet_words, job_lines, map_lines, name_at, send_words, written}
+use Rattle.complex_file.specs.Jobs.{is_job}
+use Rattle.complex_file.specs.Input.{after_line}
 use Rattle.complex_file.proofs.Steps.{Both, none_from}
 use Rattle.complex_file.proofs.RepeatLemmas.{repeat_by_length}
 use Rattle.complex_file.proofs.JobLemmas.{bytes_swap, or_false}
@@ -355,10 +345,10 @@ job_leads s h =
       ),
     )
 
-pub written_job : (s : Spelled) → is_job s.prime s.complexes s.maps ≡ true → length (written s) ≤ 1048576 → input_of (written s) ≡ Ok s
-unfolding input_of after_line
-written_job s h short =
+pub written_job : (s : Spelled) → is_job s.prime s.complexes s.maps ≡ true → lines_spell (written s) ≡ Ok s
+unfolding after_line
+written_job s h =
     let way = job_leads s h in
     let read : place_after 1 at_start (lines (written s)) ≡ Ok (between s) =
     ap (place_after 1 at_start) (lines_read at_start (between s) (job_lines s) way) ∙ lines_lead 1 at_start (between s) (job_lines s) ([] ∷ []) way in
-    rw (le-ltb 1048576 (length (written s)) short, read) refl
+    rw read refl

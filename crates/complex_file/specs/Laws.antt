@@ -1,17 +1,22 @@
 -- The laws of the input.
-use Rattle.std.specs.Prelude.{ℕ, ◌≡◌, ◌+◌, ◌≤◌, true, List, length, Ok, Err, count_by}
-use Rattle.complex_file.specs.Text.{is_line_end}
+use Rattle.std.specs.Prelude.{ℕ, ◌≡◌, ◌⊎◌, true, List, Ok, Err}
+use Rattle.std.specs.Result.{result_err}
+use Rattle.complex_file.specs.Text.{lines}
 use Rattle.complex_file.specs.Jobs.{is_job}
-use Rattle.complex_file.specs.Input.{Fault, Spelled, input_of}
+use Rattle.complex_file.specs.Input.{Fault, Place, Spelled, after_line, at_start, input_of, lines_spell}
+use Rattle.complex_file.specs.FaultTable.{IsLong, IsOnLine, IsUnfinished, fault_at}
 use Rattle.complex_file.specs.Written.{written}
 
--- What bytes spell is a job, no bytes spell a job and have a fault, and a fault stands on a line of the text or behind
--- its last byte 10.
-pub record SpelledJobLaw : Type 0 where
-  pub job : (text : List ℕ) (s : Spelled) → input_of text ≡ Ok s → is_job s.prime s.complexes s.maps ≡ true
-  pub one : (text : List ℕ) (s : Spelled) (f : Fault) → input_of text ≡ Ok s → input_of text ≡ Err f → ⊥
-  pub line : (text : List ℕ) (f : Fault) → input_of text ≡ Err f → f.line ≤ count_by is_line_end text + 1
+-- What bytes spell is a job.
+abbrev pub SpelledJobLaw : Type 0
+SpelledJobLaw = (text : List ℕ) (s : Spelled) → input_of text ≡ Ok s → is_job s.prime s.complexes s.maps ≡ true
 
--- A job that is written as lines, with no more bytes than an input may have, is what they spell.
+-- A job that is written as lines is what they spell.
 abbrev pub WrittenJobLaw : Type 0
-WrittenJobLaw = (s : Spelled) → is_job s.prime s.complexes s.maps ≡ true → length (written s) ≤ 1048576 → input_of (written s) ≡ Ok s
+WrittenJobLaw = (s : Spelled) → is_job s.prime s.complexes s.maps ≡ true → lines_spell (written s) ≡ Ok s
+
+-- The fault of a line is the first kind of the table that comes on it. The fault of a text is that of its first line with a
+-- fault; or the text is too long, or ends where an input may not end and no line has a fault.
+pub record FirstFaultLaw : Type 0 where
+  pub line : (place : Place) (line : List ℕ) → result_err (after_line place line) ≡ fault_at place line
+  pub text : (text : List ℕ) (f : Fault) → input_of text ≡ Err f → IsLong text f ⊎ (IsOnLine 1 at_start (lines text) f ⊎ IsUnfinished text f)

@@ -4,9 +4,11 @@ pub mod Complexes
 pub mod Maps
 pub mod Jobs
 pub mod Input
+pub mod FaultTable
 pub mod Kinds
 pub mod Sends
 pub mod Reading
 pub mod Views
 pub mod Written
 pub mod Laws
+pub mod Names

@@ -4,7 +4,7 @@ use Rattle.std.specs.declared.option.Option.{Option}
 use Rattle.std.specs.List.{list_all, list_any}
 use Rattle.std.specs.Str.{bytes_eq}
 use Rattle.simplicial_law.specs.ListedSimplices.{simplices}
-use Rattle.simplicial_law.specs.Simplices.{subsets}
+use Rattle.simplicial_law.specs.Names.{subsets}
 use Rattle.complex_file.specs.declared.block.Sent.{Sent}
 use Rattle.complex_file.specs.declared.fault.BlockFault.{BlockFault}
 use Rattle.complex_file.specs.declared.kind.InputKind.{InputKind}

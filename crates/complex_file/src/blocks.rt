@@ -1,8 +1,7 @@
-ghost use Rattle.std.specs.Prelude.{◌≡◌, ◌<◌, [], length, IfOk, IfSome};
+ghost use Rattle.std.specs.Prelude.{◌≡◌, ◌<◌, [], length, IfSome, OnOk};
 ghost use Rattle.std.specs.List.{list_any};
 ghost use Rattle.std.specs.Str.{bytes_eq};
-ghost use Rattle.complex_file.specs.Input.{with_complex, with_map};
-ghost use Rattle.complex_file.specs.Jobs.{block_names, facets_at, has_name, place_of_name};
+ghost use Rattle.complex_file.specs.Names.{with_complex, with_map, block_names, facets_at, has_name, place_of_name};
 
 use crate::{ComplexBlock, MapBlock};
 use comch_io::Listed;
@@ -86,41 +85,23 @@ impl Blocks {
         &self.complexes.as_slice()[place as usize].facets
     }
 
-    /// The blocks with one more complex.
-    pub fn with_complex(self, block: ComplexBlock) -> Result<Blocks, AllocError>
-        requires room { length self.complexes < 8 }
-        ensures { IfOk result (λ b. b ≡ with_complex self block) }
+    /// Adds a complex behind the others.
+    pub fn add_complex(&mut self, block: ComplexBlock) -> Result<(), AllocError>
+        requires room { length self.old.complexes < 8 }
+        ensures { OnOk result (self.new ≡ with_complex self.old block) }
     {
-        let Blocks {
-            prime,
-            mut complexes,
-            maps,
-        } = self;
-        match complexes.push(block) {
-            Ok(()) => Ok(Blocks {
-                prime,
-                complexes,
-                maps,
-            }),
+        match self.complexes.push(block) {
+            Ok(()) => Ok(()),
             Err(_) => Err(AllocError),
         }
     }
 
-    /// The blocks with one more map.
-    pub fn with_map(self, block: MapBlock) -> Result<Blocks, AllocError>
-        ensures { IfOk result (λ b. b ≡ with_map self block) }
+    /// Adds a map behind the others.
+    pub fn add_map(&mut self, block: MapBlock) -> Result<(), AllocError>
+        ensures { OnOk result (self.new ≡ with_map self.old block) }
     {
-        let Blocks {
-            prime,
-            complexes,
-            mut maps,
-        } = self;
-        match maps.push(block) {
-            Ok(()) => Ok(Blocks {
-                prime,
-                complexes,
-                maps,
-            }),
+        match self.maps.push(block) {
+            Ok(()) => Ok(()),
             Err(_) => Err(AllocError),
         }
     }

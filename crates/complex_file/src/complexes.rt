@@ -1,6 +1,5 @@
 ghost use Rattle.std.specs.Prelude.{◌≡◌, IfOk, option_map};
-ghost use Rattle.complex_file.specs.Complexes.{ascending, complex_fault, facet_of, with_facet};
-ghost use Rattle.complex_file.specs.Reading.{Gives};
+ghost use Rattle.complex_file.specs.Names.{ascending, complex_fault, facet_of, with_facet, Gives};
 
 use crate::fault::LineFault;
 use crate::{BlockFault, ComplexBlock, InputKind};

@@ -1,5 +1,5 @@
 ghost use Rattle.std.specs.Prelude.{◌≡◌};
-ghost use Rattle.complex_file.specs.declared.fault.LineFault.TheVariants.{Memory};
+ghost use Rattle.complex_file.specs.Names.{Memory};
 
 use crate::InputKind;
 use std::alloc::{AllocError, AllocFailed};

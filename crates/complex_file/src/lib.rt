@@ -22,7 +22,7 @@ pub use fault::{BlockFault, JobRefused};
 pub use input::read_job;
 pub use job::Job;
 pub use kind::InputKind;
-pub use laws::{spelled_job, written_job};
+pub use laws::{first_fault, spelled_job, written_job};
 pub use maps::map_fault;
 pub use simplex_set::{Complex, Simplex};
 pub use text::is_name;

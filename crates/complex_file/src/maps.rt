@@ -1,5 +1,5 @@
 ghost use Rattle.std.specs.Prelude.{◌≡◌, IfOk};
-ghost use Rattle.complex_file.specs.Maps.{map_fault};
+ghost use Rattle.complex_file.specs.Names.{map_fault};
 
 use crate::fault::LineFault;
 use crate::sends::Sends;

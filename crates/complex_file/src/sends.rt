@@ -1,9 +1,7 @@
 ghost use Rattle.std.specs.Prelude.{◌≡◌, [], IfOk};
 ghost use Rattle.std.specs.List.{list_all};
-ghost use Rattle.simplicial_law.specs.Simplices.{subsets};
-ghost use Rattle.complex_file.specs.Complexes.{has_vertex};
-ghost use Rattle.complex_file.specs.Maps.{end_fault, image, image_of_facet, is_sent, is_vertex, keeps_edge, keeps_order, keeps_simplices, send_fault, sends_each, with_send};
-ghost use Rattle.complex_file.specs.Reading.{Gives};
+ghost use Rattle.simplicial_law.specs.Names.{subsets};
+ghost use Rattle.complex_file.specs.Names.{has_vertex, end_fault, image, image_of_facet, is_sent, is_vertex, keeps_edge, keeps_order, keeps_simplices, send_fault, sends_each, with_send, Gives};
 
 use crate::complexes::ascending_of;
 use crate::fault::LineFault;

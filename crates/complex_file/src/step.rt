@@ -1,9 +1,5 @@
 ghost use Rattle.std.specs.Prelude.{◌≡◌, ◌<◌, false, length, IfOk, Ok, Some, option_map};
-ghost use Rattle.complex_file.specs.Input.{after, after_complex, after_facet, after_map, after_map_end, after_prime, after_send, at_prime, at_start, begun_map, between, in_complex, in_map, with_complex};
-ghost use Rattle.complex_file.specs.Jobs.{block_names, facets_at, has_name};
-ghost use Rattle.complex_file.specs.Maps.{end_fault};
-ghost use Rattle.complex_file.specs.Reading.{Gives};
-ghost use Rattle.complex_file.specs.Views.{complex_seen, line_seen, map_seen, place_seen};
+ghost use Rattle.complex_file.specs.Names.{after, after_complex, after_facet, after_map, after_map_end, after_prime, after_send, at_prime, at_start, begun_map, between, in_complex, in_map, with_complex, block_names, facets_at, has_name, end_fault, Gives, complex_seen, line_seen, map_seen, place_seen};
 
 use crate::blocks::Blocks;
 use crate::complexes::{facet_of, with_facet};
@@ -66,15 +62,13 @@ fn after_complex_end(alloc: Global, begun: BegunComplex) -> Result<Place, LineFa
     ensures { Gives place_seen result (Ok (between (with_complex begun.blocks (complex_seen begun)))) }
 {
     let BegunComplex {
-        blocks,
+        mut blocks,
         name,
         complex,
     } = begun;
-    let block = ComplexBlock {
-        name,
-        facets: complex.into_complex(alloc)?,
-    };
-    Ok(Place::Between(blocks.with_complex(block)?))
+    let facets = complex.into_complex(alloc)?;
+    blocks.add_complex(ComplexBlock { name, facets })?;
+    Ok(Place::Between(blocks))
 }
 
 fn after_map(
@@ -140,19 +134,20 @@ fn after_map_end(alloc: Global, begun: BegunMap) -> Result<Place, LineFault>
         return Err(LineFault::Kind(kind));
     }
     let BegunMap {
-        blocks,
+        mut blocks,
         name,
         from,
         to,
         sends,
     } = begun;
-    let block = MapBlock {
+    let sends = sends.listed(alloc)?;
+    blocks.add_map(MapBlock {
         name,
         from,
         to,
-        sends: sends.listed(alloc)?,
-    };
-    Ok(Place::Between(blocks.with_map(block)?))
+        sends,
+    })?;
+    Ok(Place::Between(blocks))
 }
 
 fn from_start(line: Line<'_>) -> Result<Place, LineFault>

@@ -1,9 +1,7 @@
 use Rattle.std.proofs.Common.{◌≡◌, ◌∙◌, List, ℕ, true, ap, subst, rules}
 use Rattle.std.specs.List.{list_all}
-use Rattle.complex_file.specs.Text.{is_allowed, words}
-use Rattle.complex_file.specs.Input.{after_line, after_words}
-use Rattle.complex_file.specs.Reading.{Gives}
-use Rattle.complex_file.specs.Views.{place_seen, texts}
+use Rattle.complex_file.specs.Names.{is_allowed, words, after_words, Gives, place_seen, texts}
+use Rattle.complex_file.specs.Input.{after_line}
 use Rattle.complex_file.proofs.input.after_line.Goals as goal
 
 pub returns : goal.returns

@@ -1,6 +1,5 @@
 use Rattle.std.proofs.Common.{◌≡◌, ◌+◌, drop}
-use Rattle.complex_file.specs.Input.{place_after, at_start}
-use Rattle.complex_file.specs.Views.{place_seen, texts}
+use Rattle.complex_file.specs.Names.{place_after, at_start, place_seen, texts}
 use Rattle.complex_file.proofs.input.place_after.Given as goal
 
 abbrev pub invariant-loop-line : goal.invariant-loop-line

@@ -1,11 +1,7 @@
-use Rattle.std.proofs.Common.{◌≡◌, ◌∙◌, ◌+◌, List, ℕ, Bor, Ok, ap, subst, sym, length}
+use Rattle.std.proofs.Common.{◌≡◌, ◌∙◌, ◌+◌, List, ℕ, Bor, Ok, ap, subst, sym, length, count_by}
 use Rattle.std.proofs.lemmas.List.{length-map}
-use Rattle.std.specs.Prelude.{count_by}
 use Rattle.std.proofs.lemmas.List.Splits.{length-slice_split}
-use Rattle.complex_file.specs.Text.{is_line_end, lines}
-use Rattle.complex_file.specs.Input.{Spelled, at_end, at_line, at_start, place_after}
-use Rattle.complex_file.specs.Reading.{GivesInput}
-use Rattle.complex_file.specs.Views.{place_seen, texts}
+use Rattle.complex_file.specs.Names.{is_line_end, lines, Spelled, at_end, at_line, at_start, place_after, GivesInput, place_seen, texts}
 use Rattle.complex_file.proofs.input.read_lines.Goals as goal
 
 pub returns : goal.returns

@@ -1,6 +1,6 @@
 use Rattle.std.proofs.Common.{List, ℕ, Bor, arith}
 use Rattle.std.proofs.lemmas.List.{length-map}
-use Rattle.complex_file.specs.Views.{texts}
+use Rattle.complex_file.specs.Names.{texts}
 use Rattle.complex_file.proofs.LineLemmas.{few_many}
 use Rattle.complex_file.proofs.line.line_of_few.Goals as goal
 

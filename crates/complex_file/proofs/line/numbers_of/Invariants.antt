@@ -1,8 +1,7 @@
 -- What is found, and the numbers of the words that are left, are the numbers of all the words.
 use Rattle.std.proofs.Common.{◌≡◌, drop}
-use Rattle.complex_file.specs.Lines.{numbers}
+use Rattle.complex_file.specs.Names.{numbers, texts}
 use Rattle.complex_file.proofs.FacetLemmas.{with_front}
-use Rattle.complex_file.specs.Views.{texts}
 use Rattle.complex_file.proofs.line.numbers_of.Given as goal
 
 abbrev pub invariant-loop-word : goal.invariant-loop-word

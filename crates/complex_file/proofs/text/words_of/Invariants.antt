@@ -1,5 +1,5 @@
 use Rattle.std.proofs.Common.{◌≡◌, Bor, ℕ, List, take, map, filter}
-use Rattle.complex_file.specs.Text.{is_not_empty}
+use Rattle.complex_file.specs.Names.{is_not_empty}
 use Rattle.complex_file.proofs.text.words_of.Given as goal
 
 abbrev pub invariant-loop-piece : goal.invariant-loop-piece

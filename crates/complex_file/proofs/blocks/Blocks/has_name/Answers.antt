@@ -1,9 +1,7 @@
 use Rattle.std.proofs.Common.{◌∙◌, ap}
 use Rattle.std.specs.List.{list_any}
 use Rattle.std.specs.Str.{bytes_eq}
-use Rattle.complex_file.specs.Input.{Spelled}
-use Rattle.complex_file.specs.declared.block.ComplexBlock.{ComplexBlock}
-use Rattle.complex_file.specs.declared.block.MapBlock.{MapBlock}
+use Rattle.complex_file.specs.Names.{Spelled, ComplexBlock, MapBlock}
 use Rattle.complex_file.proofs.NameLemmas.{named_first, named_second}
 use Rattle.complex_file.proofs.blocks.Blocks.has_name.Goals as goal
 

@@ -1,8 +1,6 @@
-use Rattle.std.proofs.Common.{◌∙◌, List, ap, ℕ}
-use Rattle.std.specs.Prelude.{unwrap_or}
+use Rattle.std.proofs.Common.{◌∙◌, List, ap, ℕ, unwrap_or}
 use Rattle.std.specs.declared.option.Option.{Option}
-use Rattle.complex_file.specs.declared.block.Sent.{Sent}
-use Rattle.complex_file.specs.Maps.{image}
+use Rattle.complex_file.specs.Names.{Sent, image}
 use Rattle.complex_file.proofs.MapLemmas.{image_by_lookup}
 use Rattle.complex_file.proofs.sends.Sends.image.Goals as goal
 

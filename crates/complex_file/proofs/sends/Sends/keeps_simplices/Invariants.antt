@@ -1,6 +1,6 @@
 -- The facets so far have simplices as their images.
 use Rattle.std.proofs.Common.{◌≡◌, drop}
-use Rattle.complex_file.specs.Maps.{keeps_simplices}
+use Rattle.complex_file.specs.Names.{keeps_simplices}
 use Rattle.complex_file.proofs.sends.Sends.keeps_simplices.Given as goal
 
 abbrev pub invariant-loop-facet : goal.invariant-loop-facet

@@ -1,6 +1,6 @@
 -- What is listed, and the sends that are left, are all the sends.
 use Rattle.std.proofs.Common.{◌≡◌, ◌++◌}
-use Rattle.complex_file.specs.Sends.{sends_in}
+use Rattle.complex_file.specs.Names.{sends_in}
 use Rattle.complex_file.proofs.sends.Sends.listed.Given as goal
 
 abbrev pub invariant-loop-from : goal.invariant-loop-from
