@@ -2,17 +2,15 @@
 use Rattle.std.proofs.Common.{◌≡◌, ℕ, zero, suc, ◌+◌, ◌<◌, inl, inr, subst, sym, arith, Bool, true, List, [], ◌∷◌, ◌++◌, length, map, get_or}
 use Rattle.std.specs.List.{list_all}
 use Rattle.std.proofs.lemmas.Bool.{and_parts}
-use Rattle.linear_law.specs.Lists.{Among, Each}
-use Rattle.linear_law.proofs.ListLemmas.{each_zip}
+use Rattle.linear_law.specs.Names.{Among, Each}
+use Rattle.linear_law.proofs.Names.{each_zip}
 use Rattle.report.specs.declared.complex.ComplexPart.{ComplexPart}
 use Rattle.report.specs.declared.job.Report.{Report}
 use Rattle.report.specs.declared.map.MapPart.{MapPart}
 use Rattle.report_text_law.specs.declared.line.Line.{Line}
-use Rattle.report_text_law.specs.WellFormed.{is_line, is_well_formed}
-use Rattle.certificate_law.specs.Certifies.{Certifies}
-use Rattle.certificate_law.specs.Conditions.{Asks}
-use Rattle.certificate_law.specs.Laws.{line_said}
-use Rattle.certificate_law.specs.Stated.{Stated, behind, cartan_stated, complex_ends, complex_stated, degree_stated, facet_stands, map_stated, numbered, operation_stated, product_stated, stated}
+use Rattle.report_text_law.specs.Names.{is_line}
+use Rattle.report_text_law.specs.WellFormed.{is_well_formed}
+use Rattle.certificate_law.specs.Names.{Certifies, Asks, line_said, Stated, behind, cartan_stated, complex_ends, complex_stated, degree_stated, facet_stands, map_stated, numbered, operation_stated, product_stated, stated}
 use Rattle.certificate_law.proofs.StatedLines.{stated_lines_law}
 
 -- ---- lists

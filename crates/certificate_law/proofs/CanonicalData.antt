@@ -1,32 +1,16 @@
 -- Canonical primitives and classes pass the tests.
-use Rattle.std.proofs.Common.{◌≡◌, ℕ, zero, suc, ◌+◌, ◌<◌, ◌≤◌, ◌⊎◌, inl, inr, subst, ap, sym, arith, List, [], ◌∷◌, ◌++◌, length, map, get_or}
+use Rattle.std.proofs.Common.{◌≡◌, ℕ, zero, suc, ◌+◌, ◌<◌, ◌≤◌, ◌⊎◌, inl, inr, subst, ap, sym, arith, List, [], ◌∷◌, ◌++◌, length, map, get_or, length-append}
 use Rattle.std.specs.List.{AllZip}
 use Rattle.std.specs.Cmp.Lexicographic.{nat_list_cmp_total}
 use Rattle.std.proofs.lemmas.Bool.{cases_lt}
-use Rattle.std.proofs.lemmas.List.{length-append}
-use Rattle.linear_law.specs.Congruence.{IsField}
-use Rattle.linear_law.specs.Lists.{Among, Each, IsApart, IsAscending}
-use Rattle.linear_law.specs.Pivots.{IsCanonical}
-use Rattle.linear_law.proofs.CongruenceLemmas.{Congruent_of, Congruent_sym}
-use Rattle.linear_law.proofs.Counting.{apart_short}
-use Rattle.linear_law.proofs.LeadLemmas.{least_or_zero}
-use Rattle.linear_law.proofs.ListLemmas.{among_left, among_right, each_among, each_append, each_map, each_zip, length_alike}
-use Rattle.linear_law.proofs.PivotLemmas.{not_zero, one-nonzero}
-use Rattle.linear_law.proofs.TriangularBases.{each_of_index}
-use Rattle.simplicial_law.specs.Simplices.{IsInOrder, IsSimplex, Precedes}
-use Rattle.simplicial_law.specs.Cochains.{AgreesOnSimplices, Chain, Cochain, IsCoboundary, IsCocycle, coboundary}
-use Rattle.simplicial_law.specs.Canonical.{IsCanonicalClass, IsCoboundaryPivot, IsCocyclePivot}
-use Rattle.simplicial_law.specs.CanonicalClasses.{AreCanonicalClasses, AreTerms, cochain_of}
-use Rattle.simplicial_law.specs.Places.{cochain_at}
-use Rattle.simplicial_law.specs.ListedSimplices.{of_degree, simplices}
-use Rattle.simplicial_law.proofs.Bases.{bounds_close}
-use Rattle.simplicial_law.proofs.DegreeZero.{no_bounds}
-use Rattle.simplicial_law.proofs.ListedSimplices.{listed_simplices_law, place_of_among}
-use Rattle.simplicial_law.proofs.Order.{lists_compare, lists_strict}
-use Rattle.simplicial_law.proofs.SimplexPlaces.{agree_by_place, cochain_at-value, lead_up}
-use Rattle.report_law.specs.Columns.{ArePrimitives, IsPrimitiveAt}
-use Rattle.report_law.proofs.CanonicalData.{among_or_not}
-use Rattle.certificate_law.specs.ListedDegrees.{HasNewLeast, IsLeastSimplex, IsOnBelow, coboundaries_of, simplex_count}
+use Rattle.linear_law.specs.Names.{IsField, Among, Each, IsApart, IsAscending, IsCanonical}
+use Rattle.linear_law.proofs.Names.{Congruent_of, Congruent_sym, apart_short, least_or_zero, among_left, among_right, each_among, each_append, each_map, each_zip, length_alike, not_zero, one-nonzero, each_of_index}
+use Rattle.simplicial_law.specs.Names.{IsInOrder, IsSimplex, Precedes, AgreesOnSimplices, Chain, Cochain, IsCoboundary, IsCocycle, coboundary, IsCanonicalClass, IsCoboundaryPivot, IsCocyclePivot, AreCanonicalClasses, AreTerms, cochain_of, cochain_at, of_degree}
+use Rattle.simplicial_law.specs.ListedSimplices.{simplices}
+use Rattle.simplicial_law.proofs.Names.{bounds_close, no_bounds, listed_simplices_law, place_of_among, lists_compare, lists_strict, agree_by_place, cochain_at-value, lead_up}
+use Rattle.report_law.specs.Names.{ArePrimitives, IsPrimitiveAt}
+use Rattle.report_law.proofs.Names.{among_or_not}
+use Rattle.certificate_law.specs.Names.{HasNewLeast, IsLeastSimplex, IsOnBelow, coboundaries_of, simplex_count}
 use Rattle.certificate_law.proofs.ListedBases.{EachAfter, IsListedWell, apart_append}
 use Rattle.certificate_law.proofs.PivotBases.{alike_lead}
 use Rattle.certificate_law.proofs.PivotCounts.{pivot_lists, simplex_same_or_not}

@@ -1,19 +1,14 @@
 -- Where a report certifies, the printed classes are bases of cohomology.
 use Rattle.std.proofs.Common.{◌≡◌, ℕ, ◌+◌, ◌<◌, ◌≤◌, sym, subst, arith, List, [], ◌∷◌, ◌++◌, length, map, get_or}
 use Rattle.std.proofs.lemmas.List.{length-map}
-use Rattle.linear_law.specs.Congruence.{IsField}
-use Rattle.linear_law.specs.Lists.{Each, IsAscending}
-use Rattle.simplicial_law.specs.Cochains.{Chain, IsCocycle}
-use Rattle.simplicial_law.specs.CanonicalClasses.{cochain_of}
-use Rattle.simplicial_law.proofs.ListedSimplices.{listed_simplices_law}
+use Rattle.linear_law.specs.Names.{IsField, Each, IsAscending}
+use Rattle.simplicial_law.specs.Names.{Chain, IsCocycle, cochain_of}
+use Rattle.simplicial_law.proofs.Names.{listed_simplices_law}
 use Rattle.report.specs.declared.complex.ComplexPart.{ComplexPart}
 use Rattle.report.specs.declared.complex.DegreePart.{DegreePart}
-use Rattle.report_law.specs.Matrices.{classes_in}
-use Rattle.report_law.specs.Parts.{below_in, classes_of}
-use Rattle.report_law.proofs.Coordinates.{AreBases, bases-from}
-use Rattle.report_law.proofs.Lists.{get_or-map, get_or-past}
-use Rattle.certificate_law.specs.ListedDegrees.{HasNewLeast, IsCounted, IsOn, IsOnBelow, coboundaries_of}
-use Rattle.certificate_law.specs.Stated.{after, below_stands, class_stands, degree_stated}
+use Rattle.report_law.specs.Names.{classes_in, below_in, classes_of}
+use Rattle.report_law.proofs.Names.{AreBases, bases-from, get_or-map, get_or-past}
+use Rattle.certificate_law.specs.Names.{HasNewLeast, IsCounted, IsOn, IsOnBelow, coboundaries_of, after, below_stands, class_stands, degree_stated}
 use Rattle.certificate_law.proofs.Asked.{ComplexAsked, IsAsAsked, each_left, each_right, numbered_at}
 use Rattle.certificate_law.proofs.ListedBases.{EachAfter, IsListedWell, listed_basis}
 

@@ -4,14 +4,10 @@ use native.Mathlib.Nat.{zero-mod}
 use Rattle.std.specs.Str.{bytes_eq}
 use Rattle.fp_field.specs.Served.{served}
 use Rattle.fp_field.proofs.ServedLemmas.{served_field}
-use Rattle.linear_law.specs.Congruence.{Congruent, IsField}
-use Rattle.linear_law.specs.Lists.{Among, Each, IsAscending}
-use Rattle.linear_law.proofs.CongruenceLemmas.{Congruent_sym, Congruent_trans}
-use Rattle.linear_law.proofs.ListLemmas.{among_map, each_among}
-use Rattle.linear_law.proofs.TriangularBases.{each_of_index}
-use Rattle.simplicial_law.specs.Cochains.{AgreesOnSimplices, Cochain, coboundary}
-use Rattle.simplicial_law.specs.CanonicalClasses.{cochain_of}
-use Rattle.complex_file.specs.Jobs.{has_name}
+use Rattle.linear_law.specs.Names.{Congruent, IsField, Among, Each, IsAscending}
+use Rattle.linear_law.proofs.Names.{Congruent_sym, Congruent_trans, among_map, each_among, each_of_index}
+use Rattle.simplicial_law.specs.Names.{AgreesOnSimplices, Cochain, coboundary, cochain_of}
+use Rattle.complex_file.specs.Names.{has_name}
 use Rattle.complex_file.specs.declared.block.Sent.{Sent}
 use Rattle.report.specs.declared.columns.CartanAnswer.{CartanAnswer}
 use Rattle.report.specs.declared.columns.CartanAnswer.TheVariants.{Yes, No}
@@ -24,22 +20,11 @@ use Rattle.report.specs.declared.job.Report.{Report}
 use Rattle.report.specs.declared.map.InducedPart.{InducedPart}
 use Rattle.report.specs.declared.map.MapPart.{MapPart}
 use Rattle.report.specs.declared.plan.Line.{Line}
-use Rattle.report_law.specs.Headline.{CartanPromise, ComplexPromise, ProductPromise, Says}
-use Rattle.report_law.specs.Live.{blocks, induced_degrees, lines}
-use Rattle.report_law.specs.Matrices.{IsLineDifference, class_at, line_degree}
-use Rattle.report_law.specs.Parts.{block_of, classes_of, line_of, number_pairs, ranks_of}
-use Rattle.report_law.specs.Reports.{IsInducedPart, IsOperationPart}
-use Rattle.report_law.proofs.Carrying.{bases_promise, operation_promises, product_promise}
-use Rattle.report_law.proofs.Coordinates.{AreBases, agrees-sym}
-use Rattle.report_law.proofs.Maps.{simplicial}
-use Rattle.report_law.proofs.Naturality.{induced_promise}
-use Rattle.report_law.proofs.Verdicts.{difference-once, of-lines}
-use Rattle.report_text_law.specs.WellFormed.{is_line, is_well_formed}
-use Rattle.certificate_law.specs.Certifies.{Certifies}
-use Rattle.certificate_law.specs.Conditions.{IsRightAnswer, complex_names}
-use Rattle.certificate_law.specs.Laws.{CertifiedLaw, MapShown, line_said, verdict_said}
-use Rattle.certificate_law.specs.Parts.{complex_named, itself, rank_in}
-use Rattle.certificate_law.specs.Stated.{answer_stated, behind, cartan_stated, facet_stands, induced_stated, map_ends, map_stated, numbered, operation_stated, product_stated, send_stands}
+use Rattle.report_law.specs.Names.{CartanPromise, ComplexPromise, ProductPromise, Says, blocks, induced_degrees, lines, IsLineDifference, class_at, line_degree, block_of, classes_of, line_of, number_pairs, ranks_of, IsInducedPart, IsOperationPart}
+use Rattle.report_law.proofs.Names.{bases_promise, operation_promises, product_promise, AreBases, agrees-sym, simplicial, induced_promise, difference-once, of-lines}
+use Rattle.report_text_law.specs.Names.{is_line}
+use Rattle.report_text_law.specs.WellFormed.{is_well_formed}
+use Rattle.certificate_law.specs.Names.{Certifies, IsRightAnswer, complex_names, CertifiedLaw, MapShown, line_said, verdict_said, complex_named, itself, rank_in, answer_stated, behind, cartan_stated, facet_stands, induced_stated, map_ends, map_stated, numbered, operation_stated, product_stated, send_stands}
 use Rattle.certificate_law.proofs.Asked.{ComplexAsked, IsAsAsked, complex_asked, each_left, each_right, lines_asked, map_asked, numbered_part}
 use Rattle.certificate_law.proofs.CartanVerdicts.{coboundary_pairs, pairing_alike}
 use Rattle.certificate_law.proofs.CertifiedBases.{printed_bases}

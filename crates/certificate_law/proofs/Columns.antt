@@ -5,14 +5,11 @@ use Rattle.std.proofs.lemmas.Bool.{and_parts}
 use Rattle.std.proofs.lemmas.List.{length-map, map-append}
 use Rattle.std.proofs.lemmas.List.Folds.{flat_map-map}
 use Rattle.std.proofs.lemmas.Simd.{map-map}
-use Rattle.signed_sum.specs.Lists.{numbers_from}
-use Rattle.linear_law.specs.Lists.{Each}
-use Rattle.linear_law.specs.ReducedBases.{combination}
-use Rattle.linear_law.proofs.CongruenceLemmas.{Congruent_from, Congruent_refl, add-negated}
-use Rattle.linear_law.proofs.ListLemmas.{zip_left}
-use Rattle.simplicial_law.specs.Cochains.{AgreesOnSimplices, Chain, Cochain}
-use Rattle.simplicial_law.specs.CanonicalClasses.{cochain_of}
-use Rattle.steenrod_law.specs.Operations.{cochain_products, cup_product, pull_back}
+use Rattle.signed_sum.specs.Names.{numbers_from}
+use Rattle.linear_law.specs.Names.{Each, combination}
+use Rattle.linear_law.proofs.Names.{Congruent_from, Congruent_refl, add-negated, zip_left}
+use Rattle.simplicial_law.specs.Names.{AgreesOnSimplices, Chain, Cochain, cochain_of}
+use Rattle.steenrod_law.specs.Names.{cochain_products, cup_product, pull_back}
 use Rattle.report.specs.declared.columns.Column.{Column}
 use Rattle.report.specs.declared.columns.OperationPart.{OperationPart}
 use Rattle.report.specs.declared.columns.PairColumn.{PairColumn}
@@ -20,18 +17,12 @@ use Rattle.report.specs.declared.columns.ProductPart.{ProductPart}
 use Rattle.report.specs.declared.complex.ComplexPart.{ComplexPart}
 use Rattle.report.specs.declared.map.InducedPart.{InducedPart}
 use Rattle.report.specs.declared.map.MapPart.{MapPart}
-use Rattle.report_law.specs.Columns.{IsColumn}
-use Rattle.report_law.specs.Headline.{listed}
-use Rattle.report_law.specs.Matrices.{IsOperationColumn, class_at, classes_in}
-use Rattle.report_law.specs.Parts.{block_of, classes_of, number_pairs, numbers_of, unnumbered}
-use Rattle.report_law.specs.Reports.{IsInducedPart, IsOperationPart, IsProductPart}
-use Rattle.report_law.proofs.Coordinates.{coordinates-alike}
-use Rattle.report_text_law.specs.declared.line.Line.TheVariants.{Column as column_line, Pair as pair_line}
-use Rattle.report_text_law.specs.WellFormed.{are_values, is_line, is_u32}
-use Rattle.certificate_law.specs.Conditions.{column_sum}
-use Rattle.certificate_law.specs.ListedDegrees.{IsOnBelow}
-use Rattle.certificate_law.specs.Parts.{rank_in, sent_by}
-use Rattle.certificate_law.specs.Stated.{induced_column, induced_stated, operation_column, operation_stated, product_column, product_stated, with_stands}
+use Rattle.report_law.specs.Names.{IsColumn, listed, IsOperationColumn, class_at, classes_in, block_of, classes_of, number_pairs, numbers_of, unnumbered, IsInducedPart, IsOperationPart, IsProductPart}
+use Rattle.report_law.proofs.Names.{coordinates-alike}
+use Rattle.report_text_law.specs.Names.{are_values, is_line, is_u32}
+use Rattle.report_text_law.specs.declared.line.Line.TheVariants.{Column as column_line}
+use Rattle.report_text_law.specs.declared.line.Line.TheVariants.{Pair as pair_line}
+use Rattle.certificate_law.specs.Names.{column_sum, IsOnBelow, rank_in, sent_by, induced_column, induced_stated, operation_column, operation_stated, product_column, product_stated, with_stands}
 use Rattle.certificate_law.proofs.Asked.{IsAsAsked}
 use Rattle.certificate_law.proofs.ListedBases.{nowhere}
 use Rattle.certificate_law.proofs.Places.{at_each, at_map, at_start, each_at, placed_from_start, zip_places_of}

@@ -1,23 +1,16 @@
 -- Canonical data pass the conditions on the lines of a complex.
-use Rattle.std.proofs.Common.{◌≡◌, ℕ, zero, suc, ◌+◌, ◌-◌, ◌<◌, ◌≤◌, ◌==◌, nat_le, true, IsTrue, refl, sym, ◌∙◌, ap, subst, arith, List, [], ◌∷◌, ◌++◌, length, map, get_or, slice_get, Some}
+use Rattle.std.proofs.Common.{◌≡◌, ℕ, zero, suc, ◌+◌, ◌-◌, ◌<◌, ◌≤◌, ◌==◌, nat_le, true, IsTrue, refl, sym, ◌∙◌, ap, subst, arith, List, [], ◌∷◌, ◌++◌, length, map, get_or, slice_get, Some, eqb-true}
 use Rattle.std.specs.List.{AllZip}
-use Rattle.std.proofs.lemmas.Bool.{and_parts, eqb-true}
+use Rattle.std.proofs.lemmas.Bool.{and_parts}
 use Rattle.std.proofs.lemmas.List.{length-map}
 use Rattle.fp_field.proofs.ServedLemmas.{served_field}
 use Rattle.fp_field.specs.Served.{served}
-use Rattle.linear_law.specs.Congruence.{IsField}
-use Rattle.linear_law.specs.Lists.{Among, Each, IsAscending}
-use Rattle.linear_law.specs.ReducedBases.{combination}
-use Rattle.linear_law.proofs.CongruenceLemmas.{Congruent_add, Congruent_from, Congruent_of, Congruent_sym, Congruent_trans, add-negated}
-use Rattle.linear_law.proofs.ListLemmas.{among_map, each_among, each_append, each_get_or, each_map, length_alike}
-use Rattle.linear_law.proofs.TriangularBases.{each_of_index}
-use Rattle.simplicial_law.specs.Simplices.{IsSimplex}
-use Rattle.simplicial_law.specs.Cochains.{AgreesOnSimplices, Chain, Cochain, IsCocycle, coboundary}
-use Rattle.simplicial_law.specs.CanonicalClasses.{cochain_of}
-use Rattle.simplicial_law.specs.ListedSimplices.{of_degree, simplices}
-use Rattle.simplicial_law.proofs.Bases.{coboundary_zero}
-use Rattle.simplicial_law.proofs.ListedSimplices.{listed_simplices_law}
-use Rattle.steenrod_law.specs.Operations.{cochain_products, cup_product}
+use Rattle.linear_law.specs.Names.{IsField, Among, Each, IsAscending, combination}
+use Rattle.linear_law.proofs.Names.{Congruent_add, Congruent_from, Congruent_of, Congruent_sym, Congruent_trans, add-negated, among_map, each_among, each_append, each_get_or, each_map, length_alike, each_of_index}
+use Rattle.simplicial_law.specs.Names.{IsSimplex, AgreesOnSimplices, Chain, Cochain, IsCocycle, coboundary, cochain_of, of_degree}
+use Rattle.simplicial_law.specs.ListedSimplices.{simplices}
+use Rattle.simplicial_law.proofs.Names.{coboundary_zero, listed_simplices_law}
+use Rattle.steenrod_law.specs.Names.{cochain_products, cup_product}
 use Rattle.report.specs.declared.columns.CartanAnswer.{CartanAnswer}
 use Rattle.report.specs.declared.columns.CartanAnswer.TheVariants.{Yes, No}
 use Rattle.report.specs.declared.columns.CartanPart.{CartanPart}
@@ -29,20 +22,11 @@ use Rattle.report.specs.declared.complex.ComplexPart.{ComplexPart}
 use Rattle.report.specs.declared.complex.DegreePart.{DegreePart}
 use Rattle.report.specs.declared.plan.Block.{Block}
 use Rattle.report.specs.declared.plan.Op.{Op}
-use Rattle.report.specs.declared.plan.Op.TheVariants.{Square, Power, BocksteinPower}
-use Rattle.report_law.specs.Columns.{IsAnswer, IsColumn, IsPrimitive}
-use Rattle.report_law.specs.Differences.{IsCartanDifference, IsOperation}
-use Rattle.report_law.specs.Headline.{listed}
-use Rattle.report_law.specs.Live.{blocks, is_defined, lines, products, target_degree}
-use Rattle.report_law.specs.Matrices.{IsOperationColumn, class_at, classes_in, line_degree}
-use Rattle.report_law.specs.Parts.{below_in, block_of, classes_of, line_of, number_pairs, numbers_of, op_of, product_of, ranks_of, unnumbered}
-use Rattle.report_law.specs.Reports.{AreTables, IsCartanPart, IsComplexPart, IsOperationPart, IsProductPart}
-use Rattle.report_law.proofs.Blocks.{of-blocks}
-use Rattle.report_law.proofs.Cycles.{is_cycle, reads}
-use Rattle.certificate_law.specs.Conditions.{HasItsDegrees, IsBlockLine, IsCartanLine, IsClassLine, IsCoboundaryLine, IsCocycleLine, IsColumnAt, IsColumnLine, IsComplexWhole, IsCountLine, IsInducedLine, IsNewComplex, IsProductColumn, IsRightAnswer, IsRightOperation, IsRightProduct, column_sum}
-use Rattle.certificate_law.specs.ListedDegrees.{HasNewLeast, IsOn, IsOnBelow, coboundaries_of, simplex_count}
-use Rattle.certificate_law.specs.Parts.{itself, rank_in}
-use Rattle.certificate_law.specs.Stated.{Stated, after, answer_stated, behind, below_stands, cartan_stated, class_stands, complex_ends, complex_stated, degree_stated, facet_stands, numbered, operation_column, operation_stated, product_column, product_stated, with_stands}
+use Rattle.report.specs.declared.plan.Op.TheVariants.{Square}
+use Rattle.report.specs.declared.plan.Op.TheVariants.{Power, BocksteinPower}
+use Rattle.report_law.specs.Names.{IsAnswer, IsColumn, IsPrimitive, IsCartanDifference, IsOperation, listed, blocks, is_defined, lines, products, target_degree, IsOperationColumn, class_at, classes_in, line_degree, below_in, block_of, classes_of, line_of, number_pairs, numbers_of, op_of, product_of, ranks_of, unnumbered, AreTables, IsCartanPart, IsComplexPart, IsOperationPart, IsProductPart}
+use Rattle.report_law.proofs.Names.{of-blocks, is_cycle, reads}
+use Rattle.certificate_law.specs.Names.{HasItsDegrees, IsBlockLine, IsCartanLine, IsClassLine, IsCoboundaryLine, IsCocycleLine, IsColumnAt, IsColumnLine, IsComplexWhole, IsCountLine, IsInducedLine, IsNewComplex, IsProductColumn, IsRightAnswer, IsRightOperation, IsRightProduct, column_sum, HasNewLeast, IsOn, IsOnBelow, coboundaries_of, simplex_count, itself, rank_in, Stated, after, answer_stated, behind, below_stands, cartan_stated, class_stands, complex_ends, complex_stated, degree_stated, facet_stands, numbered, operation_column, operation_stated, product_column, product_stated, with_stands}
 use Rattle.certificate_law.proofs.Building.{at_both, at_index, at_of_each, each_numbered, placed, zip_places}
 use Rattle.certificate_law.proofs.CanonicalData.{canonical_listed}
 use Rattle.certificate_law.proofs.CertifiedBases.{below_at, below_past, classes_at, no_degree}
@@ -85,9 +69,9 @@ column_same facets n p zs z values primitive large h =
 operation_alike : (facets : List (List ℕ)) (p q : ℕ) (op : Op) (z a b : Cochain) → AgreesOnSimplices facets (target_degree p q op) p b a → IsOperation facets p op q z a → ((k : ℕ) → op ≡ Square k → p ≡ 2) → IsOperation facets p op q z b
 operation_alike facets p q (Square k) z a b e h two =
     let f : AgreesOnSimplices facets (q + k) 2 b a = subst (λ (m : ℕ). AgreesOnSimplices facets (q + k) m b a) (two k refl) e in
-    record { at = λ s on. Congruent_trans (f.at s on) (h.at s on) }
-operation_alike facets p q (Power s) z a b e h two = record { scale = h.scale; is_scale = h.is_scale; value = record { at = λ t on. Congruent_trans (e.at t on) (h.value.at t on) } }
-operation_alike facets p q (BocksteinPower s) z a b e h two = record { scale = h.scale; is_scale = h.is_scale; value = record { at = λ t on. Congruent_trans (e.at t on) (h.value.at t on) } }
+    record { defined = h.defined; value = record { at = λ s on. Congruent_trans (f.at s on) (h.value.at s on) } }
+operation_alike facets p q (Power s) z a b e h two = record { odd = h.odd; defined = h.defined; scale = h.scale; is_scale = h.is_scale; value = record { at = λ t on. Congruent_trans (e.at t on) (h.value.at t on) } }
+operation_alike facets p q (BocksteinPower s) z a b e h two = record { odd = h.odd; defined = h.defined; scale = h.scale; is_scale = h.is_scale; value = record { at = λ t on. Congruent_trans (e.at t on) (h.value.at t on) } }
 
 shorter : {X Y : Type 0} (f : X → Y) (xs : List X) (ys : List Y) → map f xs ≡ ys → length ys ≤ length xs
 shorter f xs ys e = let l = ap length e in let m = length-map xs f in omega (arith, l, m)

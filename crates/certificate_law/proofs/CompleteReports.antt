@@ -3,29 +3,19 @@ use Rattle.std.proofs.Common.{◌≡◌, ℕ, zero, suc, ◌+◌, ◌-◌, ◌^�
 use Rattle.std.proofs.lemmas.List.{length-map}
 use Rattle.fp_field.specs.Served.{served}
 use Rattle.fp_field.proofs.ServedLemmas.{served_field}
-use Rattle.linear_law.specs.Lists.{Each}
-use Rattle.linear_law.proofs.ListLemmas.{each_append, each_map, length_alike}
-use Rattle.simplicial_law.specs.Cochains.{Chain, Cochain}
-use Rattle.simplicial_law.specs.CanonicalClasses.{cochain_of}
-use Rattle.steenrod_law.specs.Operations.{pull_back}
+use Rattle.linear_law.specs.Names.{Each}
+use Rattle.linear_law.proofs.Names.{each_append, each_map, length_alike}
+use Rattle.simplicial_law.specs.Names.{Chain, Cochain, cochain_of}
+use Rattle.steenrod_law.specs.Names.{pull_back}
+use Rattle.complex_file.specs.Names.{end_fault}
 use Rattle.complex_file.specs.declared.block.Sent.{Sent}
 use Rattle.report.specs.declared.columns.Column.{Column}
 use Rattle.report.specs.declared.complex.ComplexPart.{ComplexPart}
 use Rattle.report.specs.declared.job.Report.{Report}
 use Rattle.report.specs.declared.map.InducedPart.{InducedPart}
 use Rattle.report.specs.declared.map.MapPart.{MapPart}
-use Rattle.report_law.specs.Columns.{IsColumn}
-use Rattle.report_law.specs.Headline.{listed}
-use Rattle.report_law.specs.Live.{induced_degrees}
-use Rattle.report_law.specs.Matrices.{classes_in}
-use Rattle.report_law.specs.Parts.{classes_of, ranks_of}
-use Rattle.report_law.specs.Reports.{IsInducedPart}
-use Rattle.report_law.specs.Terms.{passing_sum, sizes_of}
-use Rattle.certificate_law.specs.Certifies.{Certifies}
-use Rattle.certificate_law.specs.Conditions.{Asks, IsColumnAt, IsMapWhole, IsNewMap, IsRightPullBack}
-use Rattle.complex_file.specs.Maps.{end_fault}
-use Rattle.certificate_law.specs.Parts.{rank_in, sent_by}
-use Rattle.certificate_law.specs.Stated.{Stated, behind, complex_stated, finish, induced_column, induced_stated, map_between, map_ends, map_stated, numbered, send_stands, stated}
+use Rattle.report_law.specs.Names.{IsColumn, listed, induced_degrees, classes_in, classes_of, ranks_of, IsInducedPart, passing_sum, sizes_of}
+use Rattle.certificate_law.specs.Names.{Certifies, Asks, IsColumnAt, IsMapWhole, IsNewMap, IsRightPullBack, rank_in, sent_by, Stated, behind, complex_stated, finish, induced_column, induced_stated, map_between, map_ends, map_stated, numbered, send_stands, stated}
 use Rattle.certificate_law.proofs.Building.{at_both, at_of_each, each_numbered, placed, zip_places}
 use Rattle.certificate_law.proofs.Places.{at_map}
 use Rattle.certificate_law.proofs.CompleteComplexes.{IsRight, column_same, columns_right, primitive_on}

@@ -1,30 +1,6 @@
 -- The certificate of a job has fewer than 2^64 lines.
 use Rattle.report.specs.declared.plan.Op.{Op}
-use Rattle.report.specs.declared.plan.Op.TheVariants.{Square, Power, BocksteinPower}
-use Rattle.std.proofs.Common.{filter, ◌≡◌, ℕ, zero, suc, ◌+◌, ◌*◌, ◌<◌, ◌≤◌, ◌&&◌, true, inl, inr, refl, sym, ◌∙◌, ap, arith, List, [], ◌∷◌, ◌++◌, length, map, get_or, Bool, length-append, cond, ◌-◌, false}
-use Rattle.std.specs.Prelude.{flat_map}
-use Rattle.std.specs.List.{AllZip, list_all}
-use Rattle.std.proofs.lemmas.Bool.{and_parts, cases_eq, leb-true}
-use Rattle.std.proofs.lemmas.List.{length-map}
-use Rattle.signed_sum.specs.Lists.{numbers_from}
-use Rattle.linear_law.specs.Lists.{Among, Each, IsAscending}
-use Rattle.linear_law.proofs.Counting.{apart_short}
-use Rattle.linear_law.proofs.ListLemmas.{each_among, each_map, each_of_map, length_alike}
-use Rattle.linear_law.proofs.TriangularBases.{each_of_index}
-use Rattle.simplicial_law.specs.Simplices.{IsInOrder}
-use Rattle.simplicial_law.specs.Cochains.{Chain, Cochain}
-use Rattle.simplicial_law.specs.CanonicalClasses.{cochain_of}
-use Rattle.simplicial_law.specs.ListedSimplices.{simplices}
-use Rattle.simplicial_law.proofs.ListedSimplices.{simplices_whole}
-use Rattle.steenrod_law.specs.Operations.{pull_back}
-use Rattle.complex_file.specs.declared.block.ComplexBlock.{ComplexBlock}
-use Rattle.complex_file.specs.declared.block.MapBlock.{MapBlock}
-use Rattle.complex_file.specs.declared.block.Sent.{Sent}
-use Rattle.complex_file.specs.Complexes.{is_facet}
-use Rattle.complex_file.specs.Input.{Spelled}
-use Rattle.complex_file.specs.Maps.{image}
-use Rattle.complex_file.specs.Jobs.{facets_at}
-use Rattle.complex_file.specs.Text.{is_name}
+use Rattle.report.specs.declared.plan.Op.TheVariants.{Square}
 use Rattle.report.specs.declared.columns.CartanAnswer.{CartanAnswer}
 use Rattle.report.specs.declared.columns.CartanAnswer.TheVariants.{Yes, No}
 use Rattle.report.specs.declared.columns.CartanPart.{CartanPart}
@@ -36,18 +12,27 @@ use Rattle.report.specs.declared.map.MapPart.{MapPart}
 use Rattle.report.specs.declared.plan.Block.{Block}
 use Rattle.report.specs.declared.plan.Line.{Line as CartanLine}
 use Rattle.report.specs.declared.plan.Product.{Product}
-use Rattle.report_law.specs.Columns.{IsColumn, IsPrimitiveAt}
-use Rattle.report_law.specs.Live.{all_lines, blocks, class_numbers, degrees, has_class, is_defined, lines, lines_of_pair, products, block_on, cartan_op, target_degree, operations}
-use Rattle.report_law.specs.Matrices.{Classes, IsOperationColumn, classes_in, cochains_in, ranks}
-use Rattle.report_law.specs.Parts.{below_in, block_of, classes_of, line_of, number_pairs, numbers_of, product_of, ranks_of}
-use Rattle.report_law.specs.Reports.{AreTables, IsComplexPart, IsInducedPart, IsMapPart, IsMaximal, IsOperationPart, IsProductPart}
-use Rattle.report_law.proofs.Blocks.{rank-of}
-use Rattle.report_law.proofs.Lists.{in-numbers, of-numbers}
-use Rattle.report_law.proofs.Maps.{IsMapOf, job-maps}
+use Rattle.report.specs.declared.plan.Op.TheVariants.{Power, BocksteinPower}
+use Rattle.std.proofs.Common.{filter, ◌≡◌, ℕ, zero, suc, ◌+◌, ◌*◌, ◌<◌, ◌≤◌, ◌&&◌, true, inl, inr, refl, sym, ◌∙◌, ap, arith, List, [], ◌∷◌, ◌++◌, length, map, get_or, Bool, length-append, cond, ◌-◌, false, flat_map, leb-true}
+use Rattle.std.specs.List.{AllZip, list_all}
+use Rattle.std.proofs.lemmas.Bool.{and_parts, cases_eq}
+use Rattle.std.proofs.lemmas.List.{length-map}
+use Rattle.signed_sum.specs.Names.{numbers_from}
+use Rattle.linear_law.specs.Names.{Among, Each, IsAscending}
+use Rattle.linear_law.proofs.Names.{apart_short, each_among, each_map, each_of_map, length_alike, each_of_index}
+use Rattle.simplicial_law.specs.Names.{IsInOrder, Chain, Cochain, cochain_of}
+use Rattle.simplicial_law.specs.ListedSimplices.{simplices}
+use Rattle.simplicial_law.proofs.Names.{simplices_whole}
+use Rattle.steenrod_law.specs.Names.{pull_back}
+use Rattle.complex_file.specs.Names.{is_facet, Spelled, image, facets_at, is_name}
+use Rattle.complex_file.specs.declared.block.ComplexBlock.{ComplexBlock}
+use Rattle.complex_file.specs.declared.block.MapBlock.{MapBlock}
+use Rattle.complex_file.specs.declared.block.Sent.{Sent}
+use Rattle.report_law.specs.Names.{IsColumn, IsPrimitiveAt, all_lines, blocks, class_numbers, degrees, has_class, is_defined, lines, lines_of_pair, products, block_on, cartan_op, target_degree, operations, Classes, IsOperationColumn, classes_in, cochains_in, ranks, below_in, block_of, classes_of, line_of, number_pairs, numbers_of, product_of, ranks_of, AreTables, IsComplexPart, IsInducedPart, IsMapPart, IsMaximal, IsOperationPart, IsProductPart}
+use Rattle.report_law.proofs.Names.{rank-of, in-numbers, of-numbers, IsMapOf, job-maps}
+use Rattle.report_text_law.specs.Names.{complex_lines, degree_lines, degrees_from, columns_from, pair_lines, product_lines, operation_lines, answer_lines, cartan_lines, table_lines, send_of, induced_lines, map_lines, is_vertex}
 use Rattle.report_text_law.specs.declared.line.Line.TheVariants.{Below as below_line, Class as class_line, Facet as facet_line, Done as done_line, End as end_line}
-use Rattle.report_text_law.specs.Lines.{complex_lines, degree_lines, degrees_from, columns_from, pair_lines, product_lines, operation_lines, answer_lines, cartan_lines, table_lines, send_of, induced_lines, map_lines}
-use Rattle.report_text_law.specs.WellFormed.{is_vertex}
-use Rattle.certificate_law.specs.Laws.{FewLinesLaw}
+use Rattle.certificate_law.specs.Names.{FewLinesLaw}
 use Rattle.certificate_law.proofs.Building.{at_index}
 use Rattle.certificate_law.proofs.CanonicalData.{in_order_apart}
 use Rattle.certificate_law.proofs.CertifiedBases.{below_at, classes_at, no_degree}

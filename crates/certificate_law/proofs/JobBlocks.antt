@@ -1,23 +1,19 @@
 -- The blocks of the certificate of a job have no fault.
-use Rattle.std.proofs.Common.{◌≡◌, ℕ, ◌+◌, ◌-◌, ◌<◌, ◌≤◌, inl, inr, ◌&&◌, ◌==◌, nat_le, Bool, true, false, not, cond, refl, sym, ◌∙◌, ap, ap₂, subst, arith, List, [], ◌∷◌, ◌++◌, length, map, None, Some, append_assoc}
-use Rattle.std.specs.Prelude.{nat_lt}
+use Rattle.std.proofs.Common.{◌≡◌, ℕ, ◌+◌, ◌-◌, ◌<◌, ◌≤◌, inl, inr, ◌&&◌, ◌==◌, nat_le, Bool, true, false, not, cond, refl, sym, ◌∙◌, ap, ap₂, subst, arith, List, [], ◌∷◌, ◌++◌, length, map, None, Some, append_assoc, nat_lt, eqb-true, le-ltb, ltb-false}
 use Rattle.std.specs.List.{list_all, list_any}
 use Rattle.std.specs.Str.{bytes_eq}
-use Rattle.std.proofs.lemmas.Bool.{and_parts, eqb-true, false_from_ne_true, le-ltb, ltb-false}
-use Rattle.linear_law.specs.Lists.{Among, Each, IsAscending}
-use Rattle.linear_law.proofs.Counting.{apart_short}
-use Rattle.linear_law.proofs.ListLemmas.{among_left, among_right, each_unmap}
-use Rattle.linear_law.proofs.TriangularBases.{each_of_index}
-use Rattle.simplicial_law.specs.Simplices.{subsets}
+use Rattle.std.proofs.lemmas.Bool.{and_parts, false_from_ne_true}
+use Rattle.linear_law.specs.Names.{Among, Each, IsAscending}
+use Rattle.linear_law.proofs.Names.{apart_short, among_left, among_right, each_unmap, each_of_index}
+use Rattle.simplicial_law.specs.Names.{subsets}
 use Rattle.simplicial_law.specs.ListedSimplices.{simplices}
-use Rattle.simplicial_law.proofs.ListedSimplices.{all_put, of_all, simplices_sorted, simplices_sound, simplices_whole, sorted_in_order}
+use Rattle.simplicial_law.proofs.Names.{all_put, of_all, simplices_sorted, simplices_sound, simplices_whole, sorted_in_order}
+use Rattle.complex_file.specs.Names.{ascending, facet_fault, first_facet_fault, has_vertex, end_fault, first_send_fault, image, image_of_facet, is_sent, is_vertex, keeps_edge, keeps_order, keeps_simplices, send_fault, sends_each}
 use Rattle.complex_file.specs.declared.block.Sent.{Sent}
 use Rattle.complex_file.specs.declared.kind.InputKind.TheVariants.{FacetTooWide, ImageNotASimplex, NotOrderPreserving, TooManySimplices, VertexNotSent, VertexSentTwice, VertexUnknown}
-use Rattle.complex_file.specs.Complexes.{ascending, facet_fault, first_facet_fault, has_vertex}
-use Rattle.complex_file.specs.Maps.{end_fault, first_send_fault, image, image_of_facet, is_sent, is_vertex, keeps_edge, keeps_order, keeps_simplices, send_fault, sends_each}
 use Rattle.report.specs.declared.complex.ComplexPart.{ComplexPart}
-use Rattle.report_law.proofs.Maps.{all-among, any-among, no-earlier}
-use Rattle.certificate_law.specs.Stated.{behind, facet_stands, send_stands}
+use Rattle.report_law.proofs.Names.{all-among, any-among, no-earlier}
+use Rattle.certificate_law.specs.Names.{behind, facet_stands, send_stands}
 use Rattle.certificate_law.proofs.CanonicalData.{in_order_apart}
 use Rattle.certificate_law.proofs.CompleteComplexes.{IsRight}
 use Rattle.certificate_law.proofs.JobMaps.{among-any, any_from, any_gives, any_sent, eqb_same, sent_among}

@@ -1,41 +1,26 @@
 -- The certificate of a job certifies.
-use Rattle.std.proofs.Common.{◌≡◌, ℕ, zero, suc, ◌+◌, ◌-◌, ◌^◌, ◌<◌, ◌≤◌, ◌&&◌, nat_le, true, false, None, IsTrue, inl, inr, refl, sym, ◌∙◌, ap, ap₂, subst, arith, List, [], ◌∷◌, ◌++◌, length, map, get_or}
+use Rattle.std.proofs.Common.{◌≡◌, ℕ, zero, suc, ◌+◌, ◌-◌, ◌^◌, ◌<◌, ◌≤◌, ◌&&◌, nat_le, true, false, None, IsTrue, inl, inr, refl, sym, ◌∙◌, ap, ap₂, subst, arith, List, [], ◌∷◌, ◌++◌, length, map, get_or, leb-true, length-append, is_none}
 use Rattle.std.specs.List.{AllZip, list_all}
-use Rattle.std.proofs.lemmas.Bool.{and_parts, false_from_ne_true, leb-true}
-use Rattle.std.proofs.lemmas.List.{length-append, map-append}
-use Rattle.signed_sum.specs.Lists.{numbers_from}
+use Rattle.std.proofs.lemmas.Bool.{and_parts, false_from_ne_true}
+use Rattle.std.proofs.lemmas.List.{map-append}
+use Rattle.signed_sum.specs.Names.{numbers_from}
 use Rattle.fp_field.specs.Served.{served}
-use Rattle.linear_law.specs.Lists.{Among, Each, IsApart, IsAscending}
-use Rattle.linear_law.proofs.ListLemmas.{among_left, among_right, each_among, each_append, each_map, each_zip, zip_change, zip_each}
-use Rattle.linear_law.proofs.TriangularBases.{each_of_index}
-use Rattle.simplicial_law.specs.ListedSimplices.{of_degree, simplices}
-use Rattle.simplicial_law.proofs.ListedSimplices.{simplices_sorted, simplices_sound, simplices_whole, sorted_in_order}
+use Rattle.linear_law.specs.Names.{Among, Each, IsApart, IsAscending}
+use Rattle.linear_law.proofs.Names.{among_left, among_right, each_among, each_append, each_map, each_zip, zip_change, zip_each, each_of_index}
+use Rattle.simplicial_law.specs.Names.{of_degree}
+use Rattle.simplicial_law.specs.ListedSimplices.{simplices}
+use Rattle.simplicial_law.proofs.Names.{simplices_sorted, simplices_sound, simplices_whole, sorted_in_order}
+use Rattle.complex_file.specs.Names.{complex_fault, is_complex, is_facet, Spelled, are_distinct, block_names, facets_at, has_name, is_map, end_fault, image, is_vertex, is_name, name_at}
 use Rattle.complex_file.specs.declared.block.ComplexBlock.{ComplexBlock}
 use Rattle.complex_file.specs.declared.block.MapBlock.{MapBlock}
 use Rattle.complex_file.specs.declared.block.Sent.{Sent}
-use Rattle.complex_file.specs.Complexes.{complex_fault, is_complex, is_facet}
-use Rattle.complex_file.specs.Input.{Spelled}
-use Rattle.complex_file.specs.Jobs.{are_distinct, block_names, facets_at, has_name, is_job, is_map}
-use Rattle.complex_file.specs.Maps.{end_fault, image, is_vertex}
-use Rattle.complex_file.specs.Text.{is_name}
-use Rattle.complex_file.specs.Written.{name_at}
-use Rattle.std.specs.Prelude.{is_none}
+use Rattle.complex_file.specs.Jobs.{is_job}
 use Rattle.report.specs.declared.complex.ComplexPart.{ComplexPart}
 use Rattle.report.specs.declared.map.MapPart.{MapPart}
 use Rattle.report.specs.declared.plan.Sizes.{Sizes}
-use Rattle.report_law.specs.Live.{induced_degrees}
-use Rattle.report_law.specs.Matrices.{Classes, ranks}
-use Rattle.report_law.specs.Parts.{classes_of, part_at, ranks_of}
-use Rattle.report_law.specs.Reports.{IsComplexPart, IsInducedPart, IsMapPart, IsMaximal}
-use Rattle.report_law.specs.Terms.{AreSizes, passing_sum, sizes_of}
-use Rattle.report_law.proofs.HeadlineProof.{classes-at}
-use Rattle.report_law.proofs.Maps.{IsMapOf, any-among, job-complexes, job-maps, job-prime, no-end-fault, no-fault}
-use Rattle.report_law.proofs.OneSize.{sizes_law}
-use Rattle.report_law.proofs.Unique.{same-order}
-use Rattle.certificate_law.specs.Conditions.{complex_names, map_names}
-use Rattle.certificate_law.specs.Laws.{CompleteLaw}
-use Rattle.certificate_law.specs.Parts.{complex_named, itself, sent_by}
-use Rattle.certificate_law.specs.Stated.{behind, complex_stated, map_stated}
+use Rattle.report_law.specs.Names.{induced_degrees, Classes, ranks, classes_of, part_at, ranks_of, IsComplexPart, IsInducedPart, IsMapPart, IsMaximal, AreSizes, passing_sum, sizes_of}
+use Rattle.report_law.proofs.Names.{classes-at, IsMapOf, any-among, job-complexes, job-maps, job-prime, no-end-fault, no-fault, sizes_law, same-order}
+use Rattle.certificate_law.specs.Names.{complex_names, map_names, CompleteLaw, complex_named, itself, sent_by, behind, complex_stated, map_stated}
 use Rattle.certificate_law.proofs.CompleteComplexes.{IsRight, complex_right}
 use Rattle.certificate_law.proofs.CompleteReports.{all_right, map_right}
 use Rattle.certificate_law.proofs.JobBlocks.{FacetsFit, end_there, facet_lines, facets_fit, known_vertices, send_lines, vertex_there}

@@ -1,28 +1,22 @@
 -- The complexes of a job by their names, and the maps between them, as a certificate lists them.
-use Rattle.std.proofs.Common.{◌≡◌, ℕ, zero, suc, ◌+◌, ◌<◌, ◌⊎◌, inl, inr, ◌&&◌, ◌||◌, ◌==◌, Bool, true, false, not, cond, refl, sym, ◌∙◌, ap, ap₂, subst, arith, List, [], ◌∷◌, ◌++◌, length, map, None, Some}
-use Rattle.std.specs.Prelude.{if◌then◌else◌}
+use Rattle.std.proofs.Common.{◌≡◌, ℕ, zero, suc, ◌+◌, ◌<◌, ◌⊎◌, inl, inr, ◌&&◌, ◌||◌, ◌==◌, Bool, true, false, not, cond, refl, sym, ◌∙◌, ap, ap₂, subst, arith, List, [], ◌∷◌, ◌++◌, length, map, None, Some, if◌then◌else◌, eq-eqb, eqb-true, true≢false}
 use Rattle.std.specs.List.{AllZip, list_any}
 use Rattle.std.specs.Str.{bytes_eq}
-use Rattle.std.proofs.lemmas.Bool.{and_parts, cases_Bool, eq-eqb, eqb-true, false_from_ne_true, not-true, true≢false}
-use Rattle.linear_law.specs.Lists.{Among, IsApart}
-use Rattle.linear_law.proofs.ListLemmas.{among_left, among_right, each_among, zip_change}
-use Rattle.simplicial_law.specs.Cochains.{Cochain}
-use Rattle.steenrod_law.specs.Operations.{pull_back}
+use Rattle.std.proofs.lemmas.Bool.{and_parts, cases_Bool, false_from_ne_true, not-true}
+use Rattle.linear_law.specs.Names.{Among, IsApart}
+use Rattle.linear_law.proofs.Names.{among_left, among_right, each_among, zip_change}
+use Rattle.simplicial_law.specs.Names.{Cochain}
+use Rattle.steenrod_law.specs.Names.{pull_back}
+use Rattle.complex_file.specs.Names.{are_distinct, has_name, first_send_fault, image, is_sent, is_vertex, send_fault, name_at}
 use Rattle.complex_file.specs.declared.block.ComplexBlock.{ComplexBlock}
 use Rattle.complex_file.specs.declared.block.Sent.{Sent}
 use Rattle.complex_file.specs.declared.kind.InputKind.TheVariants.{VertexSentTwice, VertexUnknown}
-use Rattle.complex_file.specs.Jobs.{are_distinct, has_name}
-use Rattle.complex_file.specs.Maps.{first_send_fault, image, is_sent, is_vertex, send_fault}
-use Rattle.complex_file.specs.Written.{name_at}
 use Rattle.report.specs.declared.columns.Column.{Column}
 use Rattle.report.specs.declared.complex.ComplexPart.{ComplexPart}
 use Rattle.report.specs.declared.map.InducedPart.{InducedPart}
-use Rattle.report_law.specs.Columns.{IsColumn}
-use Rattle.report_law.specs.Matrices.{Classes, cochains_in}
-use Rattle.report_law.specs.Parts.{part_at}
-use Rattle.report_law.specs.Reports.{AreOrderedSends, IsComplexPart, IsInducedPart}
-use Rattle.report_law.proofs.Maps.{no-earlier, same-bytes}
-use Rattle.certificate_law.specs.Parts.{complex_named}
+use Rattle.report_law.specs.Names.{IsColumn, Classes, cochains_in, part_at, AreOrderedSends, IsComplexPart, IsInducedPart}
+use Rattle.report_law.proofs.Names.{no-earlier, same-bytes}
+use Rattle.certificate_law.specs.Names.{complex_named}
 use Rattle.certificate_law.proofs.SameSimplices.{SameSimplices, column_there}
 
 -- ---- names

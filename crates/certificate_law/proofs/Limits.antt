@@ -1,8 +1,6 @@
 -- Counted terms that are within a limit are within a greater one.
-use Rattle.std.proofs.Common.{◌≡◌, ℕ, ◌+◌, ◌≤◌, Bool, true, false, refl, ◌∙◌, ap, arith, List, [], ◌∷◌, Some, None}
-use Rattle.std.specs.Prelude.{nat_lt, if◌then◌else◌}
-use Rattle.std.proofs.lemmas.Bool.{le-ltb, ltb-false}
-use Rattle.report_law.specs.Terms.{first_past, printed_count}
+use Rattle.std.proofs.Common.{◌≡◌, ℕ, ◌+◌, ◌≤◌, Bool, true, false, refl, ◌∙◌, ap, arith, List, [], ◌∷◌, Some, None, nat_lt, if◌then◌else◌, le-ltb, ltb-false}
+use Rattle.report_law.specs.Names.{first_past, printed_count}
 
 pub more_allowed : (limit most sum : ℕ) (ns : List ℕ) → limit ≤ most → first_past limit sum ns ≡ None → first_past most sum ns ≡ None
 more_allowed limit most sum [] l h = refl

@@ -1,21 +1,13 @@
 -- Listed classes that pass the tests are a basis of cohomology.
-use Rattle.std.proofs.Common.{◌≡◌, ℕ, zero, suc, ◌+◌, ◌<◌, ◌≤◌, inl, inr, subst, refl, ap, sym, arith, List, [], ◌∷◌, ◌++◌, length, map}
+use Rattle.std.proofs.Common.{◌≡◌, ℕ, zero, suc, ◌+◌, ◌<◌, ◌≤◌, inl, inr, subst, refl, ap, sym, arith, List, [], ◌∷◌, ◌++◌, length, map, length-append}
 use Rattle.std.specs.List.{AllZip}
 use Rattle.std.proofs.lemmas.Bool.{cases_lt}
-use Rattle.std.proofs.lemmas.List.{length-append, length-map}
-use Rattle.linear_law.specs.Congruence.{IsField}
-use Rattle.linear_law.specs.Lists.{Among, Each, IsApart, IsAscending}
-use Rattle.linear_law.specs.Pivots.{IsPivot}
-use Rattle.linear_law.proofs.CongruenceLemmas.{Congruent_refl}
-use Rattle.linear_law.proofs.ListLemmas.{each_among, each_append, each_map, each_of_map, length_alike}
-use Rattle.simplicial_law.specs.Simplices.{IsSimplex, Precedes}
-use Rattle.simplicial_law.specs.Cochains.{Chain, Cochain, IsCoboundary, IsCocycle, IsCohomologyBasis, coboundary, unit_cochain}
-use Rattle.simplicial_law.specs.Canonical.{IsCoboundaryPivot, IsCocyclePivot}
-use Rattle.simplicial_law.specs.CanonicalClasses.{cochain_of}
-use Rattle.simplicial_law.proofs.Bases.{bounds_close}
-use Rattle.simplicial_law.proofs.DegreeZero.{no_bounds}
-use Rattle.simplicial_law.proofs.UnitCochains.{unit_away}
-use Rattle.certificate_law.specs.ListedDegrees.{HasNewLeast, IsCounted, IsLeastSimplex, IsOn, IsOnBelow, coboundaries_of, simplex_count}
+use Rattle.std.proofs.lemmas.List.{length-map}
+use Rattle.linear_law.specs.Names.{IsField, Among, Each, IsApart, IsAscending, IsPivot}
+use Rattle.linear_law.proofs.Names.{Congruent_refl, each_among, each_append, each_map, each_of_map, length_alike}
+use Rattle.simplicial_law.specs.Names.{IsSimplex, Precedes, Chain, Cochain, IsCoboundary, IsCocycle, IsCohomologyBasis, coboundary, unit_cochain, IsCoboundaryPivot, IsCocyclePivot, cochain_of}
+use Rattle.simplicial_law.proofs.Names.{bounds_close, no_bounds, unit_away}
+use Rattle.certificate_law.specs.Names.{HasNewLeast, IsCounted, IsLeastSimplex, IsOn, IsOnBelow, coboundaries_of, simplex_count}
 use Rattle.certificate_law.proofs.PivotCounts.{all_coboundary_pivots, all_cocycle_pivots}
 use Rattle.certificate_law.proofs.Places.{in_append}
 use Rattle.certificate_law.proofs.CohomologyBases.{complementary_basis, zip_among}

@@ -1,16 +1,12 @@
 -- The facets that lie in no other have the same simplices as all facets.
 use Rattle.std.proofs.Common.{◌≡◌, ℕ, zero, suc, ◌+◌, ◌<◌, ◌≤◌, ◌⊎◌, inl, inr, refl, sym, ap, ap₂, subst, arith, true, List, [], ◌∷◌, length}
 use Rattle.std.proofs.lemmas.Bool.{cases_eq, cases_lt}
-use Rattle.linear_law.specs.Congruence.{sum_over}
-use Rattle.linear_law.specs.Lists.{Among, Each, IsAscending}
-use Rattle.linear_law.proofs.Counting.{apart_all}
-use Rattle.linear_law.proofs.ListLemmas.{each_among, each_map}
-use Rattle.linear_law.proofs.TriangularBases.{each_of_index}
+use Rattle.linear_law.specs.Names.{sum_over, Among, Each, IsAscending}
+use Rattle.linear_law.proofs.Names.{apart_all, each_among, each_map, each_of_index}
 use Rattle.complex_file.specs.declared.block.ComplexBlock.{ComplexBlock}
 use Rattle.report.specs.declared.complex.ComplexPart.{ComplexPart}
-use Rattle.report_law.specs.Parts.{below_in, classes_of}
-use Rattle.report_law.specs.Reports.{AreMaximalFacets, IsComplexPart, IsMaximal, IsWithin}
-use Rattle.certificate_law.specs.Parts.{itself}
+use Rattle.report_law.specs.Names.{below_in, classes_of, AreMaximalFacets, IsComplexPart, IsMaximal, IsWithin}
+use Rattle.certificate_law.specs.Names.{itself}
 use Rattle.certificate_law.proofs.PivotCounts.{ascending_apart}
 use Rattle.certificate_law.proofs.SameSimplices.{SameSimplices, are_primitives, classes_there, tables_there}
 

@@ -2,28 +2,12 @@
 -- than the simplices of that degree.
 use Rattle.std.proofs.Common.{◌≡◌, ℕ, ◌+◌, ◌<◌, ◌≤◌, ◌≢◌, ◌⊎◌, inl, inr, ap, ◌∙◌, arith, List, [], ◌∷◌, length, map, get_or}
 use Rattle.std.proofs.lemmas.List.{length-map}
-use Rattle.linear_law.specs.Congruence.{IsField}
-use Rattle.linear_law.specs.Lists.{Among, Each, IsApart, IsAscending}
-use Rattle.linear_law.specs.Elimination.{ImageVector, IsImage, IsInKernel, KernelVector}
-use Rattle.linear_law.specs.Listing.{ListsAll}
-use Rattle.linear_law.specs.Triangular.{LeadsAt, image_place, kernel_place}
-use Rattle.linear_law.proofs.CongruenceLemmas.{Congruent_refl}
-use Rattle.linear_law.proofs.ListLemmas.{each_among, each_map, each_of_map, each_zip}
-use Rattle.linear_law.proofs.PivotLemmas.{same_or_not}
-use Rattle.linear_law.proofs.Counting.{apart_all, apart_short}
-use Rattle.linear_law.proofs.WalkedSpaces.{image_pivot, kernel_leads, lead_pivot}
-use Rattle.simplicial_law.specs.Simplices.{IsInOrder, IsSimplex, Precedes}
-use Rattle.simplicial_law.specs.Cochains.{IsCoboundary, IsCocycle, coboundary}
-use Rattle.simplicial_law.specs.Canonical.{IsCoboundaryPivot, IsCocyclePivot}
-use Rattle.simplicial_law.specs.Places.{IsCoboundaryByPlace, cochain_at}
-use Rattle.simplicial_law.specs.ListedSimplices.{of_degree, simplices}
-use Rattle.simplicial_law.proofs.ListedSimplices.{listed_simplices_law}
-use Rattle.simplicial_law.proofs.Order.{lists_compare, lists_strict}
-use Rattle.simplicial_law.proofs.SimplexPlaces.{pivot_down, pivot_up}
-use Rattle.simplicial_law.proofs.WalkedDegreeLemmas.{coboundary_down, coboundary_up, cocycle_down, cocycle_up, linear}
-use Rattle.certificate_law.specs.ListedDegrees.{simplex_count}
-use Rattle.linear_law.specs.Triangular.{CountedWalk}
-use Rattle.linear_law.proofs.Walks.{counted_walk}
+use Rattle.linear_law.specs.Names.{IsField, Among, Each, IsApart, IsAscending, ImageVector, IsImage, IsInKernel, KernelVector, ListsAll, LeadsAt, image_place, kernel_place, CountedWalk}
+use Rattle.linear_law.proofs.Names.{Congruent_refl, each_among, each_map, each_of_map, each_zip, same_or_not, apart_all, apart_short, image_pivot, kernel_leads, lead_pivot, counted_walk}
+use Rattle.simplicial_law.specs.Names.{IsInOrder, IsSimplex, Precedes, IsCoboundary, IsCocycle, coboundary, IsCoboundaryPivot, IsCocyclePivot, IsCoboundaryByPlace, cochain_at, of_degree}
+use Rattle.simplicial_law.specs.ListedSimplices.{simplices}
+use Rattle.simplicial_law.proofs.Names.{listed_simplices_law, lists_compare, lists_strict, pivot_down, pivot_up, coboundary_down, coboundary_up, cocycle_down, cocycle_up, linear}
+use Rattle.certificate_law.specs.Names.{simplex_count}
 
 among_through : {X Y Z : Type 0} (f : X → Y) (g : Y → Z) (y : Y) (z : Z) (xs : List X) → Among y (map f xs) → g y ≡ z → Among z (map (λ x. g (f x)) xs)
 among_through f g y z [] m e = elim m [ ]

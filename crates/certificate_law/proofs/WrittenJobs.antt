@@ -1,38 +1,27 @@
 -- The certificate of a job is well formed: so it is spelled, and read back.
-use Rattle.std.proofs.Common.{◌≡◌, ℕ, zero, suc, ◌+◌, ◌*◌, ◌^◌, not, ◌<◌, ◌≤◌, ◌==◌, ◌&&◌, nat_le, true, IsTrue, inl, inr, refl, sym, ◌∙◌, ap, subst, arith, List, [], ◌∷◌, ◌++◌, length, map, get_or}
-use Rattle.std.specs.Prelude.{flat_map, nat_lt, is_none}
+use Rattle.std.proofs.Common.{◌≡◌, ℕ, zero, suc, ◌+◌, ◌*◌, ◌^◌, not, ◌<◌, ◌≤◌, ◌==◌, ◌&&◌, nat_le, true, IsTrue, inl, inr, refl, sym, ◌∙◌, ap, subst, arith, List, [], ◌∷◌, ◌++◌, length, map, get_or, flat_map, nat_lt, is_none, leb-true, lt-ltb, ltb-false, ltb-true}
 use Rattle.std.specs.List.{AllZip, list_all}
 use Rattle.std.specs.Ordering.{is_lt}
-use Rattle.std.proofs.lemmas.Bool.{and_from, and_parts, cases_eq, cases_lt, leb-true, lt-ltb, ltb-false, ltb-true}
+use Rattle.std.proofs.lemmas.Bool.{and_from, and_parts, cases_eq, cases_lt}
 use Rattle.std.proofs.lemmas.List.{length-map}
 use Rattle.fp_field.specs.Served.{served}
-use Rattle.signed_sum.specs.Lists.{numbers_from}
-use Rattle.linear_law.specs.Lists.{Among, Each, IsAscending}
-use Rattle.linear_law.proofs.Counting.{apart_short}
-use Rattle.linear_law.proofs.ListLemmas.{among_map, each_among, each_append, each_get_or, each_map, each_of_map, length_alike}
-use Rattle.linear_law.proofs.TriangularBases.{each_of_index}
-use Rattle.simplicial_law.specs.Simplices.{IsInOrder, IsSimplex, Precedes}
-use Rattle.simplicial_law.specs.Cochains.{Chain, Cochain}
-use Rattle.simplicial_law.specs.Canonical.{IsCanonicalClass}
-use Rattle.simplicial_law.specs.CanonicalClasses.{AreCanonicalClasses, AreTerms, cochain_of}
-use Rattle.simplicial_law.specs.ListedSimplices.{simplex_cmp, simplices}
-use Rattle.simplicial_law.proofs.ListedSimplices.{simplices_whole}
-use Rattle.steenrod_law.specs.Operations.{pull_back}
+use Rattle.signed_sum.specs.Names.{numbers_from}
+use Rattle.linear_law.specs.Names.{Among, Each, IsAscending}
+use Rattle.linear_law.proofs.Names.{apart_short, among_map, each_among, each_append, each_get_or, each_map, each_of_map, length_alike, each_of_index}
+use Rattle.simplicial_law.specs.Names.{IsInOrder, IsSimplex, Precedes, Chain, Cochain, IsCanonicalClass, AreCanonicalClasses, AreTerms, cochain_of, simplex_cmp}
+use Rattle.simplicial_law.specs.ListedSimplices.{simplices}
+use Rattle.simplicial_law.proofs.Names.{simplices_whole}
+use Rattle.steenrod_law.specs.Names.{pull_back}
+use Rattle.complex_file.specs.Names.{complex_fault, is_ascending, is_complex, is_facet, Spelled, image, is_vertex as is_vertex_of, are_distinct, facets_at, block_names, is_map, is_name, is_not_empty, name_at}
 use Rattle.complex_file.specs.declared.block.ComplexBlock.{ComplexBlock}
 use Rattle.complex_file.specs.declared.block.MapBlock.{MapBlock}
 use Rattle.complex_file.specs.declared.block.Sent.{Sent}
-use Rattle.complex_file.specs.Complexes.{complex_fault, is_ascending, is_complex, is_facet}
-use Rattle.complex_file.specs.Input.{Spelled}
-use Rattle.complex_file.specs.Maps.{image, is_vertex as is_vertex_of}
-use Rattle.complex_file.specs.Jobs.{are_distinct, facets_at, block_names, is_job, is_map}
-use Rattle.complex_file.specs.Text.{is_name, is_not_empty}
-use Rattle.complex_file.specs.Written.{name_at}
+use Rattle.complex_file.specs.Jobs.{is_job}
 use Rattle.report.specs.declared.columns.CartanAnswer.{CartanAnswer}
 use Rattle.report.specs.declared.columns.CartanAnswer.TheVariants.{Yes, No}
 use Rattle.report.specs.declared.columns.CartanPart.{CartanPart}
 use Rattle.report.specs.declared.columns.Column.{Column}
 use Rattle.report.specs.declared.columns.OpWord.{OpWord}
-use Rattle.report.specs.declared.columns.OpWord.TheVariants as word
 use Rattle.report.specs.declared.columns.OperationPart.{OperationPart}
 use Rattle.report.specs.declared.columns.ProductPart.{ProductPart}
 use Rattle.report.specs.declared.complex.ComplexPart.{ComplexPart}
@@ -42,19 +31,14 @@ use Rattle.report.specs.declared.map.MapPart.{MapPart}
 use Rattle.report.specs.declared.plan.Block.{Block}
 use Rattle.report.specs.declared.plan.Line.{Line as CartanLine}
 use Rattle.report.specs.declared.plan.Product.{Product}
-use Rattle.report_law.specs.Columns.{IsAnswer, IsColumn, IsPrimitive, IsPrimitiveAt}
-use Rattle.report_law.specs.Live.{all_lines, blocks, class_numbers, degrees, has_class, is_defined, lines, lines_of_pair, products}
-use Rattle.report_law.specs.Matrices.{Classes, IsOperationColumn, classes_in, cochains_in, line_degree, ranks}
-use Rattle.report_law.specs.Parts.{below_in, block_of, classes_of, op_named, op_of, line_of, number_pairs, numbers_of, product_of, ranks_of, unnumbered}
-use Rattle.report_law.specs.Reports.{AreTables, IsCartanPart, IsComplexPart, IsInducedPart, IsMapPart, IsMaximal, IsOperationPart, IsProductPart}
-use Rattle.report_law.proofs.Blocks.{has-degree, of-blocks, rank-of}
-use Rattle.report_law.proofs.Lists.{get_or-past, of-filter, of-flat_map, of-map, of-numbers}
-use Rattle.report_law.proofs.Maps.{IsMapOf, all-among, ascends as ascending-list, complex-ascends, job-maps, no-fault}
+use Rattle.report.specs.declared.columns.OpWord.TheVariants as word
+use Rattle.report_law.specs.Names.{IsAnswer, IsColumn, IsPrimitive, IsPrimitiveAt, all_lines, blocks, class_numbers, degrees, has_class, is_defined, lines, lines_of_pair, products, Classes, IsOperationColumn, classes_in, cochains_in, line_degree, ranks, below_in, block_of, classes_of, op_named, op_of, line_of, number_pairs, numbers_of, product_of, ranks_of, unnumbered, AreTables, IsCartanPart, IsComplexPart, IsInducedPart, IsMapPart, IsMaximal, IsOperationPart, IsProductPart}
+use Rattle.report_law.proofs.Names.{has-degree, of-blocks, rank-of, get_or-past, of-filter, of-flat_map, of-map, of-numbers, IsMapOf, all-among, ascends as ascending-list, complex-ascends, job-maps, no-fault}
 use Rattle.report_text_law.specs.declared.line.Line.{Line}
+use Rattle.report_text_law.specs.Names.{certificate_lines, complex_lines, degree_lines, degrees_from, columns_from, pair_lines, product_lines, operation_lines, answer_lines, cartan_lines, table_lines, send_of, induced_lines, map_lines, are_values, ascends, is_chain, is_line, is_simplex, is_u32, is_term, is_unit, is_vertex, terms_ascend}
 use Rattle.report_text_law.specs.declared.line.Line.TheVariants.{Below as below_line, Class as class_line, Facet as facet_line, Done as done_line, End as end_line}
-use Rattle.report_text_law.specs.Lines.{certificate_lines, complex_lines, degree_lines, degrees_from, columns_from, pair_lines, product_lines, operation_lines, answer_lines, cartan_lines, table_lines, send_of, induced_lines, map_lines}
-use Rattle.report_text_law.specs.WellFormed.{are_values, ascends, is_chain, is_line, is_simplex, is_u32, is_term, is_unit, is_vertex, is_well_formed, terms_ascend}
-use Rattle.certificate_law.specs.Laws.{WellFormedLaw}
+use Rattle.report_text_law.specs.WellFormed.{is_well_formed}
+use Rattle.certificate_law.specs.Names.{WellFormedLaw}
 use Rattle.certificate_law.proofs.Building.{at_index}
 use Rattle.certificate_law.proofs.CanonicalData.{in_order_apart}
 use Rattle.certificate_law.proofs.CertifiedBases.{below_at, classes_at, no_degree}

@@ -1,15 +1,9 @@
 -- What the eight conditions ask of each line of a certificate.
 use Rattle.std.specs.Prelude.{◌≡◌, ℕ, ◌+◌, ◌^◌, ◌<◌, ◌≤◌, true, false, List, ◌++◌, map, length, slice_get, Some, None, zero, suc}
-use Rattle.linear_law.specs.Congruence.{Congruent}
-use Rattle.linear_law.specs.Lists.{Each}
-use Rattle.linear_law.specs.ReducedBases.{combination}
-use Rattle.simplicial_law.specs.Simplices.{IsSimplex}
-use Rattle.simplicial_law.specs.Cochains.{AgreesOnSimplices, Chain, Cochain, IsCocycle, coboundary, pairing}
-use Rattle.simplicial_law.specs.CanonicalClasses.{cochain_of}
-use Rattle.steenrod_law.specs.Operations.{cup_product, pull_back}
-use Rattle.complex_file.specs.Complexes.{facet_fault}
-use Rattle.complex_file.specs.Jobs.{has_name}
-use Rattle.complex_file.specs.Maps.{end_fault, send_fault}
+use Rattle.linear_law.specs.Names.{Congruent, Each, combination}
+use Rattle.simplicial_law.specs.Names.{IsSimplex, AgreesOnSimplices, Chain, Cochain, IsCocycle, coboundary, pairing, cochain_of}
+use Rattle.steenrod_law.specs.Names.{cup_product, pull_back}
+use Rattle.complex_file.specs.Names.{facet_fault, has_name, end_fault, send_fault}
 use Rattle.report.specs.declared.columns.CartanAnswer.{CartanAnswer}
 use Rattle.report.specs.declared.columns.CartanAnswer.TheVariants.{Yes, No}
 use Rattle.report.specs.declared.columns.CartanPart.{CartanPart}
@@ -20,12 +14,7 @@ use Rattle.report.specs.declared.columns.ProductPart.{ProductPart}
 use Rattle.report.specs.declared.complex.ComplexPart.{ComplexPart}
 use Rattle.report.specs.declared.map.InducedPart.{InducedPart}
 use Rattle.report.specs.declared.map.MapPart.{MapPart}
-use Rattle.report_law.specs.Differences.{IsOperation}
-use Rattle.report_law.specs.Headline.{boundary_coefficient, listed}
-use Rattle.report_law.specs.Live.{blocks, induced_degrees, lines, products}
-use Rattle.report_law.specs.Matrices.{IsLineDifference, class_at, line_degree}
-use Rattle.report_law.specs.Parts.{below_in, block_of, classes_of, line_of, number_pairs, numbers_of, op_of, product_of, ranks_of}
-use Rattle.report_law.specs.Terms.{passing_sum, sizes_of}
+use Rattle.report_law.specs.Names.{IsOperation, boundary_coefficient, listed, blocks, induced_degrees, lines, products, IsLineDifference, class_at, line_degree, below_in, block_of, classes_of, line_of, number_pairs, numbers_of, op_of, product_of, ranks_of, passing_sum, sizes_of}
 use Rattle.certificate_law.specs.ListedDegrees.{HasNewLeast, IsCounted, IsOn, IsOnBelow, coboundaries_of, simplex_count}
 use Rattle.certificate_law.specs.Parts.{rank_in, sent_by}
 use Rattle.certificate_law.specs.Stated.{Stated, complex_opens, facet_stands, degree_opens, below_stands, class_stands, product_opens, product_column, operation_opens, operation_column, cartan_stands, complex_ends, map_opens, send_stands, induced_opens, induced_column, map_ends, finish}

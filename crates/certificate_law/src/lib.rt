@@ -1,8 +1,7 @@
 //! When a report certifies, and what it shows then: definitions and laws.
 #![tactic(auto)]
 
-ghost use Rattle.certificate_law.specs.Laws.{CertifiedLaw, CompleteLaw, FewLinesLaw, FirstFailureLaw, StatedLinesLaw, WellFormedLaw};
-ghost use Rattle.certificate_law.specs.Sections.{SectionLaw};
+ghost use Rattle.certificate_law.specs.Names.{CertifiedLaw, CompleteLaw, FewLinesLaw, FirstFailureLaw, StatedLinesLaw, WellFormedLaw, SectionLaw};
 
 /// A report that certifies does not fail, and no report fails first at two lines or at two conditions.
 pub fn first_failure_law()

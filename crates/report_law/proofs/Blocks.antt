@@ -1,19 +1,17 @@
 -- What the listed blocks are, and the matrices of those that are not listed.
-use Rattle.std.proofs.Common.{◌≡◌, ℕ, zero, suc, ◌+◌, ◌*◌, ◌<◌, ◌≤◌, ◌⊎◌, inl, inr, ◌&&◌, ◌==◌, Bool, true, false, not, cond, List, [], ◌∷◌, map, length, get_or, arith, refl, sym, ap, subst, ◌∙◌}
-use Rattle.std.specs.Prelude.{flat_map, nat_le, nat_lt}
-use Rattle.std.proofs.lemmas.Bool.{and_from, and_parts, eqb-true, leb-true, ltb-true, lt-ltb, cases_Bool, cases_lt}
-use Rattle.signed_sum.specs.Lists.{numbers_from}
-use Rattle.linear_law.specs.Lists.{Among}
-use Rattle.linear_law.proofs.ListLemmas.{among_map}
-use Rattle.simplicial_law.specs.Cochains.{Chain}
+use Rattle.std.proofs.Common.{◌≡◌, ℕ, zero, suc, ◌+◌, ◌*◌, ◌<◌, ◌≤◌, ◌⊎◌, inl, inr, ◌&&◌, ◌==◌, Bool, true, false, not, cond, List, [], ◌∷◌, map, length, get_or, arith, refl, sym, ap, subst, ◌∙◌, flat_map, nat_le, nat_lt, eqb-true, leb-true, ltb-true, lt-ltb}
+use Rattle.std.proofs.lemmas.Bool.{and_from, and_parts, cases_Bool, cases_lt}
+use Rattle.signed_sum.specs.Names.{numbers_from}
+use Rattle.linear_law.specs.Names.{Among}
+use Rattle.linear_law.proofs.Names.{among_map}
+use Rattle.simplicial_law.specs.Names.{Chain}
 use Rattle.report.specs.declared.columns.OperationPart.{OperationPart}
 use Rattle.report.specs.declared.map.InducedPart.{InducedPart}
 use Rattle.report.specs.declared.plan.Block.{Block}
 use Rattle.report.specs.declared.plan.Op.{Op}
-use Rattle.report.specs.declared.plan.Op.TheVariants.{Square, Power, BocksteinPower}
-use Rattle.report_law.specs.Live.{block_on, blocks, degrees, has_class, induced_degrees, is_defined, operations, target_degree}
-use Rattle.report_law.specs.Matrices.{Classes, classes_in, ranks}
-use Rattle.report_law.specs.Parts.{block_of, induced_matrix_among, is_same_op, matrix_of, op_of, operation_matrix_among}
+use Rattle.report.specs.declared.plan.Op.TheVariants.{Square}
+use Rattle.report.specs.declared.plan.Op.TheVariants.{Power, BocksteinPower}
+use Rattle.report_law.specs.Names.{block_on, blocks, degrees, has_class, induced_degrees, is_defined, operations, target_degree, Classes, classes_in, ranks, block_of, induced_matrix_among, is_same_op, matrix_of, op_of, operation_matrix_among}
 use Rattle.report_law.proofs.Lists.{get_or-past, in-filter, in-flat_map, in-numbers, of-filter, of-flat_map, of-map}
 
 -- ---- live blocks

@@ -1,26 +1,10 @@
 -- The coboundaries of one degree have reduced rows, in every complex.
 use Rattle.std.proofs.Common.{◌≡◌, ℕ, zero, suc, ◌+◌, ◌<◌, inl, inr, List, [], ◌∷◌, map, length, get_or, arith, sym, ap, subst, ◌∙◌}
-use Rattle.linear_law.specs.Congruence.{Congruent, IsField}
-use Rattle.linear_law.specs.Elimination.{IsImage, IsLinear}
-use Rattle.linear_law.specs.Listing.{ListsAll}
-use Rattle.linear_law.specs.Lists.{Among, Each, IsAscending}
-use Rattle.linear_law.specs.ReducedBases.{IsReduced, IsReducedBasis}
-use Rattle.linear_law.specs.Triangular.{CountedWalk, HasReducedBasis, PlacedVector, image_place, place_of}
-use Rattle.linear_law.proofs.CongruenceLemmas.{Congruent_refl}
-use Rattle.linear_law.proofs.ListLemmas.{each_of_map, each_zip}
-use Rattle.linear_law.proofs.UnitSums.{unit_sum-spans}
-use Rattle.linear_law.proofs.WalkedSpaces.{image_basis, image_pivot}
-use Rattle.linear_law.proofs.Walks.{counted_walk}
-use Rattle.simplicial_law.specs.Simplices.{IsInOrder, IsSimplex}
-use Rattle.simplicial_law.specs.Cochains.{Cochain, IsCoboundary, coboundary, unit_cochain}
-use Rattle.simplicial_law.specs.Canonical.{IsCoboundaryPivot}
-use Rattle.simplicial_law.specs.ListedSimplices.{of_degree, simplices}
-use Rattle.simplicial_law.specs.Places.{IsCoboundaryByPlace, cochain_at}
-use Rattle.simplicial_law.proofs.DegreeZero.{no_bounds}
-use Rattle.simplicial_law.proofs.ListedSimplices.{listed_simplices_law}
-use Rattle.simplicial_law.proofs.SimplexPlaces.{lead_up, pivot_down}
-use Rattle.simplicial_law.proofs.UnitCochains.{unit_away, unit_here}
-use Rattle.simplicial_law.proofs.WalkedDegreeLemmas.{coboundary_down, coboundary_up, linear}
+use Rattle.linear_law.specs.Names.{Congruent, IsField, IsImage, IsLinear, ListsAll, Among, Each, IsAscending, IsReduced, IsReducedBasis, CountedWalk, HasReducedBasis, PlacedVector, image_place, place_of}
+use Rattle.linear_law.proofs.Names.{Congruent_refl, each_of_map, each_zip, unit_sum-spans, image_basis, image_pivot, counted_walk}
+use Rattle.simplicial_law.specs.Names.{IsInOrder, IsSimplex, Cochain, IsCoboundary, coboundary, unit_cochain, IsCoboundaryPivot, of_degree, IsCoboundaryByPlace, cochain_at}
+use Rattle.simplicial_law.specs.ListedSimplices.{simplices}
+use Rattle.simplicial_law.proofs.Names.{no_bounds, listed_simplices_law, lead_up, pivot_down, unit_away, unit_here, coboundary_down, coboundary_up, linear}
 
 -- a simplex and a cochain
 abbrev pub Row : Type 0

@@ -2,27 +2,12 @@
 use Rattle.std.proofs.Common.{◌≡◌, ℕ, suc, ◌+◌, ◌*◌, ◌-◌, ◌<◌, ◌⊎◌, inl, inr, List, [], ◌∷◌, map, length, get_or, arith, refl, sym, ap, subst, ◌∙◌}
 use Rattle.std.specs.List.{AllZip}
 use Rattle.std.proofs.lemmas.List.{length-map}
-use Rattle.linear_law.specs.Congruence.{Congruent, IsField, negated}
-use Rattle.linear_law.specs.Lists.{Among, Each, IsAscending}
-use Rattle.linear_law.specs.Listing.{ListsAll}
-use Rattle.linear_law.specs.Pivots.{IsCanonical, IsPivot}
-use Rattle.linear_law.specs.ReducedBases.{IsReduced, IsSubspace, combination, expansion}
-use Rattle.linear_law.proofs.CongruenceLemmas.{Congruent_add, Congruent_from, Congruent_of, Congruent_scale, Congruent_sym, Congruent_trans, add-negated}
-use Rattle.linear_law.proofs.LeadLemmas.{zero_if}
-use Rattle.linear_law.proofs.ListLemmas.{each_among, each_map, each_of_map, each_unmap, each_zip}
-use Rattle.linear_law.proofs.PivotLemmas.{same_or_not}
-use Rattle.linear_law.proofs.ReducedLemmas.{coefficients, coefficients_count, coefficients_small, combination_expanded, combination_in, combination_vanishes, expanded_in, same_coefficients, sum_picks}
-use Rattle.simplicial_law.specs.Simplices.{IsInOrder, IsSimplex, Precedes}
-use Rattle.simplicial_law.specs.Cochains.{AgreesOnSimplices, Chain, Cochain, HasCoordinates, IsCoboundary, IsCocycle, IsCohomologyBasis}
-use Rattle.simplicial_law.specs.Canonical.{IsCanonicalClass, IsCanonicalCoboundary, IsCoboundaryPivot, IsCocyclePivot}
-use Rattle.simplicial_law.specs.CanonicalClasses.{AreCanonicalBases, AreCanonicalClasses, IsCanonicalBasis, cochain_of}
-use Rattle.simplicial_law.specs.Places.{cochain_at}
-use Rattle.simplicial_law.specs.ListedSimplices.{of_degree, simplices}
-use Rattle.simplicial_law.proofs.Bases.{bounds_close, coboundaries, cocycles}
-use Rattle.simplicial_law.proofs.ListedSimplices.{listed_simplices_law}
-use Rattle.simplicial_law.proofs.Order.{lists_compare, lists_strict}
-use Rattle.simplicial_law.proofs.SimplexPlaces.{agree_by_place, cochain_at-value, lead_up}
-use Rattle.report_law.specs.Matrices.{AreClasses, Classes}
+use Rattle.linear_law.specs.Names.{Congruent, IsField, negated, Among, Each, IsAscending, ListsAll, IsCanonical, IsPivot, IsReduced, IsSubspace, combination, expansion}
+use Rattle.linear_law.proofs.Names.{Congruent_add, Congruent_from, Congruent_of, Congruent_scale, Congruent_sym, Congruent_trans, add-negated, zero_if, each_among, each_map, each_of_map, each_unmap, each_zip, same_or_not, coefficients, coefficients_count, coefficients_small, combination_expanded, combination_in, combination_vanishes, expanded_in, same_coefficients, sum_picks}
+use Rattle.simplicial_law.specs.Names.{IsInOrder, IsSimplex, Precedes, AgreesOnSimplices, Chain, Cochain, HasCoordinates, IsCoboundary, IsCocycle, IsCohomologyBasis, IsCanonicalClass, IsCanonicalCoboundary, IsCoboundaryPivot, IsCocyclePivot, AreCanonicalBases, AreCanonicalClasses, IsCanonicalBasis, cochain_of, cochain_at, of_degree}
+use Rattle.simplicial_law.specs.ListedSimplices.{simplices}
+use Rattle.simplicial_law.proofs.Names.{bounds_close, coboundaries, cocycles, listed_simplices_law, lists_compare, lists_strict, agree_by_place, cochain_at-value, lead_up}
+use Rattle.report_law.specs.Names.{AreClasses, Classes}
 use Rattle.report_law.proofs.BoundRows.{BoundRows, Row, bound-rows, lead, value}
 
 -- ---- lists

@@ -1,21 +1,16 @@
 -- The bases of a listed complex, and what its matrices carry.
-use Rattle.std.proofs.Common.{◌≡◌, Bool, ℕ, ◌+◌, inl, inr, true, List, [], ◌∷◌, map, length, arith, refl, sym, ap, subst, ◌∙◌}
-use Rattle.std.specs.Prelude.{IsTrue}
+use Rattle.std.proofs.Common.{◌≡◌, Bool, ℕ, ◌+◌, inl, inr, true, List, [], ◌∷◌, map, length, arith, refl, sym, ap, subst, ◌∙◌, IsTrue}
 use Rattle.std.specs.List.{AllZip}
 use Rattle.std.proofs.lemmas.List.{length-map}
 use Rattle.fp_field.specs.Served.{served}
 use Rattle.fp_field.proofs.ServedLemmas.{served_field}
-use Rattle.linear_law.specs.Congruence.{IsField}
-use Rattle.linear_law.specs.Lists.{Among, Each}
-use Rattle.linear_law.proofs.CongruenceLemmas.{Congruent_refl}
-use Rattle.linear_law.proofs.ListLemmas.{among_map, each_among}
-use Rattle.simplicial_law.specs.Cochains.{Chain, Cochain, HasCoordinates, IsCocycle, IsCohomologyBasis}
-use Rattle.simplicial_law.specs.CanonicalClasses.{cochain_of}
+use Rattle.linear_law.specs.Names.{IsField, Among, Each, matrix_times}
+use Rattle.linear_law.proofs.Names.{Congruent_refl, among_map, each_among}
+use Rattle.simplicial_law.specs.Names.{Chain, Cochain, HasCoordinates, IsCocycle, IsCohomologyBasis, cochain_of}
 use Rattle.steenrod_law.proofs.ClassLaws.{matrix-law, product-closed, product-matrix}
-use Rattle.steenrod_law.proofs.OrbitTables.{orbit_tables}
-use Rattle.linear_law.specs.Matrices.{matrix_times}
-use Rattle.steenrod_law.specs.Operations.{cochain_products, scaled_operation}
-use Rattle.steenrod_law.specs.Words.{copies}
+use Rattle.fp_field.specs.Orbits.{orbit_words}
+use Rattle.steenrod_law.proofs.OrbitTables.{orbit_words_law}
+use Rattle.steenrod_law.specs.Names.{cochain_products, scaled_operation, copies}
 use Rattle.report.specs.declared.columns.Column.{Column}
 use Rattle.report.specs.declared.columns.OperationPart.{OperationPart}
 use Rattle.report.specs.declared.columns.PairColumn.{PairColumn}
@@ -23,13 +18,7 @@ use Rattle.report.specs.declared.columns.ProductPart.{ProductPart}
 use Rattle.report.specs.declared.complex.ComplexPart.{ComplexPart}
 use Rattle.report.specs.declared.plan.Block.{Block}
 use Rattle.report.specs.declared.plan.Op.{Op}
-use Rattle.report_law.specs.Columns.{IsColumn}
-use Rattle.report_law.specs.Differences.{IsOperation}
-use Rattle.report_law.specs.Headline.{BasesPromise, listed, OperationPromise, ProductPromise}
-use Rattle.report_law.specs.Live.{block_on, blocks, element_degree, is_defined, target_degree}
-use Rattle.report_law.specs.Matrices.{IsOperationColumn, classes_in, ranks}
-use Rattle.report_law.specs.Parts.{block_of, classes_of, matrix_of, op_of, operation_matrix, unnumbered}
-use Rattle.report_law.specs.Reports.{IsOperationPart, IsProductPart}
+use Rattle.report_law.specs.Names.{IsColumn, IsOperation, BasesPromise, listed, OperationPromise, ProductPromise, block_on, blocks, element_degree, is_defined, target_degree, IsOperationColumn, classes_in, ranks, block_of, classes_of, matrix_of, op_of, operation_matrix, unnumbered, IsOperationPart, IsProductPart}
 use Rattle.report_law.proofs.Blocks.{in-blocks, matrix-found, of-blocks, rank-or-none}
 use Rattle.report_law.proofs.Coordinates.{AreBases, agrees-sym, coordinates-alike, no-coordinates}
 use Rattle.report_law.proofs.Lists.{each-of}
@@ -135,10 +124,9 @@ module _ (facets : List (List ℕ)) (p : ℕ) (is_served : IsTrue (served p)) (c
         let live = live-block o m in
         let constant = scaled p (op_of o) q is_served live.0 in
         let n : ℕ = target_degree p q (op_of o) in
-        let ms = orbit_tables.all_served p is_served in
         let same = constant.there facets z b is in
         let columns = listed-columns (op_of o) q constant detailed o refl refl live.1 (each_among (IsOperationPart detailed facets p (classes_of c)) o c.operations each m) in
-        let carried = matrix-law p field facets (element_degree p q (op_of o)) constant.scale q n ms.0 (listed c q) (listed c n) (matrix_of o.columns) ms.1 (any_basis q).cocycles columns z cs coordinates in
+        let carried = matrix-law p field facets (element_degree p q (op_of o)) constant.scale q n (orbit_words p) (listed c q) (listed c n) (matrix_of o.columns) (orbit_words_law p is_served) (any_basis q).cocycles columns z cs coordinates in
         subst (λ (t : ℕ). IsCocycle facets t p b × HasCoordinates facets t p (listed c t) b (matrix_times p (length (listed c t)) (matrix_of o.columns) cs)) (sym live.1) (
           scaled-closed facets p (element_degree p q (op_of o)) constant.scale q n z b field closed same,
           coordinates-alike facets n p field.large (listed c n) b (made (op_of o) q constant z) (matrix_times p (length (listed c n)) (matrix_of o.columns) cs) same carried,

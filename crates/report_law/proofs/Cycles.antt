@@ -3,24 +3,12 @@ use Rattle.std.proofs.Common.{◌≡◌, ◌≢◌, ℕ, zero, suc, ◌+◌, ◌
 use Rattle.std.specs.List.{AllZip}
 use Rattle.std.proofs.lemmas.List.{length-map}
 use native.Mathlib.Nat.{zero-mod}
-use Rattle.linear_law.specs.Congruence.{Congruent, IsField, negated, sum_over}
-use Rattle.linear_law.specs.Lists.{Among, Each, IsAscending}
-use Rattle.linear_law.specs.ReducedBases.{IsReduced, combination, expansion}
-use Rattle.linear_law.proofs.CongruenceLemmas.{Congruent_add, Congruent_from, Congruent_mul, Congruent_of, Congruent_refl, Congruent_scale, Congruent_sym, Congruent_trans, add-negated}
-use Rattle.linear_law.proofs.ListLemmas.{each_among, each_get_or, each_itself, each_map, each_of_map}
-use Rattle.linear_law.proofs.PivotLemmas.{one-nonzero, same_or_not}
-use Rattle.linear_law.proofs.ReducedLemmas.{combination_vanishes}
-use Rattle.linear_law.proofs.SumLemmas.{sum_map}
-use Rattle.simplicial_law.specs.Simplices.{IsInOrder, IsSimplex, Precedes}
-use Rattle.simplicial_law.specs.Cochains.{AgreesOnSimplices, Chain, Cochain, HasCoordinates, IsCoboundary, coboundary, pairing, unit_cochain}
-use Rattle.simplicial_law.specs.Canonical.{IsCanonicalClass, IsCanonicalCoboundary, IsCoboundaryPivot, canonical_cycle}
-use Rattle.simplicial_law.specs.CanonicalClasses.{AreCanonicalClasses, cochain_of}
-use Rattle.simplicial_law.specs.ListedSimplices.{of_degree, simplices}
-use Rattle.simplicial_law.proofs.ListedSimplices.{listed_simplices_law}
-use Rattle.simplicial_law.proofs.Order.{lists_compare, lists_strict}
-use Rattle.simplicial_law.proofs.UnitCochains.{unit_away, unit_here}
-use Rattle.report_law.specs.Columns.{IsCycleAt}
-use Rattle.report_law.specs.Headline.{IsCycle}
+use Rattle.linear_law.specs.Names.{Congruent, IsField, negated, sum_over, Among, Each, IsAscending, IsReduced, combination, expansion}
+use Rattle.linear_law.proofs.Names.{Congruent_add, Congruent_from, Congruent_mul, Congruent_of, Congruent_refl, Congruent_scale, Congruent_sym, Congruent_trans, add-negated, each_among, each_get_or, each_itself, each_map, each_of_map, one-nonzero, same_or_not, combination_vanishes, sum_map}
+use Rattle.simplicial_law.specs.Names.{IsInOrder, IsSimplex, Precedes, AgreesOnSimplices, Chain, Cochain, HasCoordinates, IsCoboundary, coboundary, pairing, unit_cochain, IsCanonicalClass, IsCanonicalCoboundary, IsCoboundaryPivot, canonical_cycle, AreCanonicalClasses, cochain_of, of_degree}
+use Rattle.simplicial_law.specs.ListedSimplices.{simplices}
+use Rattle.simplicial_law.proofs.Names.{listed_simplices_law, lists_compare, lists_strict, unit_away, unit_here}
+use Rattle.report_law.specs.Names.{IsCycleAt, IsCycle}
 use Rattle.report_law.proofs.BoundRows.{BoundRows, Row, lead, value}
 use Rattle.report_law.proofs.CanonicalData.{are_classes, before_rest, bound_expanded, canonical-bounds, class_reduced, class_rows, class_values, classes_zero, rest_in_order, rows}
 

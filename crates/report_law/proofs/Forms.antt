@@ -1,17 +1,15 @@
 -- The report of a certificate is that of each form.
 use Rattle.std.proofs.Common.{ℕ, true, List, [], ◌∷◌, refl}
 use Rattle.std.specs.List.{AllZip}
-use Rattle.linear_law.proofs.ListLemmas.{each_map}
-use Rattle.simplicial_law.specs.Cochains.{Chain, Cochain}
+use Rattle.linear_law.proofs.Names.{each_map}
+use Rattle.simplicial_law.specs.Names.{Chain, Cochain}
 use Rattle.complex_file.specs.declared.block.ComplexBlock.{ComplexBlock}
+use Rattle.report.specs.Names.{has_details, has_tables}
 use Rattle.report.specs.declared.columns.CartanAnswer.{CartanAnswer}
 use Rattle.report.specs.declared.columns.CartanAnswer.TheVariants.{Yes, No}
 use Rattle.report.specs.declared.complex.ComplexPart.{ComplexPart}
 use Rattle.report.specs.declared.form.Form.{Form}
-use Rattle.report.specs.Forms.{has_details, has_tables}
-use Rattle.report_law.specs.Columns.{IsAnswer, IsColumn}
-use Rattle.report_law.specs.Laws.{FormsLaw}
-use Rattle.report_law.specs.Reports.{IsComplexPart}
+use Rattle.report_law.specs.Names.{IsAnswer, IsColumn, FormsLaw, IsComplexPart}
 
 zip-map : {X Y : Type 0} (R S : X → Y → Type 0) → ((x : X) (y : Y) → R x y → S x y) → (xs : List X) (ys : List Y) → AllZip R xs ys → AllZip S xs ys
 zip-map R S f [] [] h = tt

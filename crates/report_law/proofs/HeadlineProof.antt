@@ -1,26 +1,18 @@
 -- The headline holds of the report of each job.
-use Rattle.std.proofs.Common.{◌≡◌, ℕ, zero, suc, ◌<◌, List, [], ◌∷◌, map, length, get_or, arith, refl, subst}
-use Rattle.std.specs.Prelude.{IsTrue}
+use Rattle.std.proofs.Common.{◌≡◌, ℕ, zero, suc, ◌<◌, List, [], ◌∷◌, map, length, get_or, arith, refl, subst, IsTrue}
 use Rattle.std.specs.List.{AllZip}
 use Rattle.fp_field.specs.Served.{served}
 use Rattle.fp_field.proofs.ServedLemmas.{served_field}
-use Rattle.linear_law.specs.Lists.{Each, IsAscending}
-use Rattle.linear_law.proofs.ListLemmas.{each_get_or, each_map}
+use Rattle.linear_law.specs.Names.{Each, IsAscending}
+use Rattle.linear_law.proofs.Names.{each_get_or, each_map}
+use Rattle.complex_file.specs.Names.{Spelled, facets_at, image}
 use Rattle.complex_file.specs.declared.block.ComplexBlock.{ComplexBlock}
 use Rattle.complex_file.specs.declared.block.MapBlock.{MapBlock}
-use Rattle.complex_file.specs.Input.{Spelled}
-use Rattle.complex_file.specs.Jobs.{facets_at}
-use Rattle.complex_file.specs.Maps.{image}
+use Rattle.report.specs.Names.{has_details, has_tables}
 use Rattle.report.specs.declared.complex.ComplexPart.{ComplexPart}
 use Rattle.report.specs.declared.form.Form.{Form}
 use Rattle.report.specs.declared.map.MapPart.{MapPart}
-use Rattle.report.specs.Forms.{has_details, has_tables}
-use Rattle.report_law.specs.Headline.{ComplexPromise, MapPromise}
-use Rattle.report_law.specs.Laws.{HeadlineLaw}
-use Rattle.report_law.specs.Live.{induced_degrees}
-use Rattle.report_law.specs.Matrices.{AreClasses, Classes, ranks}
-use Rattle.report_law.specs.Parts.{classes_of, part_at}
-use Rattle.report_law.specs.Reports.{IsComplexPart, IsInducedPart, IsMapPart}
+use Rattle.report_law.specs.Names.{ComplexPromise, MapPromise, HeadlineLaw, induced_degrees, AreClasses, Classes, ranks, classes_of, part_at, IsComplexPart, IsInducedPart, IsMapPart}
 use Rattle.report_law.proofs.CanonicalData.{bases-of}
 use Rattle.report_law.proofs.Carrying.{bases_promise, operation_promises, product_promise}
 use Rattle.report_law.proofs.Coordinates.{AreBases, canonical-are}

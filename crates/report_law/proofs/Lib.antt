@@ -18,3 +18,4 @@ pub mod OneReport
 pub mod Forms
 pub mod OneSize
 pub mod PointReport
+pub mod Names

@@ -1,27 +1,19 @@
 -- Induced matrices, listed or not, and how they go with the matrices of operations.
-use Rattle.std.proofs.Common.{◌≡◌, Bool, ℕ, inl, inr, List, [], ◌∷◌, map, length, sym, subst}
-use Rattle.std.specs.Prelude.{IsTrue}
+use Rattle.std.proofs.Common.{◌≡◌, Bool, ℕ, inl, inr, List, [], ◌∷◌, map, length, sym, subst, IsTrue}
 use Rattle.std.specs.List.{AllZip}
 use Rattle.fp_field.specs.Served.{served}
 use Rattle.fp_field.proofs.ServedLemmas.{served_field}
-use Rattle.linear_law.specs.Congruence.{IsField}
-use Rattle.linear_law.specs.Lists.{Among, Each}
-use Rattle.linear_law.proofs.ListLemmas.{each_among}
-use Rattle.simplicial_law.specs.Cochains.{Chain, Cochain, HasCoordinates, IsCocycle, IsCohomologyBasis}
-use Rattle.simplicial_law.specs.CanonicalClasses.{cochain_of}
+use Rattle.linear_law.specs.Names.{IsField, Among, Each}
+use Rattle.linear_law.proofs.Names.{each_among}
+use Rattle.simplicial_law.specs.Names.{Chain, Cochain, HasCoordinates, IsCocycle, IsCohomologyBasis, cochain_of}
 use Rattle.steenrod_law.proofs.InducedMaps.{matrices-commute, pull_back-cocycle, pull_back-matrix}
-use Rattle.steenrod_law.proofs.OrbitTables.{orbit_tables}
-use Rattle.steenrod_law.specs.Operations.{IsSimplicial, pull_back}
-use Rattle.steenrod_law.specs.Words.{copies}
+use Rattle.fp_field.specs.Orbits.{orbit_words}
+use Rattle.steenrod_law.proofs.OrbitTables.{orbit_words_law}
+use Rattle.steenrod_law.specs.Names.{IsSimplicial, pull_back, copies}
 use Rattle.report.specs.declared.columns.Column.{Column}
 use Rattle.report.specs.declared.complex.ComplexPart.{ComplexPart}
 use Rattle.report.specs.declared.map.MapPart.{MapPart}
-use Rattle.report_law.specs.Columns.{IsColumn}
-use Rattle.report_law.specs.Headline.{InducedPromise, listed}
-use Rattle.report_law.specs.Live.{blocks, element_degree, induced_degrees, target_degree}
-use Rattle.report_law.specs.Matrices.{classes_in, ranks}
-use Rattle.report_law.specs.Parts.{block_of, classes_of, induced_matrix, matrix_of, operation_matrix}
-use Rattle.report_law.specs.Reports.{IsInducedPart, IsOperationPart}
+use Rattle.report_law.specs.Names.{IsColumn, InducedPromise, listed, blocks, element_degree, induced_degrees, target_degree, classes_in, ranks, block_of, classes_of, induced_matrix, matrix_of, operation_matrix, IsInducedPart, IsOperationPart}
 use Rattle.report_law.proofs.Blocks.{in-induced, induced-found, rank-or-none}
 use Rattle.report_law.proofs.Carrying.{any_basis, matrix-columns}
 use Rattle.report_law.proofs.Coordinates.{AreBases, no-coordinates}
@@ -86,8 +78,7 @@ module _ (p : ℕ) (is_served : IsTrue (served p)) (f : ℕ → ℕ)
     commute = λ op q defined. (
         let constant = scaled p op q is_served defined in
         let n : ℕ = target_degree p q op in
-        let ms = orbit_tables.all_served p is_served in
-        matrices-commute f K L p field simplicial (element_degree p q op) constant.scale q n ms.0 ms.1 (listed from q) (listed from n) (listed to q) (listed to n)
+        matrices-commute f K L p field simplicial (element_degree p q op) constant.scale q n (orbit_words p) (orbit_words_law p is_served) (listed from q) (listed from n) (listed to q) (listed to n)
         (operation_matrix from op q) (induced_matrix to m q) (operation_matrix to op q) (induced_matrix to m n)
         (basis_K q).cocycles (basis_K n) (basis_L q).cocycles
         (matrix-columns K p is_served from are_K detailed a b op q constant defined)

@@ -1,29 +1,24 @@
 -- A job has one report in each form.
-use Rattle.std.proofs.Common.{◌≡◌, ℕ, suc, ◌+◌, ◌<◌, inl, inr, true, List, [], ◌∷◌, map, length, get_or, drop, arith, refl, sym, ap, ap₂, subst, ◌∙◌}
-use Rattle.std.specs.Prelude.{IsTrue}
+use Rattle.std.proofs.Common.{◌≡◌, ℕ, suc, ◌+◌, ◌<◌, inl, inr, true, List, [], ◌∷◌, map, length, get_or, drop, arith, refl, sym, ap, ap₂, subst, ◌∙◌, IsTrue}
 use Rattle.std.specs.List.{AllZip}
 use Rattle.std.proofs.lemmas.List.{length-map}
 use Rattle.fp_field.specs.Served.{served}
 use Rattle.fp_field.proofs.ServedLemmas.{served_field}
-use Rattle.linear_law.specs.Congruence.{IsField}
-use Rattle.linear_law.specs.Lists.{Among, Each, IsAscending}
-use Rattle.linear_law.proofs.CongruenceLemmas.{Congruent_refl}
-use Rattle.linear_law.proofs.ListLemmas.{among_map, each_among, each_get_or, each_unmap, each_zip}
-use Rattle.simplicial_law.specs.Cochains.{AgreesOnSimplices, Cochain, IsCohomologyBasis}
-use Rattle.simplicial_law.specs.CanonicalClasses.{AreCanonicalBases}
-use Rattle.steenrod_law.specs.Operations.{cochain_products, pull_back}
+use Rattle.linear_law.specs.Names.{IsField, Among, Each, IsAscending}
+use Rattle.linear_law.proofs.Names.{Congruent_refl, among_map, each_among, each_get_or, each_unmap, each_zip}
+use Rattle.simplicial_law.specs.Names.{AgreesOnSimplices, Cochain, IsCohomologyBasis, AreCanonicalBases}
+use Rattle.steenrod_law.specs.Names.{cochain_products, pull_back}
+use Rattle.complex_file.specs.Names.{Spelled, facets_at, image}
 use Rattle.complex_file.specs.declared.block.ComplexBlock.{ComplexBlock}
 use Rattle.complex_file.specs.declared.block.MapBlock.{MapBlock}
 use Rattle.complex_file.specs.declared.block.Sent.{Sent}
-use Rattle.complex_file.specs.Input.{Spelled}
-use Rattle.complex_file.specs.Jobs.{facets_at, is_job}
-use Rattle.complex_file.specs.Maps.{image}
+use Rattle.complex_file.specs.Jobs.{is_job}
+use Rattle.report.specs.Names.{has_details, has_tables, outline, outline_answer, outline_column, outline_complex, outline_degree, outline_induced, outline_line, outline_map, outline_operation, outline_pair, outline_product}
 use Rattle.report.specs.declared.columns.CartanAnswer.{CartanAnswer}
 use Rattle.report.specs.declared.columns.CartanAnswer.TheVariants.{Yes, No}
 use Rattle.report.specs.declared.columns.CartanPart.{CartanPart}
 use Rattle.report.specs.declared.columns.Column.{Column}
 use Rattle.report.specs.declared.columns.OpWord.{OpWord}
-use Rattle.report.specs.declared.columns.OpWord.TheVariants as word
 use Rattle.report.specs.declared.columns.OperationPart.{OperationPart}
 use Rattle.report.specs.declared.columns.PairColumn.{PairColumn}
 use Rattle.report.specs.declared.columns.ProductPart.{ProductPart}
@@ -37,15 +32,11 @@ use Rattle.report.specs.declared.map.MapPart.{MapPart}
 use Rattle.report.specs.declared.plan.Block.{Block}
 use Rattle.report.specs.declared.plan.Line.{Line}
 use Rattle.report.specs.declared.plan.Op.{Op}
-use Rattle.report.specs.declared.plan.Op.TheVariants.{Square, Power, BocksteinPower}
+use Rattle.report.specs.declared.plan.Op.TheVariants.{Square}
 use Rattle.report.specs.declared.plan.Product.{Product}
-use Rattle.report.specs.Forms.{has_details, has_tables, outline, outline_answer, outline_column, outline_complex, outline_degree, outline_induced, outline_line, outline_map, outline_operation, outline_pair, outline_product}
-use Rattle.report_law.specs.Columns.{IsColumn}
-use Rattle.report_law.specs.Laws.{OneReportLaw}
-use Rattle.report_law.specs.Live.{cartan_op, has_class, is_defined}
-use Rattle.report_law.specs.Matrices.{Classes, IsInducedBlock, IsOperationBlock, IsOperationColumn, IsProductBlock, IsVerdict, class_at, classes_in, cochains_in, line_degree, ranks}
-use Rattle.report_law.specs.Parts.{below_in, block_of, classes_of, line_of, number_pairs, numbers_of, op_named, part_at, product_of, unnumbered}
-use Rattle.report_law.specs.Reports.{AreTables, IsCartanPart, IsComplexPart, IsInducedPart, IsMapPart, IsOperationPart, IsProductPart, IsReportOf}
+use Rattle.report.specs.declared.columns.OpWord.TheVariants as word
+use Rattle.report.specs.declared.plan.Op.TheVariants.{Power, BocksteinPower}
+use Rattle.report_law.specs.Names.{IsColumn, OneReportLaw, cartan_op, has_class, is_defined, Classes, IsInducedBlock, IsOperationBlock, IsOperationColumn, IsProductBlock, IsVerdict, class_at, classes_in, cochains_in, line_degree, ranks, below_in, block_of, classes_of, line_of, number_pairs, numbers_of, op_named, part_at, product_of, unnumbered, AreTables, IsCartanPart, IsComplexPart, IsInducedPart, IsMapPart, IsOperationPart, IsProductPart, IsReportOf}
 use Rattle.report_law.proofs.Blocks.{IsLiveBlock, of-blocks}
 use Rattle.report_law.proofs.CanonicalData.{bases-of}
 use Rattle.report_law.proofs.Coordinates.{canonical-are}

@@ -1,20 +1,16 @@
 -- The sizes of a complex.
-use Rattle.std.proofs.Common.{◌≡◌, ℕ, List, [], ◌∷◌, length, refl, sym, ap, ap₂, ◌∙◌}
-use Rattle.std.specs.Prelude.{IsTrue, None, Some, true, unwrap_or}
+use Rattle.std.proofs.Common.{◌≡◌, ℕ, List, [], ◌∷◌, length, refl, sym, ap, ap₂, ◌∙◌, IsTrue, None, Some, true, unwrap_or}
 use Rattle.std.specs.declared.option.Option.{Option}
 use Rattle.std.specs.List.{AllZip}
 use Rattle.std.proofs.lemmas.List.{length-map}
 use Rattle.fp_field.specs.Served.{served}
 use Rattle.fp_field.proofs.ServedLemmas.{served_field}
-use Rattle.linear_law.specs.Lists.{Each, IsAscending}
+use Rattle.linear_law.specs.Names.{Each, IsAscending}
+use Rattle.complex_file.specs.Names.{Spelled}
 use Rattle.complex_file.specs.declared.block.ComplexBlock.{ComplexBlock}
-use Rattle.complex_file.specs.Input.{Spelled}
 use Rattle.complex_file.specs.Jobs.{is_job}
-use Rattle.report_law.specs.Laws.{LimitLaw, SizesLaw}
+use Rattle.report_law.specs.Names.{LimitLaw, SizesLaw, Classes, ranks, classes_of, AreJobSizes, AreSizes, passing_sum, simplex_counts}
 use Rattle.report.specs.declared.plan.Sizes.{Sizes}
-use Rattle.report_law.specs.Matrices.{Classes, ranks}
-use Rattle.report_law.specs.Parts.{classes_of}
-use Rattle.report_law.specs.Terms.{AreJobSizes, AreSizes, passing_sum, simplex_counts}
 use Rattle.report_law.proofs.Maps.{job-complexes, job-prime}
 use Rattle.report_law.proofs.SameData.{same-bases}
 

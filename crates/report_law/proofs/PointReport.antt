@@ -1,22 +1,12 @@
 -- The report of a point.
 use Rattle.std.proofs.Common.{◌≡◌, ℕ, ◌+◌, ◌%◌, inl, inr, true, List, [], ◌∷◌, get_or, arith, refl, sym, ap, subst}
-use Rattle.linear_law.specs.Congruence.{Congruent, negated, sum_over}
-use Rattle.linear_law.specs.Lists.{Among}
-use Rattle.linear_law.specs.ReducedBases.{combination}
-use Rattle.linear_law.proofs.CongruenceLemmas.{Congruent_refl}
-use Rattle.simplicial_law.specs.Simplices.{IsInOrder, IsSimplex, Precedes}
-use Rattle.simplicial_law.proofs.Order.{lists_strict}
-use Rattle.simplicial_law.specs.Cochains.{AgreesOnSimplices, Cochain, IsCoboundary}
-use Rattle.simplicial_law.specs.Canonical.{IsCanonicalClass}
-use Rattle.simplicial_law.specs.CanonicalClasses.{AreCanonicalClasses, cochain_of}
-use Rattle.simplicial_law.proofs.DegreeZero.{no_bounds}
-use Rattle.simplicial_law.proofs.Bases.{coboundary_zero}
-use Rattle.steenrod_law.specs.Operations.{cup_product, may_operation}
-use Rattle.report_law.specs.Matrices.{AreClasses}
-use Rattle.report_law.specs.Columns.{ArePrimitives, IsColumn, rest_of}
+use Rattle.linear_law.specs.Names.{Congruent, negated, sum_over, Among, combination}
+use Rattle.linear_law.proofs.Names.{Congruent_refl}
+use Rattle.simplicial_law.specs.Names.{IsInOrder, IsSimplex, Precedes, AgreesOnSimplices, Cochain, IsCoboundary, IsCanonicalClass, AreCanonicalClasses, cochain_of}
+use Rattle.simplicial_law.proofs.Names.{lists_strict, no_bounds, coboundary_zero}
+use Rattle.steenrod_law.specs.Names.{IsSquare, cup_product, may_operation}
+use Rattle.report_law.specs.Names.{AreClasses, ArePrimitives, IsColumn, rest_of, IsCartanDifference, PointRow}
 use Rattle.report_law.proofs.Coordinates.{agrees-sym, agrees-trans}
-use Rattle.report_law.specs.Differences.{IsCartanDifference}
-use Rattle.report_law.specs.Point.{PointRow}
 
 abbrev facets : List (List ℕ)
 facets = (0 ∷ []) ∷ []
@@ -99,6 +89,9 @@ column f e =
       rest = λ t. (none, refl);
     }
 
+squared : (a : Cochain) → IsSquare facets 0 0 a (may_operation 2 0 0 a)
+squared a = record { defined = omega arith; value = agree 0 _ _ (Congruent_refl _) }
+
 difference : Cochain
 difference = λ s. may_operation 2 0 0 (cup_product 2 0 0 z z) s + negated 2 (sum_over (λ (w : Cochain). w s) (cup_product 2 0 0 (may_operation 2 0 0 z) (may_operation 2 0 0 z) ∷ []))
 
@@ -106,9 +99,9 @@ is-difference : IsCartanDifference facets 2 0 0 0 z z difference
 unfolding difference
 is-difference = record {
   whole = may_operation 2 0 0 (cup_product 2 0 0 z z);
-  is_whole = agree 0 _ _ (Congruent_refl _);
+  is_whole = squared (cup_product 2 0 0 z z);
   parts = cup_product 2 0 0 (may_operation 2 0 0 z) (may_operation 2 0 0 z) ∷ [];
-  are_parts = (record { left = may_operation 2 0 0 z; right = may_operation 2 0 0 z; is_left = agree 0 _ _ (Congruent_refl _); is_right = agree 0 _ _ (Congruent_refl _); product = refl }, tt);
+  are_parts = (record { left = may_operation 2 0 0 z; right = may_operation 2 0 0 z; is_left = squared z; is_right = squared z; product = refl }, tt);
   difference = agree 0 difference _ (Congruent_refl _);
 }
 
@@ -135,7 +128,7 @@ point_row = record {
         products = refl;
         product_parts = (record { numbers = refl; block = (column (cup_product 2 0 0 z z) refl, tt) }, tt);
         operations = refl;
-        operation_parts = ((record { result = may_operation 2 0 0 z; is_result = agree 0 _ _ (Congruent_refl _); is_column = column (may_operation 2 0 0 z) refl }, tt), tt);
+        operation_parts = ((record { result = may_operation 2 0 0 z; is_result = squared z; is_column = column (may_operation 2 0 0 z) refl }, tt), tt);
         cartans = refl;
         cartan_parts = (record { difference = difference; is_difference = is-difference; is_answer = (bound difference no-difference, λ d. (no-difference, refl)) }, tt);
       };

@@ -1,27 +1,17 @@
 -- Classes, primitives, columns and answers are told by their definitions.
-use Rattle.std.proofs.Common.{◌≡◌, ℕ, suc, ◌*◌, ◌-◌, ◌<◌, inl, inr, Bool, true, false, List, [], ◌∷◌, map, length, get_or, arith, refl, sym, ap, ap₂, subst, ◌∙◌}
-use Rattle.std.specs.Prelude.{IsTrue, if◌then◌else◌}
+use Rattle.std.proofs.Common.{◌≡◌, ℕ, suc, ◌*◌, ◌-◌, ◌<◌, inl, inr, Bool, true, false, List, [], ◌∷◌, map, length, get_or, arith, refl, sym, ap, ap₂, subst, ◌∙◌, IsTrue, if◌then◌else◌}
 use Rattle.std.specs.List.{AllZip}
 use Rattle.std.proofs.lemmas.Bool.{cases_lt}
 use native.Mathlib.Nat.{zero-mod}
-use Rattle.linear_law.specs.Congruence.{Congruent, IsField, negated}
-use Rattle.linear_law.specs.Lists.{Among, Each, IsAscending}
-use Rattle.linear_law.specs.ReducedBases.{combination}
-use Rattle.linear_law.proofs.CongruenceLemmas.{Congruent_add, Congruent_mul, Congruent_of, Congruent_refl, Congruent_scale}
-use Rattle.linear_law.proofs.ListLemmas.{each_among}
-use Rattle.linear_law.proofs.PivotLemmas.{one-nonzero, same_or_not}
-use Rattle.simplicial_law.specs.Simplices.{IsSimplex, Precedes}
-use Rattle.simplicial_law.specs.Cochains.{AgreesOnSimplices, Chain, Cochain, IsCoboundary, IsCocycle, IsCohomologyBasis, unit_cochain}
-use Rattle.simplicial_law.specs.Canonical.{IsCanonicalClass, IsCanonicalCoboundary, canonical_cycle}
-use Rattle.simplicial_law.specs.CanonicalClasses.{AreCanonicalClasses, AreTerms, cochain_of}
-use Rattle.simplicial_law.proofs.Bases.{coboundaries, cocycles}
-use Rattle.simplicial_law.proofs.Order.{lists_compare, lists_strict}
+use Rattle.linear_law.specs.Names.{Congruent, IsField, negated, Among, Each, IsAscending, combination}
+use Rattle.linear_law.proofs.Names.{Congruent_add, Congruent_mul, Congruent_of, Congruent_refl, Congruent_scale, each_among, one-nonzero, same_or_not}
+use Rattle.simplicial_law.specs.Names.{IsSimplex, Precedes, AgreesOnSimplices, Chain, Cochain, IsCoboundary, IsCocycle, IsCohomologyBasis, unit_cochain, IsCanonicalClass, IsCanonicalCoboundary, canonical_cycle, AreCanonicalClasses, AreTerms, cochain_of}
+use Rattle.simplicial_law.proofs.Names.{coboundaries, cocycles, lists_compare, lists_strict}
+use Rattle.report.specs.Names.{details, has_details, has_tables, outline_answer, tables}
 use Rattle.report.specs.declared.columns.CartanAnswer.{CartanAnswer}
 use Rattle.report.specs.declared.columns.CartanAnswer.TheVariants.{Yes, No}
 use Rattle.report.specs.declared.form.Form.{Form}
-use Rattle.report.specs.Forms.{details, has_details, has_tables, outline_answer, tables}
-use Rattle.report_law.specs.Matrices.{AreClasses, Classes}
-use Rattle.report_law.specs.Columns.{ArePivots, ArePrimitives, IsAnswer, IsColumn, IsCycleAt, IsFirstValue, IsObstruction, IsPrimitiveAt, rest_of}
+use Rattle.report_law.specs.Names.{AreClasses, Classes, ArePivots, ArePrimitives, IsAnswer, IsColumn, IsCycleAt, IsFirstValue, IsObstruction, IsPrimitiveAt, rest_of}
 use Rattle.report_law.proofs.Coordinates.{agrees-sym, agrees-trans, bound-coordinates, coordinates-alike, once}
 use Rattle.report_law.proofs.Unique.{canonical-once, same-order, same-primitive, same-terms}
 

@@ -1,28 +1,21 @@
 -- Cartan differences agree, and what the answer of a line shows.
-use Rattle.std.proofs.Common.{◌≡◌, ℕ, zero, suc, ◌+◌, ◌-◌, ◌<◌, inl, inr, ◌&&◌, true, List, [], ◌∷◌, map, length, get_or, arith, refl, sym, ap, subst, ◌∙◌}
-use Rattle.std.specs.Prelude.{IsTrue, ℤ}
+use Rattle.std.proofs.Common.{◌≡◌, ℕ, zero, suc, ◌+◌, ◌-◌, ◌<◌, inl, inr, ◌&&◌, true, List, [], ◌∷◌, map, length, get_or, arith, refl, sym, ap, subst, ◌∙◌, IsTrue, ℤ}
 use Rattle.std.specs.List.{AllZip}
 use Rattle.std.proofs.lemmas.Bool.{and_parts}
 use Rattle.std.proofs.lemmas.List.{length-map}
 use Rattle.fp_field.specs.Served.{served}
 use Rattle.fp_field.proofs.ServedLemmas.{served_field}
-use Rattle.signed_sum.specs.Lists.{numbers_from}
-use Rattle.linear_law.specs.Congruence.{Congruent, IsField, sum_over}
-use Rattle.linear_law.specs.Lists.{Among, Each, IsAscending}
-use Rattle.linear_law.proofs.CongruenceLemmas.{Congruent_add, Congruent_of, Congruent_refl, Congruent_scale, Congruent_sym, Congruent_trans}
-use Rattle.linear_law.proofs.ListLemmas.{among_map, each_among, each_get_or}
-use Rattle.simplicial_law.specs.Simplices.{IsSimplex}
-use Rattle.simplicial_law.specs.Cochains.{AgreesOnSimplices, Chain, Cochain, IsCoboundary, coboundary}
-use Rattle.simplicial_law.specs.CanonicalClasses.{AreCanonicalBases, IsCanonicalBasis, cochain_of}
-use Rattle.simplicial_law.specs.Integral.{CongruentInt}
-use Rattle.simplicial_law.proofs.Bases.{coboundaries, coboundary_zero}
-use Rattle.simplicial_law.proofs.IntegralCongruence.{CongruentInt_of, CongruentInt_sym, CongruentInt_trans}
-use Rattle.simplicial_law.proofs.IntegralBridge.{integral_congruence_law}
-use Rattle.interval_cut_law.specs.Operations.{operation_value}
+use Rattle.signed_sum.specs.Names.{numbers_from}
+use Rattle.linear_law.specs.Names.{Congruent, IsField, sum_over, Among, Each, IsAscending}
+use Rattle.linear_law.proofs.Names.{Congruent_add, Congruent_of, Congruent_refl, Congruent_scale, Congruent_sym, Congruent_trans, among_map, each_among, each_get_or}
+use Rattle.simplicial_law.specs.Names.{IsSimplex, AgreesOnSimplices, Chain, Cochain, IsCoboundary, coboundary, AreCanonicalBases, IsCanonicalBasis, cochain_of, CongruentInt}
+use Rattle.simplicial_law.proofs.Names.{coboundaries, coboundary_zero, CongruentInt_of, CongruentInt_sym, CongruentInt_trans, integral_congruence_law}
+use Rattle.interval_cut_law.specs.Names.{operation_value}
 use Rattle.steenrod_law.proofs.Complexes.{extended-cochain, extended-simplex, residue_cochain-same, simplex_or_none, weak-closed, weak_of_simplex}
 use Rattle.steenrod_law.proofs.OperationLaws.{to_residues, vertices}
 use Rattle.steenrod_law.proofs.ValuesOnFaces.{value-at}
-use Rattle.steenrod_law.specs.Operations.{IsWeakSimplex, cup_product, extended}
+use Rattle.steenrod_law.specs.Names.{IsWeakSimplex, cup_product, extended}
+use Rattle.report.specs.Names.{has_details}
 use Rattle.report.specs.declared.columns.CartanAnswer.{CartanAnswer}
 use Rattle.report.specs.declared.columns.CartanAnswer.TheVariants.{Yes, No}
 use Rattle.report.specs.declared.columns.CartanPart.{CartanPart}
@@ -30,14 +23,7 @@ use Rattle.report.specs.declared.complex.ComplexPart.{ComplexPart}
 use Rattle.report.specs.declared.form.Form.{Form}
 use Rattle.report.specs.declared.plan.Line.{Line}
 use Rattle.report.specs.declared.plan.Op.{Op}
-use Rattle.report.specs.Forms.{has_details}
-use Rattle.report_law.specs.Columns.{IsAnswer, IsObstruction, IsPrimitive}
-use Rattle.report_law.specs.Differences.{IsCartanDifference, IsCartanProduct, IsOperation}
-use Rattle.report_law.specs.Headline.{CartanPromise, IsBoundedBy, IsDetectedBy, Says}
-use Rattle.report_law.specs.Live.{all_lines, cartan_op, cartan_pairs, has_class, is_defined, lines, target_degree}
-use Rattle.report_law.specs.Matrices.{class_at, classes_in, line_degree, ranks}
-use Rattle.report_law.specs.Parts.{classes_of, line_of}
-use Rattle.report_law.specs.Reports.{IsCartanPart}
+use Rattle.report_law.specs.Names.{IsAnswer, IsObstruction, IsPrimitive, IsCartanDifference, IsCartanProduct, IsOperation, CartanPromise, IsBoundedBy, IsDetectedBy, Says, all_lines, cartan_op, cartan_pairs, has_class, is_defined, lines, target_degree, class_at, classes_in, line_degree, ranks, classes_of, line_of, IsCartanPart}
 use Rattle.report_law.proofs.Blocks.{has-degree}
 use Rattle.report_law.proofs.Coordinates.{agrees-sym, agrees-trans, bound-coordinates}
 use Rattle.report_law.proofs.Cycles.{is_cycle, pairs-alike-on, reads}

@@ -2,13 +2,8 @@
 -- under columns and verdicts are told too.
 use Rattle.std.specs.Prelude.{◌≡◌, IsTrue, Bool, ℕ, ◌+◌, ◌<◌, zero, suc, List, [], map, length, get_or}
 use Rattle.std.specs.List.{AllZip}
-use Rattle.linear_law.specs.Congruence.{negated}
-use Rattle.linear_law.specs.Lists.{Among, Each}
-use Rattle.linear_law.specs.ReducedBases.{combination}
-use Rattle.simplicial_law.specs.Simplices.{IsInOrder}
-use Rattle.simplicial_law.specs.Cochains.{AgreesOnSimplices, Chain, Cochain, HasCoordinates, IsCoboundary}
-use Rattle.simplicial_law.specs.Canonical.{IsCanonicalClass, IsCanonicalCoboundary, IsCanonicalPrimitive, IsCoboundaryPivot, canonical_cycle}
-use Rattle.simplicial_law.specs.CanonicalClasses.{AreTerms, cochain_of}
+use Rattle.linear_law.specs.Names.{negated, Among, Each, combination}
+use Rattle.simplicial_law.specs.Names.{IsInOrder, AgreesOnSimplices, Chain, Cochain, HasCoordinates, IsCoboundary, IsCanonicalClass, IsCanonicalCoboundary, IsCanonicalPrimitive, IsCoboundaryPivot, canonical_cycle, AreTerms, cochain_of}
 use Rattle.report.specs.declared.columns.CartanAnswer.{CartanAnswer}
 use Rattle.report.specs.declared.columns.CartanAnswer.TheVariants.{Yes, No}
 

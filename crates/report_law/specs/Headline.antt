@@ -1,18 +1,13 @@
 -- The headline: what a report promises of its job, in each form.
 use Rattle.std.specs.Prelude.{◌≡◌, IsTrue, ℕ, ◌+◌, ◌*◌, ◌<◌, zero, suc, true, List, [], map, length}
 use Rattle.std.specs.List.{AllZip}
-use Rattle.linear_law.specs.Congruence.{Congruent, sum_over}
-use Rattle.linear_law.specs.Lists.{Each}
-use Rattle.simplicial_law.specs.Simplices.{IsSimplex}
-use Rattle.simplicial_law.specs.Cochains.{AgreesOnSimplices, Chain, Cochain, HasCoordinates, IsCoboundary, IsCocycle, IsCohomologyBasis, boundary, coboundary, pairing, unit_cochain}
-use Rattle.simplicial_law.specs.CanonicalClasses.{AreTerms, cochain_of}
-use Rattle.linear_law.specs.Matrices.{matrix_times}
-use Rattle.steenrod_law.specs.Operations.{coefficient_products, cup_product, pull_back}
+use Rattle.linear_law.specs.Names.{Congruent, sum_over, Each, matrix_times}
+use Rattle.simplicial_law.specs.Names.{IsSimplex, AgreesOnSimplices, Chain, Cochain, HasCoordinates, IsCoboundary, IsCocycle, IsCohomologyBasis, boundary, coboundary, pairing, unit_cochain, AreTerms, cochain_of}
+use Rattle.steenrod_law.specs.Names.{coefficient_products, cup_product, pull_back}
+use Rattle.complex_file.specs.Names.{Spelled, facets_at, image}
 use Rattle.complex_file.specs.declared.block.ComplexBlock.{ComplexBlock}
 use Rattle.complex_file.specs.declared.block.MapBlock.{MapBlock}
-use Rattle.complex_file.specs.Input.{Spelled}
-use Rattle.complex_file.specs.Jobs.{facets_at}
-use Rattle.complex_file.specs.Maps.{image}
+use Rattle.report.specs.Names.{has_details, has_tables}
 use Rattle.report.specs.declared.columns.CartanAnswer.{CartanAnswer}
 use Rattle.report.specs.declared.columns.CartanAnswer.TheVariants.{Yes, No}
 use Rattle.report.specs.declared.columns.CartanPart.{CartanPart}
@@ -23,7 +18,6 @@ use Rattle.report.specs.declared.form.Form.{Form}
 use Rattle.report.specs.declared.job.Report.{Report}
 use Rattle.report.specs.declared.map.MapPart.{MapPart}
 use Rattle.report.specs.declared.plan.Op.{Op}
-use Rattle.report.specs.Forms.{has_details, has_tables}
 use Rattle.report_law.specs.Differences.{IsOperation}
 use Rattle.report_law.specs.Live.{is_defined, target_degree}
 use Rattle.report_law.specs.Matrices.{IsLineDifference, cochains_in, line_degree}

@@ -9,3 +9,4 @@ pub mod Terms
 pub mod Laws
 pub mod Rows
 pub mod Point
+pub mod Names

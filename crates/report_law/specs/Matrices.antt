@@ -1,10 +1,8 @@
 -- The matrices and verdicts of a complex, over its classes by degree, and those of a map.
 use Rattle.std.specs.Prelude.{Bool, ℕ, ◌+◌, ◌-◌, ◌<◌, List, [], map, length, get_or}
 use Rattle.std.specs.List.{AllZip}
-use Rattle.simplicial_law.specs.Simplices.{IsSimplex}
-use Rattle.simplicial_law.specs.Cochains.{Chain, Cochain}
-use Rattle.simplicial_law.specs.CanonicalClasses.{AreCanonicalClasses, cochain_of}
-use Rattle.steenrod_law.specs.Operations.{cochain_products, pull_back}
+use Rattle.simplicial_law.specs.Names.{IsSimplex, Chain, Cochain, AreCanonicalClasses, cochain_of}
+use Rattle.steenrod_law.specs.Names.{cochain_products, pull_back}
 use Rattle.report.specs.declared.columns.CartanAnswer.{CartanAnswer}
 use Rattle.report.specs.declared.columns.Column.{Column}
 use Rattle.report.specs.declared.plan.Block.{Block}

@@ -1,12 +1,11 @@
 -- What a report lists: classes, ranks, headings and matrices.
 use Rattle.std.specs.Prelude.{ℕ, Bool, false, ◌&&◌, ◌==◌, if◌then◌else◌, List, [], ◌∷◌, flat_map, map, length, get_or}
-use Rattle.simplicial_law.specs.Cochains.{Chain}
-use Rattle.steenrod_law.specs.Words.{copies}
-use Rattle.signed_sum.specs.Lists.{numbers_from}
+use Rattle.simplicial_law.specs.Names.{Chain}
+use Rattle.steenrod_law.specs.Names.{copies}
+use Rattle.signed_sum.specs.Names.{numbers_from}
 use Rattle.report.specs.declared.columns.CartanPart.{CartanPart}
 use Rattle.report.specs.declared.columns.Column.{Column}
 use Rattle.report.specs.declared.columns.OpWord.{OpWord}
-use Rattle.report.specs.declared.columns.OpWord.TheVariants as word
 use Rattle.report.specs.declared.columns.OperationPart.{OperationPart}
 use Rattle.report.specs.declared.columns.PairColumn.{PairColumn}
 use Rattle.report.specs.declared.columns.ProductPart.{ProductPart}
@@ -16,8 +15,10 @@ use Rattle.report.specs.declared.map.MapPart.{MapPart}
 use Rattle.report.specs.declared.plan.Block.{Block}
 use Rattle.report.specs.declared.plan.Line.{Line}
 use Rattle.report.specs.declared.plan.Op.{Op}
-use Rattle.report.specs.declared.plan.Op.TheVariants.{Square, Power, BocksteinPower}
+use Rattle.report.specs.declared.plan.Op.TheVariants.{Square}
 use Rattle.report.specs.declared.plan.Product.{Product}
+use Rattle.report.specs.declared.columns.OpWord.TheVariants as word
+use Rattle.report.specs.declared.plan.Op.TheVariants.{Power, BocksteinPower}
 use Rattle.report_law.specs.Matrices.{Classes, classes_in, ranks}
 
 -- the classes by degree, and the ranks

@@ -1,6 +1,6 @@
 -- The report of a point at 2.
 use Rattle.std.specs.Prelude.{[], ◌∷◌, codes}
-use Rattle.complex_file.specs.Input.{Spelled}
+use Rattle.complex_file.specs.Names.{Spelled}
 use Rattle.report.specs.declared.columns.CartanAnswer.TheVariants.{Yes}
 use Rattle.report.specs.declared.columns.OpWord.TheVariants.{Sq}
 use Rattle.report.specs.declared.complex.ComplexPart.{ComplexPart}

@@ -1,15 +1,13 @@
 -- The report of a job in a form. What the form does not print is free.
 use Rattle.std.specs.Prelude.{◌≡◌, IsTrue, Bool, ℕ, ◌<◌, List, [], map, length, get_or}
 use Rattle.std.specs.List.{AllZip}
-use Rattle.linear_law.specs.Lists.{Among, Each, IsAscending}
-use Rattle.simplicial_law.specs.Simplices.{IsInOrder}
+use Rattle.linear_law.specs.Names.{Among, Each, IsAscending}
+use Rattle.simplicial_law.specs.Names.{IsInOrder}
+use Rattle.complex_file.specs.Names.{Spelled, facets_at, image, name_at}
 use Rattle.complex_file.specs.declared.block.ComplexBlock.{ComplexBlock}
 use Rattle.complex_file.specs.declared.block.MapBlock.{MapBlock}
 use Rattle.complex_file.specs.declared.block.Sent.{Sent}
-use Rattle.complex_file.specs.Input.{Spelled}
-use Rattle.complex_file.specs.Jobs.{facets_at}
-use Rattle.complex_file.specs.Maps.{image}
-use Rattle.complex_file.specs.Written.{name_at}
+use Rattle.report.specs.Names.{has_details, has_tables}
 use Rattle.report.specs.declared.columns.CartanPart.{CartanPart}
 use Rattle.report.specs.declared.columns.OperationPart.{OperationPart}
 use Rattle.report.specs.declared.columns.ProductPart.{ProductPart}
@@ -18,7 +16,6 @@ use Rattle.report.specs.declared.form.Form.{Form}
 use Rattle.report.specs.declared.job.Report.{Report}
 use Rattle.report.specs.declared.map.InducedPart.{InducedPart}
 use Rattle.report.specs.declared.map.MapPart.{MapPart}
-use Rattle.report.specs.Forms.{has_details, has_tables}
 use Rattle.report_law.specs.Columns.{ArePrimitives}
 use Rattle.report_law.specs.Live.{blocks, induced_degrees, lines, products}
 use Rattle.report_law.specs.Matrices.{AreClasses, Classes, IsInducedBlock, IsOperationBlock, IsProductBlock, IsVerdict, classes_in, ranks}

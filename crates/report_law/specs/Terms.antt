@@ -4,14 +4,13 @@ use Rattle.std.specs.declared.option.Option.{Option}
 use Rattle.std.specs.List.{AllZip, filter}
 use Rattle.std.specs.BTreeSet.{insert_key}
 use Rattle.std.specs.Ordering.{nat_cmp}
-use Rattle.signed_sum.specs.Lists.{is_same_list, numbers_from}
-use Rattle.signed_sum.specs.Sums.{is_zero, value_at}
-use Rattle.linear_law.specs.Congruence.{sum_over}
-use Rattle.simplicial_law.specs.ListedSimplices.{of_degree, simplex_cmp, simplices}
-use Rattle.interval_cut_law.specs.LiveCuts.{live_cut_count}
-use Rattle.table_reduction_law.specs.Counts.{candidate_count}
-use Rattle.table_reduction_law.specs.MayElements.{may_element}
-use Rattle.complex_file.specs.Input.{Spelled}
+use Rattle.signed_sum.specs.Names.{is_same_list, numbers_from, is_zero, value_at}
+use Rattle.linear_law.specs.Names.{sum_over}
+use Rattle.simplicial_law.specs.Names.{of_degree, simplex_cmp}
+use Rattle.simplicial_law.specs.ListedSimplices.{simplices}
+use Rattle.interval_cut_law.specs.Names.{live_cut_count}
+use Rattle.table_reduction_law.specs.Names.{candidate_count, may_element}
+use Rattle.complex_file.specs.Names.{Spelled}
 use Rattle.report.specs.declared.complex.ComplexPart.{ComplexPart}
 use Rattle.report.specs.declared.plan.Block.{Block}
 use Rattle.report.specs.declared.plan.Line.{Line}

@@ -1,9 +1,7 @@
 //! The report of a job, and what it promises: definitions and laws.
 #![tactic(auto)]
 
-ghost use Rattle.report_law.specs.Laws.{FormsLaw, HeadlineLaw, LimitLaw, OneReportLaw, OperationLaw, SizesLaw};
-ghost use Rattle.report_law.specs.Point.{PointRow};
-ghost use Rattle.report_law.specs.Rows.{WorkedRows};
+ghost use Rattle.report_law.specs.Names.{FormsLaw, HeadlineLaw, LimitLaw, OneReportLaw, OperationLaw, SizesLaw, PointRow, WorkedRows};
 
 /// The headline holds of the report of each job, in each form.
 pub fn headline_law()

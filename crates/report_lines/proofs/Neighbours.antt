@@ -1,12 +1,11 @@
 -- A test of each item and the next, by a recursion from the front.
-use Rattle.std.proofs.Common.{◌≡◌, ◌∙◌, ℕ, zero, suc, ◌+◌, ◌<◌, Bool, true, false, ◌&&◌, List, [], ◌∷◌, length, get_or, refl, ap, sym, subst, arith}
+use Rattle.std.proofs.Common.{◌≡◌, ◌∙◌, ℕ, zero, suc, ◌+◌, ◌<◌, Bool, true, false, ◌&&◌, List, [], ◌∷◌, length, get_or, refl, ap, sym, subst, arith, nat_lt}
 use Rattle.std.specs.List.{IsAllAdjacentAnswer}
-use Rattle.std.specs.Prelude.{nat_lt}
 use Rattle.std.specs.Ordering.{is_lt}
 use Rattle.std.proofs.lemmas.Bool.{and_from}
 use Rattle.std.proofs.Math.Bool.{and-false}
-use Rattle.simplicial_law.specs.ListedSimplices.{simplex_cmp}
-use Rattle.report_text_law.specs.WellFormed.{ascends, terms_ascend}
+use Rattle.simplicial_law.specs.Names.{simplex_cmp}
+use Rattle.report_text_law.specs.Names.{ascends, terms_ascend}
 
 shifted : (k : ℕ) → suc k + 1 ≡ suc (k + 1)
 shifted k = omega arith

@@ -1,6 +1,6 @@
 ghost use Rattle.std.specs.Prelude.{◌≡◌, ◌++◌, IfOk, OnOk};
-ghost use Rattle.complex_file.specs.Views.{texts};
-ghost use Rattle.report_text_law.specs.Bytes.{chain_of, numbers, simplex_of, term_of};
+ghost use Rattle.complex_file.specs.Names.{texts};
+ghost use Rattle.report_text_law.specs.Names.{chain_of, numbers, simplex_of, term_of};
 
 use crate::word::{number, numbers, pieces};
 use comch_io::Listed;

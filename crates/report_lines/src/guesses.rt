@@ -1,6 +1,6 @@
 ghost use Rattle.std.specs.Prelude.{◌≡◌, IfOk};
-ghost use Rattle.complex_file.specs.Views.{texts};
-ghost use Rattle.report_text_law.specs.Bytes.{guess, guess_complex, guess_degree, guess_head, guess_induced, guess_last, guess_line, guess_map, guess_prime, guess_send, guess_table};
+ghost use Rattle.complex_file.specs.Names.{texts};
+ghost use Rattle.report_text_law.specs.Names.{guess, guess_complex, guess_degree, guess_head, guess_induced, guess_last, guess_line, guess_map, guess_prime, guess_send, guess_table};
 
 use crate::chain::{chain_of, simplex};
 use crate::tables::{guess_cartan, guess_column, guess_operation, guess_product};

@@ -1,6 +1,6 @@
 ghost use Rattle.std.specs.Prelude.{◌≡◌, IfOk};
 ghost use Rattle.std.specs.Str.{bytes_eq};
-ghost use Rattle.report_text_law.specs.Bytes.{if_same, line_at, spelled};
+ghost use Rattle.report_text_law.specs.Names.{if_same, line_at, spelled};
 
 use crate::guesses::guess;
 use crate::word::pieces;

@@ -1,6 +1,6 @@
 ghost use Rattle.std.specs.Prelude.{◌≡◌, IfOk};
-ghost use Rattle.complex_file.specs.Views.{texts};
-ghost use Rattle.report_text_law.specs.Bytes.{guess_cartan, guess_column, guess_no, guess_operation, guess_pair, guess_product, guess_yes};
+ghost use Rattle.complex_file.specs.Names.{texts};
+ghost use Rattle.report_text_law.specs.Names.{guess_cartan, guess_column, guess_no, guess_operation, guess_pair, guess_product, guess_yes};
 
 use crate::word::{number, numbers, op_of};
 use comch_io::Listed;

@@ -1,6 +1,6 @@
 ghost use Rattle.std.specs.Prelude.{◌≡◌};
 ghost use Rattle.std.specs.List.{list_all};
-ghost use Rattle.report_text_law.specs.WellFormed.{are_values, ascends, is_chain, is_line, is_simplex, is_term, is_unit, is_vertex, terms_ascend};
+ghost use Rattle.report_text_law.specs.Names.{are_values, ascends, is_chain, is_line, is_simplex, is_term, is_unit, is_vertex, terms_ascend};
 
 use complex_file::is_name;
 use fp_field::served;

@@ -1,7 +1,7 @@
 ghost use Rattle.std.specs.Prelude.{◌≡◌, ◌==◌, IfOk};
 ghost use Rattle.std.specs.List.{slice_split};
-ghost use Rattle.complex_file.specs.Views.{texts};
-ghost use Rattle.report_text_law.specs.Bytes.{number, numbers, op_of, with_digit};
+ghost use Rattle.complex_file.specs.Names.{texts};
+ghost use Rattle.report_text_law.specs.Names.{number, numbers, op_of, with_digit};
 
 use report::OpWord;
 use std::alloc::{AllocError, Global};

@@ -1,8 +1,6 @@
 -- The items of which a part follows their first line.
-use Rattle.std.proofs.Common.{◌≡◌, ◌∙◌, ℕ, ◌+◌, Bool, cond, List, [], ◌∷◌, ◌++◌, length, ap, refl, arith, Some, None, true, false}
+use Rattle.std.proofs.Common.{◌≡◌, ◌∙◌, ℕ, ◌+◌, Bool, cond, List, [], ◌∷◌, ◌++◌, length, ap, refl, arith, Some, None, true, false, Result, ◌==◌, eq-eqb}
 use Rattle.std.specs.declared.option.Option.{Option}
-use Rattle.std.specs.Prelude.{Result, ◌==◌}
-use Rattle.std.proofs.lemmas.Bool.{eq-eqb}
 use Rattle.report.specs.declared.columns.CartanAnswer.TheVariants.{Yes as answers_yes, No as answers_no}
 use Rattle.report.specs.declared.columns.Column.{Column}
 use Rattle.report.specs.declared.columns.OpWord.{OpWord}
@@ -13,24 +11,24 @@ use Rattle.report.specs.declared.complex.ComplexPart.{ComplexPart}
 use Rattle.report.specs.declared.complex.DegreePart.{DegreePart}
 use Rattle.report.specs.declared.map.InducedPart.{InducedPart}
 use Rattle.report.specs.declared.map.MapPart.{MapPart}
-use Rattle.report_text_law.specs.Lines.{Chain}
-use Rattle.report_text_law.specs.Machine.{◌>>=◌, move, with_column, with_complex, with_induced_column, with_pair}
-use Rattle.report_text_law.specs.declared.line.Line.{Line}
-use Rattle.report_text_law.specs.declared.line.Line.TheVariants.{Complex as complex_line, Map as map_line, Induced as induced_line, End as end_line, Degree as degree_line, Pair as pair_line, With as with_line, Column as column_line, Cycle as cycle_line, Product as product_line, Operation as operation_line, CartanYes as cartan_yes, CartanNo as cartan_no}
-use Rattle.report_text_law.specs.declared.state.ComplexStage.TheVariants.{Facets, Degree, Product, Pair, Operation, Values, Yes, No, Cartans}
+use Rattle.report_text_law.specs.Names.{Chain, ◌>>=◌, move, with_column, with_complex, with_induced_column, with_pair}
+use Rattle.report_text_law.specs.declared.line.Line.TheVariants.{Complex as complex_line, Map as map_line, End as end_line, With as with_line, Column as column_line, Cycle as cycle_line, CartanYes as cartan_yes, CartanNo as cartan_no}
+use Rattle.report_text_law.specs.declared.state.ComplexStage.TheVariants.{Facets, Values, Yes, No, Cartans}
 use Rattle.report_text_law.specs.declared.state.Finding.{Finding}
 use Rattle.report_text_law.specs.declared.state.Graded.{Graded}
 use Rattle.report_text_law.specs.declared.state.Judged.{Judged}
 use Rattle.report_text_law.specs.declared.state.MapHead.{MapHead}
 use Rattle.report_text_law.specs.declared.state.MapStage.{MapStage}
-use Rattle.report_text_law.specs.declared.state.MapStage.TheVariants.{Sends, Induced, InducedValues}
+use Rattle.report_text_law.specs.declared.state.MapStage.TheVariants.{Sends, InducedValues}
 use Rattle.report_text_law.specs.declared.state.Multiplied.{Multiplied}
 use Rattle.report_text_law.specs.declared.state.Operated.{Operated}
 use Rattle.report_text_law.specs.declared.state.State.{State}
 use Rattle.report_text_law.specs.declared.state.State.TheVariants.{Between, InComplex, BetweenMaps, InMap}
-use Rattle.report_reader.specs.Reading.{AreItems, IsOpen, Place, Reads, any, counted}
-use Rattle.report_reader.specs.Sections.{HasColumns, cartans, columns, complexes, cycle_only, degrees, facets, induced_blocks, maps, operations, pairs, products, sends, with_only, within_degrees, within_induced, within_operations}
-use Rattle.report_reader.specs.declared.refused.ReadRefused.{ReadRefused}
+use Rattle.report_text_law.specs.declared.line.Line.{Line}
+use Rattle.report_text_law.specs.declared.line.Line.TheVariants.{Induced as induced_line, Degree as degree_line, Pair as pair_line, Product as product_line, Operation as operation_line}
+use Rattle.report_text_law.specs.declared.state.ComplexStage.TheVariants.{Degree, Product, Pair, Operation}
+use Rattle.report_text_law.specs.declared.state.MapStage.TheVariants.{Induced}
+use Rattle.report_reader.specs.Names.{AreItems, IsOpen, Place, Reads, any, counted, HasColumns, cartans, columns, complexes, cycle_only, degrees, facets, induced_blocks, maps, operations, pairs, products, sends, with_only, within_degrees, within_induced, within_operations, ReadRefused}
 use Rattle.report_reader.proofs.Steps.{Opens}
 
 cond_true : {A : Type 0} (a b : A) (t : Bool) → t ≡ true → cond t a b ≡ a

@@ -1,15 +1,10 @@
 -- What a text is read as before and behind a line.
-use Rattle.std.proofs.Common.{◌≡◌, ◌∙◌, ℕ, ◌+◌, ◌<◌, ◌≤◌, List, [], ◌∷◌, ◌++◌, length, ap, refl, sym, arith, Some, None, Ok, Err, true, false, subst, IsErr, IsErrAnd}
+use Rattle.std.proofs.Common.{◌≡◌, ◌∙◌, ℕ, ◌+◌, ◌<◌, ◌≤◌, List, [], ◌∷◌, ◌++◌, length, ap, refl, sym, arith, Some, None, Ok, Err, true, false, subst, IsErr, IsErrAnd, Result}
 use Rattle.std.specs.declared.option.Option.{Option}
-use Rattle.std.specs.Prelude.{Result}
-use Rattle.report_text_law.specs.Bytes.{or_refused, read_from}
-use Rattle.report_text_law.specs.Certificates.{pieces}
-use Rattle.report_text_law.specs.Machine.{◌>>=◌, move}
-use Rattle.report_text_law.specs.declared.line.Line.{Line}
+use Rattle.report_text_law.specs.Names.{or_refused, read_from, pieces, ◌>>=◌, move}
 use Rattle.report_text_law.specs.declared.state.State.{State}
-use Rattle.report_reader.specs.Reading.{AreItems, Follows, IsItem, IsOpen, Place, Reads, ReadsItem, Refuses, Section, Shrinks, is_there, left, reading}
-use Rattle.report_reader.specs.declared.refused.ReadRefused.{ReadRefused}
-use Rattle.report_reader.specs.declared.refused.ReadRefused.TheVariants.{ReportRefused, OutOfMemory}
+use Rattle.report_text_law.specs.declared.line.Line.{Line}
+use Rattle.report_reader.specs.Names.{AreItems, Follows, IsItem, IsOpen, Place, Reads, ReadsItem, Refuses, Section, Shrinks, is_there, left, reading, ReadRefused, ReportRefused, OutOfMemory}
 
 -- the place with its line
 abbrev pub at : Place → Option Line → Place

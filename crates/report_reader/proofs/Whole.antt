@@ -1,23 +1,17 @@
 -- The end of a text, and the whole text.
-use Rattle.std.proofs.Common.{◌≡◌, ◌∙◌, ℕ, ◌+◌, ◌<◌, List, length, ap, refl, sym, subst, arith, inl, inr, Some, None, Ok, Err, true, false, IsErr, IsErrAnd}
+use Rattle.std.proofs.Common.{◌≡◌, ◌∙◌, ℕ, ◌+◌, ◌<◌, List, length, ap, refl, sym, subst, arith, inl, inr, Some, None, Ok, Err, true, false, IsErr, IsErrAnd, Result, ◌==◌, eq-eqb}
 use Rattle.std.specs.declared.option.Option.{Option}
-use Rattle.std.specs.Prelude.{Result, ◌==◌}
-use Rattle.std.proofs.lemmas.Bool.{cases_eq, eq-eqb}
+use Rattle.std.proofs.lemmas.Bool.{cases_eq}
 use Rattle.report.specs.declared.job.Report.{Report}
 use Rattle.report.specs.declared.map.MapPart.{MapPart}
-use Rattle.report_text_law.specs.Bytes.{or_refused, read_from, read_text}
-use Rattle.report_text_law.specs.Certificates.{pieces}
-use Rattle.report_text_law.specs.Machine.{◌>>=◌, move}
-use Rattle.report_text_law.specs.declared.line.Line.{Line}
+use Rattle.report_text_law.specs.Names.{or_refused, read_from, read_text, pieces, ◌>>=◌, move}
 use Rattle.report_text_law.specs.declared.line.Line.TheVariants.{Done}
 use Rattle.report_text_law.specs.declared.state.Finding.{Finding}
 use Rattle.report_text_law.specs.declared.state.State.{State}
 use Rattle.report_text_law.specs.declared.state.State.TheVariants.{AtStart, Finished}
+use Rattle.report_text_law.specs.declared.line.Line.{Line}
 use Rattle.report_text_law.proofs.Refusals.{reading_law}
-use Rattle.report_reader.specs.Reading.{Follows, IsReading, Place, ReadsReport, Refuses, reading}
-use Rattle.report_reader.specs.Sections.{done_only}
-use Rattle.report_reader.specs.declared.refused.ReadRefused.{ReadRefused}
-use Rattle.report_reader.specs.declared.refused.ReadRefused.TheVariants.{ReportRefused, OutOfMemory}
+use Rattle.report_reader.specs.Names.{Follows, IsReading, Place, ReadsReport, Refuses, reading, done_only, ReadRefused, ReportRefused, OutOfMemory}
 use Rattle.report_reader.proofs.Lines.{nothing_behind}
 use Rattle.report_reader.proofs.Steps.{at, failed}
 

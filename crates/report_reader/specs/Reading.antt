@@ -2,13 +2,10 @@
 use Rattle.std.specs.Prelude.{◌≡◌, ℕ, ◌+◌, ◌-◌, ◌<◌, ◌≤◌, ◌^◌, Bool, true, false, List, [], ◌∷◌, ◌++◌, length, Some, None, Ok, Err, OnOk, Result, if◌then◌else◌}
 use Rattle.std.specs.declared.option.Option.{Option}
 use Rattle.report.specs.declared.job.Report.{Report}
-use Rattle.report_text_law.specs.Bytes.{line_at, or_refused, read_from}
-use Rattle.report_text_law.specs.Certificates.{IsRefused, Spells, pieces}
-use Rattle.report_text_law.specs.declared.line.Line.{Line}
-use Rattle.report_text_law.specs.Machine.{◌>>=◌, move, prime_of}
-use Rattle.report_text_law.specs.WellFormed.{is_line}
+use Rattle.report_text_law.specs.Names.{line_at, or_refused, read_from, IsRefused, Spells, pieces, ◌>>=◌, move, prime_of, is_line}
 use Rattle.report_text_law.specs.declared.state.State.{State}
 use Rattle.report_text_law.specs.declared.state.State.TheVariants.{Finished}
+use Rattle.report_text_law.specs.declared.line.Line.{Line}
 use Rattle.report_reader.specs.declared.refused.ReadRefused.{ReadRefused}
 use Rattle.report_reader.specs.declared.refused.ReadRefused.TheVariants.{ReportRefused, OutOfMemory}
 

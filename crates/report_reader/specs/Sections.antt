@@ -11,20 +11,22 @@ use Rattle.report.specs.declared.complex.ComplexPart.{ComplexPart}
 use Rattle.report.specs.declared.complex.DegreePart.{DegreePart}
 use Rattle.report.specs.declared.map.InducedPart.{InducedPart}
 use Rattle.report.specs.declared.map.MapPart.{MapPart}
-use Rattle.report_text_law.specs.Lines.{Chain}
-use Rattle.report_text_law.specs.declared.line.Line.{Line}
-use Rattle.report_text_law.specs.declared.line.Line.TheVariants.{Degree as degree_line, Class as class_line, Product as product_line, With as with_line, Operation as operation_line, Column as column_line, Cycle as cycle_line, End as end_line, Induced as induced_line, Done as done_line}
-use Rattle.report_text_law.specs.Machine.{◌>>=◌, complex_of, map_of, degree_opens, move, with_complex}
+use Rattle.report_text_law.specs.Names.{Chain, ◌>>=◌, complex_of, map_of, degree_opens, move, with_complex}
+use Rattle.report_text_law.specs.declared.line.Line.TheVariants.{Class as class_line, With as with_line, Column as column_line, Cycle as cycle_line, End as end_line, Done as done_line}
 use Rattle.report_text_law.specs.declared.state.ComplexHead.{ComplexHead}
 use Rattle.report_text_law.specs.declared.state.Graded.{Graded}
 use Rattle.report_text_law.specs.declared.state.Multiplied.{Multiplied}
 use Rattle.report_text_law.specs.declared.state.Operated.{Operated}
-use Rattle.report_text_law.specs.declared.state.ComplexStage.TheVariants.{Facets, Degree, Product, Operation, Cartans}
+use Rattle.report_text_law.specs.declared.state.ComplexStage.TheVariants.{Facets, Cartans}
 use Rattle.report_text_law.specs.declared.state.MapHead.{MapHead}
-use Rattle.report_text_law.specs.declared.state.MapStage.TheVariants.{Sends, Induced}
+use Rattle.report_text_law.specs.declared.state.MapStage.TheVariants.{Sends}
 use Rattle.report_text_law.specs.declared.state.Finding.{Finding}
 use Rattle.report_text_law.specs.declared.state.State.{State}
 use Rattle.report_text_law.specs.declared.state.State.TheVariants.{Between, InComplex, BetweenMaps, InMap, Finished}
+use Rattle.report_text_law.specs.declared.line.Line.{Line}
+use Rattle.report_text_law.specs.declared.line.Line.TheVariants.{Degree as degree_line, Product as product_line, Operation as operation_line, Induced as induced_line}
+use Rattle.report_text_law.specs.declared.state.ComplexStage.TheVariants.{Degree, Product, Operation}
+use Rattle.report_text_law.specs.declared.state.MapStage.TheVariants.{Induced}
 use Rattle.report_reader.specs.Reading.{IsOpen, Section}
 
 -- ---- lines that must stand next

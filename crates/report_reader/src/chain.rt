@@ -1,12 +1,10 @@
 //! Chains, and the lines that must stand next.
 ghost use Rattle.std.specs.Prelude.{◌≡◌, ◌≤◌, OnOk};
 ghost use Rattle.std.specs.declared.option.Option.{Option};
-ghost use Rattle.report_text_law.specs.Lines.{Chain as ChainSeen};
-ghost use Rattle.report_text_law.specs.Machine.{move};
-ghost use Rattle.report_text_law.specs.declared.line.Line.{Line as LineSeen};
+ghost use Rattle.report_text_law.specs.Names.{Chain as ChainSeen, move};
 ghost use Rattle.report_text_law.specs.declared.state.State.{State};
-ghost use Rattle.report_reader.specs.Reading.{IsOpen, Reads, left};
-ghost use Rattle.report_reader.specs.Sections.{cycle_only, end_only, with_only};
+ghost use Rattle.report_text_law.specs.declared.line.Line.{Line as LineSeen};
+ghost use Rattle.report_reader.specs.Names.{IsOpen, Reads, left, cycle_only, end_only, with_only};
 
 use crate::ReadRefused;
 use crate::reader::Reader;

@@ -3,7 +3,7 @@ ghost use Rattle.std.specs.Prelude.{◌≡◌, ◌≤◌, ◌++◌, ◌∷◌, �
 ghost use Rattle.std.specs.declared.option.Option.{Option};
 ghost use Rattle.report_text_law.specs.declared.line.Line.{Line as LineSeen};
 ghost use Rattle.report_text_law.specs.declared.state.State.{State};
-ghost use Rattle.report_reader.specs.Reading.{Reads, ReadsItem, Shrinks, left};
+ghost use Rattle.report_reader.specs.Names.{Reads, ReadsItem, Shrinks, left};
 
 use crate::ReadRefused;
 use crate::reader::Reader;

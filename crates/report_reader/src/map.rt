@@ -1,11 +1,10 @@
 //! Maps.
 ghost use Rattle.std.specs.Prelude.{◌≡◌, ◌≤◌, ◌∷◌, ◌++◌, List, [], OnOk};
 ghost use Rattle.report.specs.declared.map.MapPart.{MapPart as MapSeen};
-ghost use Rattle.report_text_law.specs.Machine.{move};
+ghost use Rattle.report_text_law.specs.Names.{move};
 ghost use Rattle.report_text_law.specs.declared.state.Finding.{Finding};
 ghost use Rattle.report_text_law.specs.declared.state.State.TheVariants.{BetweenMaps};
-ghost use Rattle.report_reader.specs.Reading.{AreItems, IsItem, Reads, any, left};
-ghost use Rattle.report_reader.specs.Sections.{induced_blocks as induced_blocks_of, maps as maps_of, sends as sends_of};
+ghost use Rattle.report_reader.specs.Names.{AreItems, IsItem, Reads, any, left, induced_blocks as induced_blocks_of, maps as maps_of, sends as sends_of};
 
 use crate::ReadRefused;
 use crate::chain::end;

@@ -1,9 +1,8 @@
 //! A whole text.
 ghost use Rattle.std.specs.Prelude.{[]};
-ghost use Rattle.report_text_law.specs.Machine.{move};
+ghost use Rattle.report_text_law.specs.Names.{move};
 ghost use Rattle.report_text_law.specs.declared.state.State.TheVariants.{AtPrime, AtStart, Between, Finished};
-ghost use Rattle.report_reader.specs.Reading.{IsReading, Reads, ReadsReport};
-ghost use Rattle.report_reader.specs.Sections.{done_only};
+ghost use Rattle.report_reader.specs.Names.{IsReading, Reads, ReadsReport, done_only};
 
 use crate::ReadRefused;
 use crate::complex::complexes;

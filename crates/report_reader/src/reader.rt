@@ -1,8 +1,7 @@
 //! The lines of a text, one after another.
 ghost use Rattle.std.specs.Prelude.{◌≡◌, ◌==◌, ◌+◌, ◌<◌, ℕ, [], ◌∷◌, IfOk, OnOk, OnSome, MatchOption, Some, None, length};
-ghost use Rattle.report_text_law.specs.Certificates.{pieces};
-ghost use Rattle.report_reader.specs.Reading.{Follows, HasRoom, line_for};
-ghost use Rattle.report_reader.specs.declared.refused.ReadRefused.TheVariants.{ReportRefused};
+ghost use Rattle.report_text_law.specs.Names.{pieces};
+ghost use Rattle.report_reader.specs.Names.{Follows, HasRoom, line_for, ReportRefused};
 
 use crate::ReadRefused;
 use report_lines::{is_line, line_of};

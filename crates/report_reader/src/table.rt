@@ -1,6 +1,5 @@
 //! The products, the operations and the Cartan lines of a complex.
-ghost use Rattle.report_reader.specs.Reading.{AreItems, IsItem, any, counted};
-ghost use Rattle.report_reader.specs.Sections.{cartans as cartans_of, columns as columns_of, operations as operations_of, pairs as pairs_of, products as products_of};
+ghost use Rattle.report_reader.specs.Names.{AreItems, IsItem, any, counted, cartans as cartans_of, columns as columns_of, operations as operations_of, pairs as pairs_of, products as products_of};
 
 use crate::ReadRefused;
 use crate::chain::{cycle, with_chain};

@@ -1,14 +1,12 @@
 -- One more item of a text that is written item by item.
-use Rattle.std.proofs.Common.{◌≡◌, ◌∙◌, ℕ, ◌+◌, ◌<◌, List, [], ◌∷◌, ◌++◌, length, take, get_or, ap, refl, sym, arith, append_assoc}
-use Rattle.std.specs.Prelude.{flat_map, map}
-use Rattle.std.proofs.lemmas.List.{take_more, append-nil, map-append, length-take}
+use Rattle.std.proofs.Common.{◌≡◌, ◌∙◌, ℕ, ◌+◌, ◌<◌, List, [], ◌∷◌, ◌++◌, length, take, get_or, ap, refl, sym, arith, append_assoc, flat_map, map, append-nil, length-take}
+use Rattle.std.proofs.lemmas.List.{take_more, map-append}
 use Rattle.report.specs.declared.columns.Column.{Column}
 use Rattle.report.specs.declared.complex.DegreePart.{DegreePart}
 use Rattle.report.specs.declared.form.Form.{Form}
 use Rattle.report_text_law.specs.declared.line.Line.{Line}
+use Rattle.report_text_law.specs.Names.{columns_from, degrees_from, degree_lines, shown}
 use Rattle.report_text_law.specs.declared.line.Line.TheVariants.{Column as column_line, With as with_line}
-use Rattle.report_text_law.specs.Lines.{columns_from, degrees_from, degree_lines}
-use Rattle.report_text_law.specs.Spelling.{shown}
 use Rattle.std.proofs.lemmas.Grind.{flat_map-append}
 use Rattle.report_text_law.proofs.Written.{columns_apart, degrees_apart}
 

@@ -1,5 +1,5 @@
 ghost use Rattle.std.specs.Prelude.{◌≡◌};
-ghost use Rattle.report.specs.Forms.{has_details, has_tables};
+ghost use Rattle.report.specs.Names.{has_details, has_tables};
 
 use report::Form;
 

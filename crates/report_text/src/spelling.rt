@@ -1,6 +1,6 @@
 ghost use Rattle.std.specs.Prelude.{◌≡◌, ◌++◌, OnOk};
 ghost use Rattle.report.specs.declared.form.Form.TheVariants.{Certificate};
-ghost use Rattle.report_text_law.specs.Spelling.{shown};
+ghost use Rattle.report_text_law.specs.Names.{shown};
 
 use crate::line::{
     add_below, add_class, add_column, add_cycle, add_degree, add_done, add_end, add_facet,

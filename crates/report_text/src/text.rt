@@ -1,5 +1,5 @@
 ghost use Rattle.std.specs.Prelude.{◌≡◌, IfOk};
-ghost use Rattle.report.specs.Forms.{tables};
+ghost use Rattle.report.specs.Names.{tables};
 ghost use Rattle.report_text_law.specs.Text.{text_of};
 
 use crate::line::{add_done, add_heading, add_prime};

@@ -1,6 +1,6 @@
 ghost use Rattle.std.specs.Prelude.{◌≡◌, ◌++◌, ◌∷◌, [], OnOk, flat_map, map};
 ghost use Rattle.std.specs.Fmt.{decimal};
-ghost use Rattle.report_text_law.specs.Spelling.{behind, joined, term_word, chain_words, ended, op_word};
+ghost use Rattle.report_text_law.specs.Names.{behind, joined, term_word, chain_words, ended, op_word};
 
 use comch_io::Bytes;
 use report::{Chain, OpWord, Term};

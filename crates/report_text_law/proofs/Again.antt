@@ -1,16 +1,12 @@
 -- The lines of a certificate are read again.
-use Rattle.std.proofs.Common.{◌≡◌, ◌∙◌, ℕ, ◌+◌, Bool, true, cond, List, [], ◌∷◌, ◌++◌, length, length-append, ap, refl, sym, subst, arith, append_assoc, Some, None}
+use Rattle.std.proofs.Common.{◌≡◌, ◌∙◌, ℕ, ◌+◌, Bool, true, cond, List, [], ◌∷◌, ◌++◌, length, length-append, ap, refl, sym, subst, arith, append_assoc, Some, None, ◌==◌, map, flat_map, eq-eqb, append-nil}
 use Rattle.std.specs.declared.option.Option.{Option}
-use Rattle.std.specs.Prelude.{◌==◌, map, flat_map}
 use Rattle.std.specs.List.{list_all}
-use Rattle.std.proofs.lemmas.Bool.{and_parts, eq-eqb}
-use Rattle.std.proofs.lemmas.List.{append-nil}
+use Rattle.std.proofs.lemmas.Bool.{and_parts}
 use Rattle.fp_field.specs.Served.{served}
-use Rattle.report_text_law.specs.Lines.{answer_lines}
-use Rattle.report_text_law.specs.WellFormed.{is_line}
+use Rattle.report_text_law.specs.Names.{answer_lines, is_line, ComplexHead, Chain, complex_line, facet_line, degree_line, below_line, class_line, product_line, with_line, operation_line, cartan_yes, cartan_no, cycle_line, end_line, map_line, induced_line, done_line, columns_from, degree_lines, degrees_from, pair_lines, product_lines, operation_lines, cartan_lines, complex_lines, send_of, induced_lines, map_lines, certificate_lines, Graded, Multiplied, Operated, Judged, ComplexStage, Facets, Values, Yes, No, Cartans, MapHead, Mapped, MapStage, Sends, InducedValues, Finding, State, AtStart, Between, InComplex, BetweenMaps, InMap, Finished, ◌>>=◌, with_degree, with_product, with_operation, with_cartan, with_complex, with_column, with_send, with_induced, with_induced_column, graded_of, multiplied_from, multiplied_of, operated_from, operated_of, judged_from, judged_of, mapped_of, complex_of, map_of, degree_opens, column_stands, induced_stands, next, next_of_map, map_opens, move, prime_of, step, run}
 use Rattle.report_text_law.proofs.Written.{bind_some}
 use Rattle.report_text_law.proofs.Fine.{IsAt, stays, prime_at}
-use Rattle.report_text_law.specs.declared.state.ComplexHead.{ComplexHead}
 use Rattle.complex_file.specs.declared.block.Sent.{Sent}
 use Rattle.report.specs.declared.columns.CartanAnswer.{CartanAnswer}
 use Rattle.report.specs.declared.columns.CartanAnswer.TheVariants.{Yes as answers_yes, No as answers_no}
@@ -23,21 +19,9 @@ use Rattle.report.specs.declared.complex.ComplexPart.{ComplexPart}
 use Rattle.report.specs.declared.complex.DegreePart.{DegreePart}
 use Rattle.report.specs.declared.map.InducedPart.{InducedPart}
 use Rattle.report.specs.declared.map.MapPart.{MapPart}
-use Rattle.report_text_law.specs.Lines.{Chain, Line, complex_line, facet_line, degree_line, below_line, class_line, product_line, with_line, operation_line, cartan_yes, cartan_no, cycle_line, end_line, map_line, induced_line, done_line, columns_from, degree_lines, degrees_from, pair_lines, product_lines, operation_lines, cartan_lines, complex_lines, send_of, induced_lines, map_lines, certificate_lines}
-use Rattle.report_text_law.specs.declared.state.Graded.{Graded}
-use Rattle.report_text_law.specs.declared.state.Multiplied.{Multiplied}
-use Rattle.report_text_law.specs.declared.state.Operated.{Operated}
-use Rattle.report_text_law.specs.declared.state.Judged.{Judged}
-use Rattle.report_text_law.specs.declared.state.ComplexStage.{ComplexStage}
-use Rattle.report_text_law.specs.declared.state.ComplexStage.TheVariants.{Facets, Degree, Product, Pair, Operation, Values, Yes, No, Cartans}
-use Rattle.report_text_law.specs.declared.state.MapHead.{MapHead}
-use Rattle.report_text_law.specs.declared.state.Mapped.{Mapped}
-use Rattle.report_text_law.specs.declared.state.MapStage.{MapStage}
-use Rattle.report_text_law.specs.declared.state.MapStage.TheVariants.{Sends, Induced, InducedValues}
-use Rattle.report_text_law.specs.declared.state.Finding.{Finding}
-use Rattle.report_text_law.specs.declared.state.State.{State}
-use Rattle.report_text_law.specs.declared.state.State.TheVariants.{AtStart, Between, InComplex, BetweenMaps, InMap, Finished}
-use Rattle.report_text_law.specs.Machine.{◌>>=◌, with_degree, with_product, with_operation, with_cartan, with_complex, with_column, with_send, with_induced, with_induced_column, graded_of, multiplied_from, multiplied_of, operated_from, operated_of, judged_from, judged_of, mapped_of, complex_of, map_of, degree_opens, column_stands, induced_stands, next, next_of_map, map_opens, move, prime_of, step, run}
+use Rattle.report_text_law.specs.Lines.{Line}
+use Rattle.report_text_law.specs.declared.state.ComplexStage.TheVariants.{Degree, Product, Pair, Operation}
+use Rattle.report_text_law.specs.declared.state.MapStage.TheVariants.{Induced}
 
 -- without looking at what is well formed
 abbrev pub moves : State → List Line → Option State

@@ -3,16 +3,10 @@ use Rattle.std.proofs.Common.{◌≡◌, ◌∙◌, ℕ, Bool, true, List, [], �
 use Rattle.std.specs.List.{list_all}
 use Rattle.std.proofs.lemmas.Bool.{and_from, and_parts}
 use Rattle.fp_field.specs.Served.{served}
-use Rattle.report_text_law.specs.WellFormed.{is_line}
+use Rattle.report_text_law.specs.Names.{is_line, heading_line, prime_line, complex_line, facet_line, degree_line, below_line, class_line, product_line, pair_line, with_line, operation_line, column_line, cartan_yes, cartan_no, cycle_line, end_line, map_line, send_line, induced_line, done_line, ComplexStage, MapStage, Finding, State, AtStart, AtPrime, Between, InComplex, BetweenMaps, InMap, Finished, ◌>>=◌, with_complex, judged_of, mapped_of, complex_of, map_of, next, next_of_map, in_complex, in_map, move, prime_of, step}
 use Rattle.report_text_law.proofs.Written.{written, move_law, some_same, bind_some, guard_some}
 use Rattle.report.specs.declared.map.MapPart.{MapPart}
-use Rattle.report_text_law.specs.Lines.{Line, heading_line, prime_line, complex_line, facet_line, degree_line, below_line, class_line, product_line, pair_line, with_line, operation_line, column_line, cartan_yes, cartan_no, cycle_line, end_line, map_line, send_line, induced_line, done_line}
-use Rattle.report_text_law.specs.declared.state.ComplexStage.{ComplexStage}
-use Rattle.report_text_law.specs.declared.state.MapStage.{MapStage}
-use Rattle.report_text_law.specs.declared.state.Finding.{Finding}
-use Rattle.report_text_law.specs.declared.state.State.{State}
-use Rattle.report_text_law.specs.declared.state.State.TheVariants.{AtStart, AtPrime, Between, InComplex, BetweenMaps, InMap, Finished}
-use Rattle.report_text_law.specs.Machine.{◌>>=◌, with_complex, judged_of, mapped_of, complex_of, map_of, next, next_of_map, in_complex, in_map, move, prime_of, step}
+use Rattle.report_text_law.specs.Lines.{Line}
 
 -- the prime of a state behind the line `prime P`
 abbrev pub IsAt : ℕ → State → Type 0

@@ -1,24 +1,22 @@
 -- The line that is guessed from a spelling.
-use Rattle.std.proofs.Common.{◌≡◌, ◌∙◌, ℕ, ◌+◌, ◌-◌, ◌*◌, ◌<◌, ◌≤◌, ◌^◌, ◌⊎◌, inl, inr, Bool, true, false, cond, ◌&&◌, List, [], ◌∷◌, ◌++◌, length, ap, ap₂, refl, sym, subst, arith, Some, rules, lit<}
-use Rattle.std.specs.Prelude.{◌==◌, map, codes, nat_lt, nat_le, ◌||◌}
+use Rattle.std.proofs.Common.{◌≡◌, ◌∙◌, ℕ, ◌+◌, ◌-◌, ◌*◌, ◌<◌, ◌≤◌, ◌^◌, ◌⊎◌, inl, inr, Bool, true, false, cond, ◌&&◌, List, [], ◌∷◌, ◌++◌, length, ap, ap₂, refl, sym, subst, arith, Some, rules, lit<, ◌==◌, map, codes, nat_lt, nat_le, ◌||◌, eqb-true, ltb-true, lt-ltb, le-ltb, leb-true, ne_eqb}
 use Rattle.std.specs.List.{slice_split, list_all}
 use Rattle.std.specs.Fmt.{decimal}
 use Rattle.std.specs.Str.{bytes_eq}
 use Rattle.std.proofs.lemmas.Fmt.{decimal_is_IsNumeral}
-use Rattle.std.proofs.lemmas.Bool.{and_parts, cases_Bool, eqb-true, ltb-true, lt-ltb, le-ltb, leb-true, or_cases, ne_eqb}
+use Rattle.std.proofs.lemmas.Bool.{and_parts, cases_Bool, or_cases}
 use Rattle.std.proofs.lemmas.Slice.Eq.{bytes_eq-Decides}
 use Rattle.fp_field.specs.Served.{served}
-use Rattle.complex_file.specs.Text.{is_name, is_letter, is_digit, is_name_byte, begins_with_letter}
+use Rattle.complex_file.specs.Names.{is_name, is_letter, is_digit, is_name_byte, begins_with_letter}
 use Rattle.report.specs.declared.columns.OpWord.{OpWord}
-use Rattle.report.specs.declared.columns.OpWord.TheVariants.{Sq, Power, BocksteinPower}
+use Rattle.report.specs.declared.columns.OpWord.TheVariants.{Sq}
 use Rattle.report.specs.declared.form.Form.TheVariants.{Certificate}
-use Rattle.report_text_law.specs.Lines.{Chain, Line, heading_line, prime_line, complex_line, facet_line, degree_line, below_line, class_line, product_line, pair_line, with_line, operation_line, column_line, cartan_yes, cartan_no, cycle_line, end_line, map_line, send_line, induced_line, done_line}
-use Rattle.report_text_law.specs.Spelling.{joined, words, term_word, chain_words, op_word}
-use Rattle.report_text_law.specs.WellFormed.{is_line, is_u32, is_vertex, is_simplex, is_unit, is_term, is_chain, are_values, ascends, terms_ascend}
+use Rattle.report.specs.declared.columns.OpWord.TheVariants.{Power, BocksteinPower}
+use Rattle.report_text_law.specs.Names.{Chain, heading_line, prime_line, complex_line, facet_line, degree_line, below_line, class_line, product_line, pair_line, with_line, operation_line, column_line, cartan_yes, cartan_no, cycle_line, end_line, map_line, send_line, induced_line, done_line, joined, words, term_word, chain_words, op_word, is_line, is_u32, is_vertex, is_simplex, is_unit, is_term, is_chain, are_values, ascends, terms_ascend, with_digit, number_after, number, numbers, term_pieces, term_of, chain_of, op_of, guess_pair, guess}
+use Rattle.report_text_law.specs.Lines.{Line}
 use Rattle.std.specs.Char.{digit_value}
 use Rattle.std.specs.Str.Parse.{AllDigits, digits_value_after}
 use Rattle.std.proofs.lemmas.Str.Parse.{digit_from_value}
-use Rattle.report_text_law.specs.Bytes.{with_digit, number_after, number, numbers, term_pieces, term_of, chain_of, op_of, guess_pair, guess}
 use Rattle.report_text_law.proofs.Free.{Free, EachFree, free_joined, free_decimal, split_joined}
 
 digits_grow : (n : ℕ) (ds : List ℕ) → n ≤ digits_value_after 10 n ds

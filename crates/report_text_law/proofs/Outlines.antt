@@ -1,8 +1,7 @@
 -- The text of an outline is the text of the report.
-use Rattle.std.proofs.Common.{◌≡◌, ◌∙◌, ℕ, ◌+◌, Bool, true, false, List, [], ◌∷◌, ◌++◌, length, ap, ap₂, refl, sym}
-use Rattle.std.specs.Prelude.{map, flat_map}
+use Rattle.std.proofs.Common.{◌≡◌, ◌∙◌, ℕ, ◌+◌, Bool, true, false, List, [], ◌∷◌, ◌++◌, length, ap, ap₂, refl, sym, map, flat_map}
 use Rattle.std.proofs.lemmas.Grind.{flat_map-append}
-use Rattle.report.specs.Forms.{has_details, has_tables, details, tables, outline, outline_degree, outline_column, outline_pair, outline_answer, outline_product, outline_operation, outline_line, outline_complex, outline_induced, outline_map}
+use Rattle.report.specs.Names.{has_details, has_tables, details, tables, outline, outline_degree, outline_column, outline_pair, outline_answer, outline_product, outline_operation, outline_line, outline_complex, outline_induced, outline_map}
 use Rattle.report.specs.declared.columns.CartanAnswer.TheVariants.{Yes, No}
 use Rattle.report.specs.declared.columns.CartanPart.{CartanPart}
 use Rattle.report.specs.declared.columns.CartanAnswer.{CartanAnswer}
@@ -17,9 +16,8 @@ use Rattle.report.specs.declared.form.Form.TheVariants.{Basis, Short, Certificat
 use Rattle.report.specs.declared.job.Report.{Report}
 use Rattle.report.specs.declared.map.InducedPart.{InducedPart}
 use Rattle.report.specs.declared.map.MapPart.{MapPart}
-use Rattle.report_text_law.specs.Laws.{OutlineLaw}
-use Rattle.report_text_law.specs.Lines.{Chain, Line, facet_line, below_line, class_line, with_line, cycle_line, cartan_yes, cartan_no, column_line, pair_line, degree_line, complex_line, end_line, map_line, product_line, operation_line, induced_line, columns_from, degree_lines, degrees_from, pair_lines, product_lines, operation_lines, answer_lines, cartan_lines, table_lines, complex_lines, send_of, induced_lines, map_lines, heading_line, prime_line, done_line}
-use Rattle.report_text_law.specs.Spelling.{shown, printed}
+use Rattle.report_text_law.specs.Names.{OutlineLaw, Chain, facet_line, below_line, class_line, with_line, cycle_line, cartan_yes, cartan_no, column_line, pair_line, degree_line, complex_line, end_line, map_line, product_line, operation_line, induced_line, columns_from, degree_lines, degrees_from, pair_lines, product_lines, operation_lines, answer_lines, cartan_lines, table_lines, complex_lines, send_of, induced_lines, map_lines, heading_line, prime_line, done_line, shown, printed}
+use Rattle.report_text_law.specs.Lines.{Line}
 use Rattle.report_text_law.specs.Text.{text_of}
 
 -- lines in two parts, of which each is printed alike

@@ -1,26 +1,16 @@
 -- What is read is spelled so, and the lines that are taken begin a certificate.
-use Rattle.std.proofs.Common.{◌≡◌, ◌∙◌, ℕ, zero, suc, true, List, [], ◌∷◌, ◌++◌, ap, refl, sym, subst, append_assoc, Some, None}
+use Rattle.std.proofs.Common.{◌≡◌, ◌∙◌, ℕ, zero, suc, true, List, [], ◌∷◌, ◌++◌, ap, refl, sym, subst, append_assoc, Some, None, flat_map, append-nil}
 use Rattle.std.specs.declared.option.Option.{Option}
-use Rattle.std.specs.Prelude.{flat_map}
 use Rattle.std.specs.List.{list_all}
-use Rattle.std.proofs.lemmas.List.{append-nil}
-use Rattle.report_text_law.specs.WellFormed.{is_line}
-use Rattle.report_text_law.specs.Certificates.{IsCertificate, Begins}
+use Rattle.report_text_law.specs.Names.{is_line, IsCertificate, Begins, Chain, heading_line, prime_line, class_line, with_line, cycle_line, end_line, done_line, map_lines, certificate_lines, Graded, ComplexStage, Facets, Values, Yes, No, Cartans, MapStage, Sends, InducedValues, Finding, State, AtStart, AtPrime, Between, InComplex, BetweenMaps, InMap, Finished, ◌>>=◌, report_of, move, prime_of, step, run}
 use Rattle.report_text_law.proofs.Written.{written, front, move_law, some_same, bind_some, guard_some}
 use Rattle.report.specs.declared.job.Report.{Report}
+use Rattle.report.specs.declared.map.MapPart.{MapPart}
 use Rattle.report_text_law.proofs.Fine.{IsFine, fine_law}
 use Rattle.report_text_law.proofs.Again.{again, finding}
-use Rattle.report.specs.declared.map.MapPart.{MapPart}
-use Rattle.report_text_law.specs.Lines.{Chain, Line, heading_line, prime_line, class_line, with_line, cycle_line, end_line, done_line, map_lines, certificate_lines}
-use Rattle.report_text_law.specs.declared.state.Graded.{Graded}
-use Rattle.report_text_law.specs.declared.state.ComplexStage.{ComplexStage}
-use Rattle.report_text_law.specs.declared.state.ComplexStage.TheVariants.{Facets, Degree, Product, Pair, Operation, Values, Yes, No, Cartans}
-use Rattle.report_text_law.specs.declared.state.MapStage.{MapStage}
-use Rattle.report_text_law.specs.declared.state.MapStage.TheVariants.{Sends, Induced, InducedValues}
-use Rattle.report_text_law.specs.declared.state.Finding.{Finding}
-use Rattle.report_text_law.specs.declared.state.State.{State}
-use Rattle.report_text_law.specs.declared.state.State.TheVariants.{AtStart, AtPrime, Between, InComplex, BetweenMaps, InMap, Finished}
-use Rattle.report_text_law.specs.Machine.{◌>>=◌, report_of, move, prime_of, step, run}
+use Rattle.report_text_law.specs.Lines.{Line}
+use Rattle.report_text_law.specs.declared.state.ComplexStage.TheVariants.{Degree, Product, Pair, Operation}
+use Rattle.report_text_law.specs.declared.state.MapStage.TheVariants.{Induced}
 
 run_law : (s : State) (ls : List Line) (t : State) → run s ls ≡ Some t → IsFine s → (written t ≡ written s ++ ls) × IsFine t
 run_law s [] t e fine =

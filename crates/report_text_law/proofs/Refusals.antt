@@ -1,23 +1,14 @@
 -- What a whole text spells, and its first bad line.
-use Rattle.std.proofs.Common.{◌≡◌, ◌∙◌, ℕ, zero, suc, ◌+◌, ◌<◌, ◌≤◌, Bool, true, false, cond, List, [], ◌∷◌, ◌++◌, length, length-append, take, drop, ap, refl, sym, subst, arith, append_assoc, Some, None, rules}
-use Rattle.std.specs.Prelude.{◌==◌, map, flat_map, Ok, Err, Result}
+use Rattle.std.proofs.Common.{◌≡◌, ◌∙◌, ℕ, zero, suc, ◌+◌, ◌<◌, ◌≤◌, Bool, true, false, cond, List, [], ◌∷◌, ◌++◌, length, length-append, take, drop, ap, refl, sym, subst, arith, append_assoc, Some, None, rules, ◌==◌, map, flat_map, Ok, Err, Result, append-nil}
 use Rattle.std.specs.declared.option.Option.{Option}
 use Rattle.std.specs.List.{onto_first, join_with_byte}
 use Rattle.std.proofs.lemmas.List.Splits.{join_with_byte-slice_split}
-use Rattle.std.proofs.lemmas.List.{append-nil, take-append-le}
+use Rattle.std.proofs.lemmas.List.{take-append-le}
 use Rattle.report.specs.declared.job.Report.{Report}
 use Rattle.report.specs.declared.map.MapPart.{MapPart}
 use Rattle.report.specs.declared.form.Form.TheVariants.{Certificate}
-use Rattle.report_text_law.specs.declared.state.Finding.{Finding}
-use Rattle.report_text_law.specs.declared.state.State.{State}
-use Rattle.report_text_law.specs.declared.state.State.TheVariants.{AtStart, AtPrime, Between, InComplex, BetweenMaps, InMap, Finished}
-use Rattle.report_text_law.specs.Lines.{certificate_lines}
-use Rattle.report_text_law.specs.Spelling.{ended}
+use Rattle.report_text_law.specs.Names.{Finding, State, AtStart, AtPrime, Between, InComplex, BetweenMaps, InMap, Finished, certificate_lines, ended, report_of, step, ◌>>=◌, spelled, line_at, read, ended_at, after, or_refused, read_from, read_text, pieces, Spells, BeginsText, IsRefused, ReadingLaw, OneReport, OneRefusedLine}
 use Rattle.report_text_law.specs.Text.{text_of}
-use Rattle.report_text_law.specs.Machine.{report_of, step, ◌>>=◌}
-use Rattle.report_text_law.specs.Bytes.{spelled, line_at, read, ended_at, after, or_refused, read_from, read_text}
-use Rattle.report_text_law.specs.Certificates.{pieces, Spells, BeginsText, IsRefused}
-use Rattle.report_text_law.specs.Laws.{ReadingLaw, OneReport, OneRefusedLine}
 use Rattle.report_text_law.proofs.Written.{bind_some, some_same}
 use Rattle.report_text_law.proofs.Reading.{behind, finished_with}
 use Rattle.report_text_law.proofs.Free.{EachFree, split_at}

@@ -1,7 +1,6 @@
 -- The same of texts.
-use Rattle.std.proofs.Common.{◌≡◌, ◌∙◌, ℕ, ◌<◌, ◌^◌, Bool, true, cond, List, [], ◌∷◌, ◌++◌, ap, ap₂, refl, sym, subst, append_assoc, Some, None, rules, lit<}
+use Rattle.std.proofs.Common.{◌≡◌, ◌∙◌, ℕ, ◌<◌, ◌^◌, Bool, true, cond, List, [], ◌∷◌, ◌++◌, ap, ap₂, refl, sym, subst, append_assoc, Some, None, rules, lit<, ◌==◌, map, flat_map}
 use Rattle.std.specs.declared.option.Option.{Option}
-use Rattle.std.specs.Prelude.{◌==◌, map, flat_map}
 use Rattle.std.specs.List.{slice_split, list_all}
 use Rattle.std.specs.Str.{bytes_eq}
 use Rattle.std.proofs.lemmas.Bool.{and_parts}
@@ -12,16 +11,10 @@ use Rattle.fp_field.specs.Served.{served}
 use Rattle.report.specs.declared.job.Report.{Report}
 use Rattle.report.specs.declared.form.Form.TheVariants.{Certificate}
 use Rattle.report.specs.declared.map.MapPart.{MapPart}
-use Rattle.report_text_law.specs.Lines.{Line, heading_line, prime_line, complex_line, facet_line, degree_line, below_line, class_line, product_line, pair_line, with_line, operation_line, column_line, cartan_yes, cartan_no, cycle_line, end_line, map_line, send_line, induced_line, done_line, complex_lines, map_lines, certificate_lines}
-use Rattle.report_text_law.specs.declared.state.Finding.{Finding}
-use Rattle.report_text_law.specs.declared.state.State.{State}
-use Rattle.report_text_law.specs.declared.state.State.TheVariants.{AtStart, AtPrime, Between, InComplex, BetweenMaps, InMap, Finished}
-use Rattle.report_text_law.specs.Spelling.{joined, words, ended, shown, printed}
+use Rattle.report_text_law.specs.Lines.{Line}
+use Rattle.report_text_law.specs.Names.{heading_line, prime_line, complex_line, facet_line, degree_line, below_line, class_line, product_line, pair_line, with_line, operation_line, column_line, cartan_yes, cartan_no, cycle_line, end_line, map_line, send_line, induced_line, done_line, complex_lines, map_lines, certificate_lines, Finding, State, AtStart, AtPrime, Between, InComplex, BetweenMaps, InMap, Finished, joined, words, ended, shown, printed, is_line, ◌>>=◌, report_of, move, prime_of, step, run, BeginsText, Spells, spelled, guess, if_same, line_at, read}
 use Rattle.report_text_law.specs.Text.{text_of}
-use Rattle.report_text_law.specs.WellFormed.{is_line, is_well_formed}
-use Rattle.report_text_law.specs.Machine.{◌>>=◌, report_of, move, prime_of, step, run}
-use Rattle.report_text_law.specs.Certificates.{BeginsText, Spells}
-use Rattle.report_text_law.specs.Bytes.{spelled, guess, if_same, line_at, read}
+use Rattle.report_text_law.specs.WellFormed.{is_well_formed}
 use Rattle.report_text_law.proofs.Written.{stage_lines, map_stage_lines, bind_some, guard_some, some_same}
 use Rattle.report_text_law.proofs.Fine.{IsFine, fine_law}
 use Rattle.report_text_law.proofs.Reading.{sound, taken_begins, begins_taken, complete, finished_with}

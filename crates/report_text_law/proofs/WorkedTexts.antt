@@ -2,7 +2,7 @@
 use Rattle.std.proofs.Common.{refl}
 use Rattle.std.specs.Fmt.{digits}
 use Rattle.report_text_law.specs.Text.{text_of}
-use Rattle.report_text_law.specs.Rows.{WorkedTexts}
+use Rattle.report_text_law.specs.Names.{WorkedTexts}
 
 pub worked_texts : WorkedTexts
 unfolding text_of digits

@@ -1,29 +1,16 @@
 -- What a state stands for: the lines that were read.
-use Rattle.std.proofs.Common.{◌≡◌, ◌∙◌, ℕ, zero, suc, ◌+◌, Bool, true, false, cond, List, [], ◌∷◌, ◌++◌, length, ap, refl, sym, subst, arith, append_assoc, Some, None, length-append, rules}
+use Rattle.std.proofs.Common.{◌≡◌, ◌∙◌, ℕ, zero, suc, ◌+◌, Bool, true, false, cond, List, [], ◌∷◌, ◌++◌, length, ap, refl, sym, subst, arith, append_assoc, Some, None, length-append, rules, map, flat_map, ◌==◌, append-nil}
 use Rattle.std.specs.declared.option.Option.{Option}
-use Rattle.std.specs.Prelude.{map, flat_map, ◌==◌}
-use Rattle.std.proofs.lemmas.List.{append-nil, map-append}
+use Rattle.std.proofs.lemmas.List.{map-append}
 use Rattle.std.proofs.lemmas.Grind.{flat_map-append}
-use Rattle.report_text_law.specs.declared.state.ComplexHead.{ComplexHead}
+use Rattle.report_text_law.specs.Names.{ComplexHead, Chain, heading_line, prime_line, complex_line, facet_line, degree_line, below_line, class_line, product_line, pair_line, with_line, operation_line, column_line, cartan_yes, cartan_no, cycle_line, end_line, map_line, send_line, induced_line, done_line, columns_from, degree_lines, degrees_from, pair_lines, product_lines, operation_lines, cartan_lines, complex_lines, send_of, induced_lines, map_lines, Graded, Multiplied, Operated, Judged, ComplexStage, Facets, Values, Yes, No, Cartans, MapHead, Mapped, MapStage, Sends, InducedValues, Finding, State, AtStart, AtPrime, Between, InComplex, BetweenMaps, InMap, Finished, ◌>>=◌, with_degree, with_complex, graded_of, multiplied_from, multiplied_of, operated_from, operated_of, judged_from, judged_of, mapped_of, complex_of, map_of, degree_opens, facet_stands, below_stands, class_stands, pair_stands, values_stand, with_stands, cycle_stands, next, next_of_map, in_complex, in_map, move}
 use Rattle.report.specs.declared.columns.CartanAnswer.TheVariants.{Yes as answers_yes, No as answers_no}
 use Rattle.report.specs.declared.columns.Column.{Column}
 use Rattle.report.specs.declared.complex.DegreePart.{DegreePart}
 use Rattle.report.specs.declared.map.MapPart.{MapPart}
-use Rattle.report_text_law.specs.Lines.{Chain, Line, heading_line, prime_line, complex_line, facet_line, degree_line, below_line, class_line, product_line, pair_line, with_line, operation_line, column_line, cartan_yes, cartan_no, cycle_line, end_line, map_line, send_line, induced_line, done_line, columns_from, degree_lines, degrees_from, pair_lines, product_lines, operation_lines, cartan_lines, complex_lines, send_of, induced_lines, map_lines}
-use Rattle.report_text_law.specs.declared.state.Graded.{Graded}
-use Rattle.report_text_law.specs.declared.state.Multiplied.{Multiplied}
-use Rattle.report_text_law.specs.declared.state.Operated.{Operated}
-use Rattle.report_text_law.specs.declared.state.Judged.{Judged}
-use Rattle.report_text_law.specs.declared.state.ComplexStage.{ComplexStage}
-use Rattle.report_text_law.specs.declared.state.ComplexStage.TheVariants.{Facets, Degree, Product, Pair, Operation, Values, Yes, No, Cartans}
-use Rattle.report_text_law.specs.declared.state.MapHead.{MapHead}
-use Rattle.report_text_law.specs.declared.state.Mapped.{Mapped}
-use Rattle.report_text_law.specs.declared.state.MapStage.{MapStage}
-use Rattle.report_text_law.specs.declared.state.MapStage.TheVariants.{Sends, Induced, InducedValues}
-use Rattle.report_text_law.specs.declared.state.Finding.{Finding}
-use Rattle.report_text_law.specs.declared.state.State.{State}
-use Rattle.report_text_law.specs.declared.state.State.TheVariants.{AtStart, AtPrime, Between, InComplex, BetweenMaps, InMap, Finished}
-use Rattle.report_text_law.specs.Machine.{◌>>=◌, with_degree, with_complex, graded_of, multiplied_from, multiplied_of, operated_from, operated_of, judged_from, judged_of, mapped_of, complex_of, map_of, degree_opens, facet_stands, below_stands, class_stands, pair_stands, values_stand, with_stands, cycle_stands, next, next_of_map, in_complex, in_map, move}
+use Rattle.report_text_law.specs.Lines.{Line}
+use Rattle.report_text_law.specs.declared.state.ComplexStage.TheVariants.{Degree, Product, Pair, Operation}
+use Rattle.report_text_law.specs.declared.state.MapStage.TheVariants.{Induced}
 
 abbrev pub block_lines : ComplexHead → List Line
 block_lines b = complex_line b.name ∷ map facet_line b.facets

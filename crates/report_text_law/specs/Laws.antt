@@ -1,6 +1,6 @@
 -- The laws of reading.
 use Rattle.std.specs.Prelude.{◌≡◌, ℕ, true, List, Ok, Err}
-use Rattle.report.specs.Forms.{outline}
+use Rattle.report.specs.Names.{outline}
 use Rattle.report.specs.declared.job.Report.{Report}
 use Rattle.report.specs.declared.form.Form.{Form}
 use Rattle.report.specs.declared.form.Form.TheVariants.{Certificate}

@@ -7,3 +7,4 @@ pub mod Rows
 pub mod Spelling
 pub mod Text
 pub mod WellFormed
+pub mod Names

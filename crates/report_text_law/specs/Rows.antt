@@ -4,7 +4,7 @@ use Rattle.report.specs.declared.columns.CartanAnswer.TheVariants.{Yes}
 use Rattle.report.specs.declared.columns.CartanPart.{CartanPart}
 use Rattle.report.specs.declared.columns.Column.{Column}
 use Rattle.report.specs.declared.columns.OpWord.{OpWord}
-use Rattle.report.specs.declared.columns.OpWord.TheVariants.{Sq, Power, BocksteinPower}
+use Rattle.report.specs.declared.columns.OpWord.TheVariants.{Sq}
 use Rattle.report.specs.declared.columns.OperationPart.{OperationPart}
 use Rattle.report.specs.declared.columns.PairColumn.{PairColumn}
 use Rattle.report.specs.declared.columns.ProductPart.{ProductPart}
@@ -12,6 +12,7 @@ use Rattle.report.specs.declared.complex.ComplexPart.{ComplexPart}
 use Rattle.report.specs.declared.complex.DegreePart.{DegreePart}
 use Rattle.report.specs.declared.job.Report.{Report}
 use Rattle.report.specs.declared.form.Form.TheVariants.{Certificate, Short}
+use Rattle.report.specs.declared.columns.OpWord.TheVariants.{Power, BocksteinPower}
 use Rattle.report_text_law.specs.Spelling.{ended}
 use Rattle.report_text_law.specs.Text.{text_of}
 

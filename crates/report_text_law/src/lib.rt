@@ -1,8 +1,7 @@
 //! The lines of a certificate, how they are spelled, and how they are read line by line.
 #![tactic(auto)]
 
-ghost use Rattle.report_text_law.specs.Laws.{OneRefusedLine, OneReport, OutlineLaw, ReadingLaw};
-ghost use Rattle.report_text_law.specs.Rows.{WorkedTexts};
+ghost use Rattle.report_text_law.specs.Names.{OneRefusedLine, OneReport, OutlineLaw, ReadingLaw, WorkedTexts};
 
 mod line;
 mod state;

@@ -1,7 +1,6 @@
-use Rattle.std.proofs.Common.{◌≡◌, take}
-use Rattle.std.specs.Prelude.{flat_map}
-use Rattle.complex_file.specs.Views.{texts}
-use Rattle.report_text_law.specs.Bytes.{term_of}
+use Rattle.std.proofs.Common.{◌≡◌, take, flat_map}
+use Rattle.complex_file.specs.Names.{texts}
+use Rattle.report_text_law.specs.Names.{term_of}
 use Rattle.report_lines.proofs.chain.chain_of.Given as goal
 
 abbrev pub invariant-loop-word : goal.invariant-loop-word

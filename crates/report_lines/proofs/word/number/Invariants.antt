@@ -1,5 +1,5 @@
 use Rattle.std.proofs.Common.{◌≡◌, drop}
-use Rattle.report_text_law.specs.Bytes.{number_after}
+use Rattle.report_text_law.specs.Names.{number_after}
 use Rattle.report_lines.proofs.word.number.Given as goal
 
 abbrev pub invariant-loop-digit : goal.invariant-loop-digit

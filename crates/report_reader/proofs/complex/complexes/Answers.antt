@@ -1,6 +1,5 @@
 use Rattle.std.proofs.Common.{rules}
-use Rattle.report_reader.specs.Reading.{IsItem, any}
-use Rattle.report_reader.specs.Sections.{complexes}
+use Rattle.report_reader.specs.Names.{IsItem, any, complexes}
 use Rattle.report_reader.proofs.complex.complexes.Goals as goal
 
 pub returns : goal.returns

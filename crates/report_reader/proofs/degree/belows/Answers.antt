@@ -1,6 +1,5 @@
 use Rattle.std.proofs.Common.{rules}
-use Rattle.report_reader.specs.Reading.{IsItem, any}
-use Rattle.report_reader.specs.Sections.{belows}
+use Rattle.report_reader.specs.Names.{IsItem, any, belows}
 use Rattle.report_reader.proofs.degree.belows.Goals as goal
 
 pub returns : goal.returns

@@ -1,6 +1,5 @@
 use Rattle.std.proofs.Common.{rules}
-use Rattle.report_reader.specs.Reading.{IsItem, counted}
-use Rattle.report_reader.specs.Sections.{classes}
+use Rattle.report_reader.specs.Names.{IsItem, counted, classes}
 use Rattle.report_reader.proofs.degree.classes.Goals as goal
 
 pub returns : goal.returns

@@ -1,6 +1,5 @@
 use Rattle.report_text_law.specs.declared.line.Line.TheVariants.{Degree as degree_line}
-use Rattle.report_reader.specs.Reading.{counted}
-use Rattle.report_reader.specs.Sections.{degrees}
+use Rattle.report_reader.specs.Names.{counted, degrees}
 use Rattle.report_reader.proofs.Items.{degree_opens}
 use Rattle.report_reader.proofs.Steps.{item_refused}
 use Rattle.report_reader.proofs.degree.degree.Goals as goal

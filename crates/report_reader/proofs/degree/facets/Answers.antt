@@ -1,6 +1,5 @@
 use Rattle.std.proofs.Common.{rules}
-use Rattle.report_reader.specs.Reading.{IsItem, any}
-use Rattle.report_reader.specs.Sections.{facets}
+use Rattle.report_reader.specs.Names.{IsItem, any, facets}
 use Rattle.report_reader.proofs.degree.facets.Goals as goal
 
 pub returns : goal.returns

@@ -1,6 +1,5 @@
 use Rattle.std.proofs.Common.{rules}
-use Rattle.report_reader.specs.Reading.{IsItem, any}
-use Rattle.report_reader.specs.Sections.{induced_blocks}
+use Rattle.report_reader.specs.Names.{IsItem, any, induced_blocks}
 use Rattle.report_reader.proofs.map.induced_blocks.Goals as goal
 
 pub returns : goal.returns

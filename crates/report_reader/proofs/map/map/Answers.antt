@@ -1,6 +1,5 @@
 use Rattle.report_text_law.specs.declared.line.Line.TheVariants.{Map as map_line}
-use Rattle.report_reader.specs.Reading.{any}
-use Rattle.report_reader.specs.Sections.{maps}
+use Rattle.report_reader.specs.Names.{any, maps}
 use Rattle.report_reader.proofs.Items.{map_opens}
 use Rattle.report_reader.proofs.Steps.{item_refused}
 use Rattle.report_reader.proofs.map.map.Goals as goal

@@ -1,6 +1,5 @@
 use Rattle.std.proofs.Common.{rules}
-use Rattle.report_reader.specs.Reading.{IsItem, any}
-use Rattle.report_reader.specs.Sections.{sends}
+use Rattle.report_reader.specs.Names.{IsItem, any, sends}
 use Rattle.report_reader.proofs.map.sends.Goals as goal
 
 pub returns : goal.returns

@@ -1,6 +1,5 @@
 use Rattle.std.proofs.Common.{rules}
-use Rattle.report_reader.specs.Reading.{IsItem, any}
-use Rattle.report_reader.specs.Sections.{cartans}
+use Rattle.report_reader.specs.Names.{IsItem, any, cartans}
 use Rattle.report_reader.proofs.table.cartans.Goals as goal
 
 pub returns : goal.returns

@@ -1,6 +1,5 @@
 use Rattle.report_text_law.specs.declared.line.Line.TheVariants.{Pair as pair_line}
-use Rattle.report_reader.specs.Reading.{any}
-use Rattle.report_reader.specs.Sections.{pairs}
+use Rattle.report_reader.specs.Names.{any, pairs}
 use Rattle.report_reader.proofs.Items.{pair_opens}
 use Rattle.report_reader.proofs.Steps.{item_read, item_refused}
 use Rattle.report_reader.proofs.table.pair.Goals as goal

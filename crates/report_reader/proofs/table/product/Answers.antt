@@ -1,6 +1,5 @@
 use Rattle.report_text_law.specs.declared.line.Line.TheVariants.{Product as product_line}
-use Rattle.report_reader.specs.Reading.{any}
-use Rattle.report_reader.specs.Sections.{products}
+use Rattle.report_reader.specs.Names.{any, products}
 use Rattle.report_reader.proofs.Items.{product_opens}
 use Rattle.report_reader.proofs.Steps.{item_read, item_refused}
 use Rattle.report_reader.proofs.table.product.Goals as goal

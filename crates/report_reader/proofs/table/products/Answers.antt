@@ -1,6 +1,5 @@
 use Rattle.std.proofs.Common.{rules}
-use Rattle.report_reader.specs.Reading.{IsItem, any}
-use Rattle.report_reader.specs.Sections.{products}
+use Rattle.report_reader.specs.Names.{IsItem, any, products}
 use Rattle.report_reader.proofs.table.products.Goals as goal
 
 pub returns : goal.returns
