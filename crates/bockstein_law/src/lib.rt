@@ -1,0 +1,21 @@
+//! The Bockstein of a cocycle modulo a prime: definitions and laws.
+#![tactic(auto)]
+
+ghost use Rattle.bockstein_law.specs.Laws.{BocksteinRows, ClassLaw, PowerLaw};
+
+/// The Bockstein of a cocycle is a cocycle; each lift gives the same class; on classes it is linear, and its matrix carries the
+/// coordinates of each cocycle.
+pub fn class_law()
+    ensures { ClassLaw }
+{}
+
+/// The Bockstein of a power is the Bockstein power, up to a coboundary; so the matrix of a Bockstein power is that of the
+/// Bockstein times that of the power.
+pub fn power_law()
+    ensures { PowerLaw }
+{}
+
+/// Worked rows.
+pub fn bockstein_rows()
+    ensures { BocksteinRows }
+{}
