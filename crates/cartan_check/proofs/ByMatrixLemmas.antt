@@ -1,39 +1,28 @@
 -- The sides of a line by coordinates, and the verdict on it.
-use Rattle.std.proofs.Common.{◌≡◌, ◌∙◌, Bool, true, false, ℕ, ◌+◌, ◌-◌, ◌<◌, ◌≤◌, List, [], ◌∷◌, ◌++◌, length, get_or, arith, sym, ap, ap₂, subst}
-use Rattle.std.specs.Prelude.{IsTrue, None}
+use Rattle.std.proofs.Common.{◌≡◌, ◌∙◌, Bool, true, false, ℕ, ◌+◌, ◌-◌, ◌<◌, ◌≤◌, List, [], ◌∷◌, ◌++◌, length, get_or, arith, sym, ap, ap₂, subst, IsTrue, None}
 use Rattle.fp_field.specs.Served.{served}
 use Rattle.fp_field.proofs.ServedLemmas.{served_field}
-use Rattle.linear_law.specs.Congruence.{negated, sum_over}
-use Rattle.linear_law.specs.Lists.{Each}
-use Rattle.linear_law.proofs.CongruenceLemmas.{Congruent_refl}
-use Rattle.linear_law.proofs.ListLemmas.{each_get_or, zip_push}
-use Rattle.linear_law.proofs.SumLemmas.{sum_append}
-use Rattle.simplicial_law.specs.Cochains.{Chain, Cochain as SimplexCochain, HasCoordinates}
-use Rattle.simplicial_law.specs.CanonicalClasses.{cochain_of}
-use Rattle.steenrod_law.specs.Operations.{cup_product, scaled_operation}
+use Rattle.linear_law.specs.Names.{negated, sum_over, Each}
+use Rattle.linear_law.proofs.Names.{Congruent_refl, each_get_or, zip_push, sum_append}
+use Rattle.simplicial_law.specs.Names.{Chain, Cochain as SimplexCochain, HasCoordinates, cochain_of}
+use Rattle.steenrod_law.specs.Names.{cup_product, scaled_operation}
 use Rattle.complex_index.specs.declared.indexed.Cochain.{Cochain}
-use Rattle.complex_index.specs.Levels.{level}
-use Rattle.cohomology.specs.Classes.{chains_at}
-use Rattle.cohomology.specs.Values.{cochains_at}
+use Rattle.complex_index.specs.Names.{level}
+use Rattle.cohomology.specs.Names.{chains_at, cochains_at}
 use Rattle.report.specs.declared.plan.Line.{Line}
 use Rattle.report.specs.declared.plan.Op.{Op}
-use Rattle.report_law.specs.Columns.{IsAnswer}
-use Rattle.report_law.specs.Differences.{IsCartanProduct, IsOperation}
-use Rattle.report_law.specs.Live.{cartan_op, cartan_pairs, element_degree, is_defined, target_degree}
-use Rattle.report_law.specs.Matrices.{Classes, IsVerdict, class_at, line_degree}
-use Rattle.report_law.proofs.Coordinates.{bound-of-zeros}
-use Rattle.report_law.proofs.ScaledForms.{scaled}
+use Rattle.report_law.specs.Names.{IsAnswer, IsCartanProduct, IsOperation, cartan_op, cartan_pairs, element_degree, is_defined, target_degree, Classes, IsVerdict, class_at, line_degree}
+use Rattle.report_law.proofs.Names.{bound-of-zeros, scaled}
 use Rattle.op_matrix.specs.Columns.{AreListedAs}
 use Rattle.class_matrices.specs.declared.coordinates.Coordinates.{Coordinates}
 use Rattle.class_matrices.specs.declared.matrices.Matrices.{Matrices}
-use Rattle.class_matrices.specs.Coordinates.{HasThese, IsSetting}
-use Rattle.class_matrices.specs.Sums.{unit_coordinates}
+use Rattle.class_matrices.specs.Names.{HasThese, IsSetting, unit_coordinates}
 use Rattle.class_matrices.proofs.ClassCoordinates.{class-has}
 use Rattle.cartan_check.specs.declared.Verdict.{Verdict}
 use Rattle.cartan_check.specs.declared.Verdict.TheVariants.{Yes}
 use Rattle.cartan_check.specs.ByMatrices.{HasPart, IsLessParts}
 use Rattle.cartan_check.specs.Verdicts.{listed_answer}
-use Rattle.cartan_check.proofs.DifferenceLemmas.{IsDefinedPair, defined-pairs, targets-add}
+use Rattle.line_difference.proofs.DifferenceLemmas.{IsDefinedPair, defined-pairs, targets-add}
 use Rattle.cartan_check.proofs.VerdictLemmas.{all-zero}
 
 never : IsTrue false → ⊥

@@ -1,4 +1,3 @@
 pub mod CycleLemmas
-pub mod DifferenceLemmas
 pub mod VerdictLemmas
 mod ByMatrixLemmas

@@ -1,38 +1,27 @@
 -- What a column tells of its cochain.
-use Rattle.std.proofs.Common.{◌≡◌, ℕ, zero, suc, ◌+◌, ◌-◌, ◌<◌, inl, inr, Bool, false, true, List, [], ◌∷◌, length, get_or, arith, refl, sym, ap, subst, ◌∙◌}
-use Rattle.std.specs.Prelude.{IsTrue, MatchOption, Some, None, is_some, slice_get}
+use Rattle.std.proofs.Common.{◌≡◌, ℕ, zero, suc, ◌+◌, ◌-◌, ◌<◌, inl, inr, Bool, false, true, List, [], ◌∷◌, length, get_or, arith, refl, sym, ap, subst, ◌∙◌, IsTrue, MatchOption, Some, None, is_some, slice_get}
 use Rattle.std.specs.declared.option.Option.{Option}
 use Rattle.std.proofs.lemmas.Bool.{cases_lt}
 use Rattle.std.proofs.lemmas.List.{length-map}
 use Rattle.fp_field.specs.Served.{served}
 use Rattle.fp_field.proofs.ServedLemmas.{served_field}
-use Rattle.linear_law.specs.Congruence.{negated}
-use Rattle.linear_law.proofs.CongruenceLemmas.{Congruent_of}
-use Rattle.simplicial_law.specs.Cochains.{Chain, Cochain as SimplexCochain, HasCoordinates}
-use Rattle.simplicial_law.specs.CanonicalClasses.{cochain_of}
-use Rattle.simplicial_law.specs.Places.{terms_of}
+use Rattle.linear_law.specs.Names.{negated}
+use Rattle.linear_law.proofs.Names.{Congruent_of}
+use Rattle.simplicial_law.specs.Names.{Chain, Cochain as SimplexCochain, HasCoordinates, cochain_of, terms_of}
 use Rattle.complex_index.specs.declared.indexed.Cochain.{Cochain}
-use Rattle.complex_index.specs.Levels.{IsIndexOf, level}
+use Rattle.complex_index.specs.Names.{IsIndexOf, level}
 use Rattle.cohomology.specs.declared.basis.Column.{Column}
-use Rattle.cohomology.specs.Basis.{IsColumnOf}
-use Rattle.cohomology.specs.Classes.{AreCanonicalIn, chains_at, cochain_in}
-use Rattle.cohomology.specs.Cycles.{IsCanonicalCycle}
-use Rattle.cohomology.specs.Coordinates.{IsClosedIn}
-use Rattle.cohomology.specs.Values.{cochains_at}
+use Rattle.cohomology.specs.Names.{IsColumnOf, AreCanonicalIn, chains_at, cochain_in, IsCanonicalCycle, IsClosedIn, cochains_at}
 use Rattle.may_steenrod.specs.Cochains.{IsClosed}
 use Rattle.report.specs.declared.plan.Line.{Line}
-use Rattle.report_law.specs.Columns.{IsAnswer, IsFirstValue, rest_of}
-use Rattle.report_law.specs.Differences.{IsCartanDifference}
-use Rattle.report_law.specs.Live.{cartan_pairs}
-use Rattle.report_law.specs.Matrices.{Classes, class_at, line_degree}
-use Rattle.report_law.proofs.Coordinates.{bound-of-zeros, no-combination}
-use Rattle.report_law.proofs.Lists.{get_or-past}
+use Rattle.report_law.specs.Names.{IsAnswer, IsFirstValue, rest_of, IsCartanDifference, cartan_pairs, Classes, class_at, line_degree}
+use Rattle.report_law.proofs.Names.{bound-of-zeros, no-combination, get_or-past}
 use Rattle.op_matrix.specs.Columns.{AreListedAs, IsColumnFor, primitive_terms}
 use Rattle.op_matrix.proofs.ColumnLemmas.{column-for, primitive-alike}
 use Rattle.cartan_check.specs.declared.Verdict.{Verdict}
 use Rattle.cartan_check.specs.declared.Verdict.TheVariants.{Yes, No}
-use Rattle.cartan_check.specs.Differences.{IsLess, IsVerdictFor}
-use Rattle.cartan_check.specs.Verdicts.{IsVerdictOf, listed_answer}
+use Rattle.line_difference.specs.Differences.{IsLess}
+use Rattle.cartan_check.specs.Verdicts.{IsVerdictFor, IsVerdictOf, listed_answer}
 use Rattle.cartan_check.proofs.CycleLemmas.{cycle-of}
 
 -- coordinates that are 0 for each class are 0
@@ -122,13 +111,14 @@ listed-class p levels classes all as_listed n i z at =
     go (c ∷ cs) zero e = ap (λ (d : Cochain p). terms_of (level levels n) d.row) (inside c z e)
     go (c ∷ cs) (suc k) e = go cs k e
 
-closed : (p : ℕ) (levels : List (List (List ℕ))) (line : Line) (x y d : Cochain p) → IsLess {p = p} levels line x y (cartan_pairs p line.a line.b line.n) d → IsClosedIn p levels d
-closed p levels line x y d h = subst (λ (m : ℕ). IsClosed p levels m d.row) (sym h.degree) h.closed
+closed : (p : ℕ) (levels : List (List (List ℕ))) (line : Line) (x y d : Cochain p) → IsLess {p = p} levels line x y (cartan_pairs p line.a line.b line.n) d
+    → IsClosed p levels line.a x.row → IsClosed p levels line.b y.row → IsClosedIn p levels d
+closed p levels line x y d h u v = subst (λ (m : ℕ). IsClosed p levels m d.row) (sym h.placed.degree) (h.closed u v)
 
 pub verdict-of : (p : ℕ) (keeps : Bool) (levels : List (List (List ℕ))) (classes : ℕ → List (Cochain p)) (line : Line) (x y d : Cochain p) (c : Column p) (verdict : Verdict p)
     → slice_get (classes line.a) (line.i - 1) ≡ Some x → slice_get (classes line.b) (line.j - 1) ≡ Some y → IsLess {p = p} levels line x y (cartan_pairs p line.a line.b line.n) d
-    → (IsClosedIn p levels d → IsColumnOf p keeps levels (classes d.degree) d c.values.items c.primitive) → IsVerdictFor {p = p} keeps levels d.degree (classes d.degree) c verdict → IsVerdictOf {p = p} keeps levels classes line verdict
-verdict-of p keeps levels classes line x y d c verdict at_x at_y h column v = record {
+    → IsClosed p levels line.a x.row → IsClosed p levels line.b y.row → (IsClosedIn p levels d → IsColumnOf p keeps levels (classes d.degree) d c.values.items c.primitive) → IsVerdictFor {p = p} keeps levels d.degree (classes d.degree) c verdict → IsVerdictOf {p = p} keeps levels classes line verdict
+verdict-of p keeps levels classes line x y d c verdict at_x at_y h closed_x closed_y column v = record {
   listed = λ facets all is as_listed.
       let n : ℕ = line_degree p line in
       let z : SimplexCochain = cochain_in levels n d.row in
@@ -138,11 +128,11 @@ verdict-of p keeps levels classes line x y d c verdict at_x at_y h column v = re
       let made : D (cochain_in levels line.a x.row) (cochain_in levels line.b y.row) =
       record { whole = h.whole; is_whole = h.is_whole facets is; parts = h.parts; are_parts = h.are_parts facets is; difference = h.difference facets is } in
       let A : ℕ → Type 0 = λ m. IsAnswer keeps facets m p (chains_at {p = p} (level levels m) (classes m)) (cochain_in levels m d.row) (listed_answer {p = p} levels m verdict) in
-      let answer : A n = subst A h.degree (v.answer facets d is refl (column (closed p levels line x y d h))) in
+      let answer : A n = subst A h.placed.degree (v.answer facets d is refl (column (closed p levels line x y d h closed_x closed_y))) in
       record {
         difference = z;
         is_difference = subst (λ (t : SimplexCochain). D (class_at all line.a line.i) t) w (subst (λ (s : SimplexCochain). D s (cochain_in levels line.b y.row)) u made);
         is_answer = subst (λ (cs : List Chain). IsAnswer keeps facets n p cs z (listed_answer {p = p} levels n verdict)) (sym (as_listed.each n)) answer;
       };
-  kept = v.kept d (column (closed p levels line x y d h));
+  kept = v.kept d (column (closed p levels line x y d h closed_x closed_y));
 }

@@ -1,24 +1,18 @@
--- Verdicts on Cartan lines, and what is stored for them.
-use Rattle.std.specs.Prelude.{◌≡◌, ℕ, ◌+◌, Bool, List, [], ℤ, Some, None, is_some}
+-- Verdicts on Cartan lines.
+use Rattle.std.specs.Prelude.{◌≡◌, ℕ, Bool, List, [], Some, None, is_some}
 use Rattle.std.specs.declared.option.Option.{Option}
-use Rattle.linear_law.specs.Lists.{Each}
-use Rattle.simplicial_law.specs.Cochains.{Chain}
-use Rattle.simplicial_law.specs.Places.{terms_of}
+use Rattle.simplicial_law.specs.Names.{Chain, terms_of}
 use Rattle.complex_index.specs.declared.indexed.Cochain.{Cochain}
-use Rattle.complex_index.specs.Levels.{IsIndexOf, level}
+use Rattle.complex_index.specs.Names.{IsIndexOf, level}
+use Rattle.cohomology.specs.declared.basis.Column.{Column}
+use Rattle.cohomology.specs.Names.{IsColumnOf, chains_at, cochain_in}
 use Rattle.report.specs.declared.columns.CartanAnswer.{CartanAnswer}
 use Rattle.report.specs.declared.columns.CartanAnswer.TheVariants.{Yes as ListedYes, No as ListedNo}
 use Rattle.report.specs.declared.plan.Line.{Line}
-use Rattle.report_law.specs.Live.{cartan_op, cartan_pairs}
-use Rattle.report_law.specs.Matrices.{Classes, IsVerdict, line_degree}
-use Rattle.op_matrix.specs.Columns.{AreListedAs, HasElement, primitive_terms}
+use Rattle.report_law.specs.Names.{IsAnswer, Classes, IsVerdict, line_degree}
+use Rattle.op_matrix.specs.Columns.{AreListedAs, primitive_terms}
 use Rattle.cartan_check.specs.declared.Verdict.{Verdict}
 use Rattle.cartan_check.specs.declared.Verdict.TheVariants.{Yes, No}
-
--- the May elements of the operations of a line are stored: of that on the product, and of those on the two classes
-pub record HasElements (p : ℕ) (table : List (ℕ × List (List ℕ × ℤ))) (line : Line) : Type 0 where
-  pub whole : HasElement p table (line.a + line.b) (cartan_op p line.n)
-  pub parts : Each (λ e. HasElement p table line.a (cartan_op p e.0) × HasElement p table line.b (cartan_op p e.1)) (cartan_pairs p line.a line.b line.n)
 
 -- the terms of a cycle of degree n; none where none is kept
 abbrev pub cycle_terms : {p : ℕ} → List (List (List ℕ)) → ℕ → Option (Cochain p) → Chain
@@ -40,3 +34,9 @@ pub record IsVerdictOf {p : ℕ} (detailed : Bool) (levels : List (List (List �
   pub listed : (facets : List (List ℕ)) (all : Classes) → IsIndexOf facets levels → AreListedAs levels classes all →
       IsVerdict detailed facets p all line (listed_answer levels (line_degree p line) verdict)
   pub kept : HasChain detailed verdict
+
+-- the verdict is that for each cochain z of degree n that has this column
+pub record IsVerdictFor {p : ℕ} (keeps : Bool) (levels : List (List (List ℕ))) (n : ℕ) (classes : List (Cochain p)) (column : Column p) (verdict : Verdict p) : Type 0 where
+  pub answer : (facets : List (List ℕ)) (z : Cochain p) → IsIndexOf facets levels → z.degree ≡ n → IsColumnOf p keeps levels classes z column.values.items column.primitive →
+      IsAnswer keeps facets n p (chains_at (level levels n) classes) (cochain_in levels n z.row) (listed_answer levels n verdict)
+  pub kept : (z : Cochain p) → IsColumnOf p keeps levels classes z column.values.items column.primitive → HasChain keeps verdict

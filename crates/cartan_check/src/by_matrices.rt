@@ -1,16 +1,11 @@
 ghost use Rattle.std.specs.Prelude.{◌≡◌, ◌≤◌, ◌+◌, ℕ, List, length, false, true, IfOk, IsTrue};
 ghost use Rattle.fp_field.specs.Served.{served};
-ghost use Rattle.simplicial_law.specs.Cochains.{Cochain as SimplexCochain, HasCoordinates};
+ghost use Rattle.simplicial_law.specs.Names.{Cochain as SimplexCochain, HasCoordinates};
 ghost use Rattle.complex_index.specs.declared.indexed.Cochain.{Cochain};
-ghost use Rattle.complex_index.specs.Levels.{level};
-ghost use Rattle.cohomology.specs.Classes.{chains_at};
-ghost use Rattle.cohomology.specs.Values.{cochains_at};
-ghost use Rattle.report_law.specs.Columns.{IsAnswer};
-ghost use Rattle.report_law.specs.Live.{cartan_op as cartan_op_at, cartan_pairs as cartan_pairs_of, is_defined, target_degree};
-ghost use Rattle.report_law.specs.Matrices.{line_degree};
-ghost use Rattle.class_matrices.specs.Coordinates.{HasThese, IsSetting};
-ghost use Rattle.class_matrices.specs.Listed.{class_counts};
-ghost use Rattle.class_matrices.specs.Matrices.{AreMatrices};
+ghost use Rattle.complex_index.specs.Names.{level};
+ghost use Rattle.cohomology.specs.Names.{chains_at, cochains_at};
+ghost use Rattle.report_law.specs.Names.{IsAnswer, cartan_op as cartan_op_at, cartan_pairs as cartan_pairs_of, is_defined, target_degree, line_degree};
+ghost use Rattle.class_matrices.specs.Names.{HasThese, IsSetting, class_counts, AreMatrices};
 ghost use Rattle.cartan_check.specs.ByMatrices.{HasPart, IsLessParts};
 ghost use Rattle.cartan_check.specs.Verdicts.{HasChain, IsVerdictOf, listed_answer};
 

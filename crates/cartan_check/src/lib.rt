@@ -5,21 +5,18 @@ mod by_matrices;
 
 ghost use Rattle.std.specs.Prelude.{◌≡◌, ◌≤◌, ◌<◌, ◌+◌, ℕ, List, length, get_or, true, IfOk, IsTrue, MatchOption};
 ghost use Rattle.fp_field.specs.Served.{served};
-ghost use Rattle.report_law.specs.Columns.{IsFirstValue};
-ghost use Rattle.report_law.specs.Live.{cartan_op as cartan_op_at, cartan_pairs as cartan_pairs_of, is_defined};
-ghost use Rattle.cartan_check.specs.Differences.{IsCocycleIn, IsLess, IsLinePair, IsPart, IsVerdictFor};
-ghost use Rattle.cartan_check.specs.Verdicts.{HasElements, IsVerdictOf};
+ghost use Rattle.report_law.specs.Names.{IsFirstValue, cartan_op, is_defined};
+ghost use Rattle.line_difference.specs.Elements.{HasElements};
+ghost use Rattle.cartan_check.specs.Verdicts.{IsVerdictFor, IsVerdictOf};
 
 pub use by_matrices::cartan_by_matrices;
 use cohomology::{Basis, Column};
 use complex_index::{Cochain, Indexed};
 use fp_field::Fp;
+use line_difference::difference;
 use may_elements::MayTable;
-use may_steenrod::cup;
-use op_matrix::operation;
 use report::Line;
 use std::alloc::{AllocError, Global};
-use term_total::{cartan_op, cartan_pairs};
 
 /// Whether the difference of the two sides of a Cartan line is a coboundary.
 #[derive(Drop)]
@@ -35,55 +32,6 @@ pub enum Verdict<const P: u32> {
     },
 }
 
-/// The product of the operations of a pair on two cocycles.
-fn part<const P: u32>(
-    alloc: Global,
-    table: &MayTable<P>,
-    index: &Indexed,
-    line: Line,
-    pair: (u32, u32),
-    x: &Cochain<P>,
-    y: &Cochain<P>,
-) -> Result<Cochain<P>, AllocError>
-    requires prime { IsTrue (served P) }
-    requires low { line.a + line.b ≤ 15 }
-    requires pair { IsLinePair P table.now line pair }
-    requires first { IsCocycleIn P index.now line.a x.now }
-    requires second { IsCocycleIn P index.now line.b y.now }
-    ensures { IfOk result (λ r. IsPart index.now line x.now y.now pair r) }
-{
-    let left = operation(alloc, table, index, cartan_op(P, pair.0), x)?;
-    let right = operation(alloc, table, index, cartan_op(P, pair.1), y)?;
-    cup(alloc, index, &left, &right)
-}
-
-/// The operation of a line on the product of two cocycles, less the products of the operations on them.
-fn difference<const P: u32>(
-    alloc: Global,
-    table: &MayTable<P>,
-    index: &Indexed,
-    line: Line,
-    x: &Cochain<P>,
-    y: &Cochain<P>,
-) -> Result<Cochain<P>, AllocError>
-    requires prime { IsTrue (served P) }
-    requires low { line.a + line.b ≤ 15 }
-    requires defined { is_defined P (line.a + line.b) (cartan_op_at P line.n) ≡ true }
-    requires stored { HasElements P table.now line }
-    requires first { IsCocycleIn P index.now line.a x.now }
-    requires second { IsCocycleIn P index.now line.b y.now }
-    ensures { IfOk result (λ r. IsLess index.now line x.now y.now (cartan_pairs_of P line.a line.b line.n) r) }
-{
-    let pairs = cartan_pairs(alloc, P, line.a, line.b, line.n)?;
-    let product = cup(alloc, index, x, y)?;
-    let mut difference = operation(alloc, table, index, cartan_op(P, line.n), &product)?;
-    for pair in pairs.as_slice() {
-        let part = part(alloc, table, index, line, *pair, x, y)?;
-        difference.row.add_scaled(&part.row, Fp::new(1).neg())?;
-    }
-    Ok(difference)
-}
-
 /// The first place below `rank` at which a value is not 0.
 fn first_place<const P: u32>(values: &[Fp<P>], rank: u32) -> Option<u32>
     ensures { MatchOption result ((i : ℕ) → i < rank → get_or values.now i 0 ≡ 0) (λ place. (place < rank) × IsFirstValue values.now place (get_or values.now place 0)) }
@@ -96,8 +44,8 @@ fn first_place<const P: u32>(values: &[Fp<P>], rank: u32) -> Option<u32>
     None
 }
 
-/// The verdict on a cocycle of degree n with this column.
-fn verdict_of_column<const P: u32, B: Basis<P>>(
+/// The verdict on a cocycle of degree `n` with this column: whether it is a coboundary.
+pub fn verdict_of_column<const P: u32, B: Basis<P>>(
     alloc: Global,
     basis: &B,
     n: u32,
@@ -131,7 +79,7 @@ pub fn cartan<const P: u32, B: Basis<P>>(
     requires prime { IsTrue (served P) }
     requires of { B.is_of index.now basis.now }
     requires low { line.a + line.b ≤ 15 }
-    requires defined { is_defined P (line.a + line.b) (cartan_op_at P line.n) ≡ true }
+    requires defined { is_defined P (line.a + line.b) (cartan_op P line.n) ≡ true }
     requires stored { HasElements P table.now line }
     requires first { (1 ≤ line.i) × (line.i ≤ length (B.classes basis.now line.a)) }
     requires second { (1 ≤ line.j) × (line.j ≤ length (B.classes basis.now line.b)) }

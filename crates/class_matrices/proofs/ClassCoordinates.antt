@@ -1,33 +1,21 @@
 -- The coordinates of classes and of differences.
-use Rattle.std.proofs.Common.{◌≡◌, ◌∙◌, ◌==◌, Bool, true, false, cond, ℕ, zero, suc, ◌+◌, ◌*◌, ◌-◌, ◌%◌, ◌<◌, ◌≤◌, inl, inr, List, [], ◌∷◌, length, map, get_or, arith, refl, sym, ap, ap₂, subst}
-use Rattle.std.specs.Prelude.{IsTrue}
+use Rattle.std.proofs.Common.{◌≡◌, ◌∙◌, ◌==◌, Bool, true, false, cond, ℕ, zero, suc, ◌+◌, ◌*◌, ◌-◌, ◌%◌, ◌<◌, ◌≤◌, inl, inr, List, [], ◌∷◌, length, map, get_or, arith, refl, sym, ap, ap₂, subst, IsTrue, eqb-true}
 use Rattle.std.proofs.Math.Nat.{mod-eq_of_lt}
-use Rattle.std.proofs.lemmas.Bool.{cases_Bool, eqb-true}
+use Rattle.std.proofs.lemmas.Bool.{cases_Bool}
 use Rattle.std.proofs.lemmas.List.{length-map}
 use Rattle.fp_field.specs.Served.{served}
 use Rattle.fp_field.proofs.ServedLemmas.{served_field}
-use Rattle.signed_sum.specs.Lists.{numbers_from}
-use Rattle.linear_law.specs.Congruence.{Congruent, IsField, negated}
-use Rattle.linear_law.specs.Lists.{Each, copies}
-use Rattle.linear_law.specs.Matrices.{plus_scaled}
-use Rattle.linear_law.specs.ReducedBases.{combination}
-use Rattle.linear_law.proofs.CongruenceLemmas.{Congruent_add, Congruent_mod, Congruent_mul, Congruent_of, Congruent_refl, Congruent_scale, Congruent_trans, add-negated}
-use Rattle.linear_law.proofs.ListLemmas.{each_get_or}
-use Rattle.linear_law.proofs.Matrices.{columns-combined}
-use Rattle.simplicial_law.specs.Cochains.{Chain, Cochain as SimplexCochain, HasCoordinates, IsCocycle}
-use Rattle.simplicial_law.specs.CanonicalClasses.{cochain_of}
-use Rattle.simplicial_law.proofs.Bases.{coboundaries, cocycles}
+use Rattle.signed_sum.specs.Names.{numbers_from}
+use Rattle.linear_law.specs.Names.{Congruent, IsField, negated, Each, copies, plus_scaled, combination}
+use Rattle.linear_law.proofs.Names.{Congruent_add, Congruent_mod, Congruent_mul, Congruent_of, Congruent_refl, Congruent_scale, Congruent_trans, add-negated, each_get_or, columns-combined}
+use Rattle.simplicial_law.specs.Names.{Chain, Cochain as SimplexCochain, HasCoordinates, IsCocycle, cochain_of}
+use Rattle.simplicial_law.proofs.Names.{coboundaries, cocycles}
 use Rattle.complex_index.specs.declared.indexed.Cochain.{Cochain}
-use Rattle.complex_index.specs.Levels.{level}
-use Rattle.cohomology.specs.Classes.{chains_at}
-use Rattle.cohomology.specs.Values.{cochains_at}
-use Rattle.report_law.proofs.Coordinates.{coordinates-alike}
-use Rattle.report_law.proofs.Lists.{get_or-map}
+use Rattle.complex_index.specs.Names.{level}
+use Rattle.cohomology.specs.Names.{chains_at, cochains_at}
+use Rattle.report_law.proofs.Names.{coordinates-alike, get_or-map}
 use Rattle.op_matrix.proofs.TableLemmas.{basis-in}
-use Rattle.class_matrices.specs.declared.coordinates.Coordinates.{Coordinates}
-use Rattle.class_matrices.specs.declared.matrices.Matrices.{Matrices}
-use Rattle.class_matrices.specs.Coordinates.{HasThese, IsSetting}
-use Rattle.class_matrices.specs.Sums.{unit_coordinates}
+use Rattle.class_matrices.specs.Names.{Coordinates, Matrices, HasThese, IsSetting, unit_coordinates}
 use Rattle.class_matrices.proofs.ListLemmas.{numbers-count}
 
 -- ---- differences

@@ -2,9 +2,9 @@
 use Rattle.std.proofs.Common.{◌≡◌, ◌≢◌, ◌∙◌, ℕ, zero, suc, ◌+◌, ◌<◌, ◌≤◌, ◌⊎◌, inl, inr, List, [], ◌∷◌, ◌++◌, drop, length, map, min, take, get_or, arith, refl, sym, ap, ap₂, subst}
 use Rattle.std.proofs.lemmas.Bool.{cases_lt}
 use Rattle.std.proofs.lemmas.List.{drop-map, drop_min, length-map, map-append, take_min, take_more}
-use Rattle.signed_sum.specs.Lists.{numbers_from}
-use Rattle.linear_law.specs.Lists.{Among, Each, copies}
-use Rattle.linear_law.proofs.ListLemmas.{each_get_or, each_itself, each_push}
+use Rattle.signed_sum.specs.Names.{numbers_from}
+use Rattle.linear_law.specs.Names.{Among, Each, copies}
+use Rattle.linear_law.proofs.Names.{each_get_or, each_itself, each_push}
 
 -- ---- lists over numbers
 
@@ -23,16 +23,18 @@ numbers-length a (suc k) = ap suc (numbers-length (suc a) k)
 pub numbers-count : {X : Type 0} (g : ℕ → X) (k : ℕ) → length (map g (numbers_from 0 k)) ≡ k
 numbers-count g k = length-map (numbers_from 0 k) g ∙ numbers-length 0 k
 
-numbers-more : (a k : ℕ) → numbers_from a (suc k) ≡ numbers_from a k ++ (a + k) ∷ []
-numbers-more a zero = let e : a ≡ a + 0 = omega arith in ap (λ (x : ℕ). x ∷ []) e
-numbers-more a (suc k) = let e : suc a + k ≡ a + suc k = omega arith in ap (λ (xs : List ℕ). a ∷ xs) (numbers-more (suc a) k ∙ ap (λ (x : ℕ). numbers_from (suc a) k ++ x ∷ []) e)
-
 -- one number more
+pub numbers-more : (a k : ℕ) → numbers_from a (k + 1) ≡ numbers_from a k ++ (a + k) ∷ []
+numbers-more a k = let e : suc k ≡ k + 1 = omega arith in subst (λ (m : ℕ). numbers_from a m ≡ numbers_from a k ++ (a + k) ∷ []) e (go a k)
+  where
+    go : (b m : ℕ) → numbers_from b (suc m) ≡ numbers_from b m ++ (b + m) ∷ []
+    go b zero = let e : b ≡ b + 0 = omega arith in ap (λ (x : ℕ). x ∷ []) e
+    go b (suc m) = let e : suc b + m ≡ b + suc m = omega arith in ap (λ (xs : List ℕ). b ∷ xs) (go (suc b) m ∙ ap (λ (x : ℕ). numbers_from (suc b) m ++ x ∷ []) e)
+
 pub counted-more : {X : Type 0} (g : ℕ → X) (k : ℕ) (ys new : List X) (y : X) → ys ≡ map g (numbers_from 0 k) → y ≡ g k → new ≡ ys ++ y ∷ [] → new ≡ map g (numbers_from 0 (k + 1))
 counted-more g k ys new y h r e =
-    let s : suc k ≡ k + 1 = omega arith in
     let z : k ≡ 0 + k = omega arith in
-    e ∙ ap₂ (λ (xs : List _) (x : _). xs ++ x ∷ []) h (r ∙ ap g z) ∙ sym (ap (map g) (ap (numbers_from 0) (sym s) ∙ numbers-more 0 k) ∙ map-append g (numbers_from 0 k) ((0 + k) ∷ []))
+    e ∙ ap₂ (λ (xs : List _) (x : _). xs ++ x ∷ []) h (r ∙ ap g z) ∙ sym (ap (map g) (numbers-more 0 k) ∙ map-append g (numbers_from 0 k) ((0 + k) ∷ []))
 
 copied-more : {X : Type 0} (k : ℕ) (x : X) → copies (suc k) x ≡ copies k x ++ x ∷ []
 copied-more zero x = refl

@@ -1,10 +1,9 @@
 -- Coordinates of cocycles for the classes of a complex.
 use Rattle.std.specs.Prelude.{ℕ, Bool, List}
-use Rattle.simplicial_law.specs.Cochains.{Cochain as SimplexCochain, HasCoordinates, IsCocycle}
+use Rattle.simplicial_law.specs.Names.{Cochain as SimplexCochain, HasCoordinates, IsCocycle}
 use Rattle.complex_index.specs.declared.indexed.Cochain.{Cochain}
-use Rattle.complex_index.specs.Levels.{IsIndexOf}
-use Rattle.cohomology.specs.Classes.{AreCanonicalIn}
-use Rattle.cohomology.specs.Values.{cochains_at}
+use Rattle.complex_index.specs.Names.{IsIndexOf}
+use Rattle.cohomology.specs.Names.{AreCanonicalIn, cochains_at}
 use Rattle.class_matrices.specs.declared.coordinates.Coordinates.{Coordinates}
 use Rattle.class_matrices.specs.declared.matrices.Matrices.{Matrices}
 use Rattle.class_matrices.specs.Listed.{class_counts}

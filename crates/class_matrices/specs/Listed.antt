@@ -1,10 +1,10 @@
 -- The classes of a complex by degree, as a report lists them.
 use Rattle.std.specs.Prelude.{ℕ, List, length, map}
-use Rattle.signed_sum.specs.Lists.{numbers_from}
+use Rattle.signed_sum.specs.Names.{numbers_from}
 use Rattle.complex_index.specs.declared.indexed.Cochain.{Cochain}
-use Rattle.complex_index.specs.Levels.{level}
-use Rattle.cohomology.specs.Classes.{chains_at}
-use Rattle.report_law.specs.Matrices.{Classes}
+use Rattle.complex_index.specs.Names.{level}
+use Rattle.cohomology.specs.Names.{chains_at}
+use Rattle.report_law.specs.Names.{Classes}
 
 -- the terms of the classes of each degree of a complex
 abbrev pub listed_classes : {p : ℕ} → List (List (List ℕ)) → (ℕ → List (Cochain p)) → Classes

@@ -1,18 +1,13 @@
 -- The matrices of a complex, and those that are found among them.
 use Rattle.std.specs.Prelude.{◌≡◌, ◌≢◌, ◌⊎◌, ℕ, Bool, IsSome, List, [], map, ℤ}
-use Rattle.linear_law.specs.Lists.{Among, Each}
+use Rattle.linear_law.specs.Names.{Among, Each}
 use Rattle.complex_index.specs.declared.indexed.Cochain.{Cochain}
 use Rattle.may_elements.specs.Stored.{stored_at}
-use Rattle.report_law.specs.Live.{blocks, products}
-use Rattle.report_law.specs.Terms.{complex_elements}
+use Rattle.report_law.specs.Names.{blocks, products, complex_elements}
 use Rattle.op_matrix.specs.Tables.{IsOperationMatrix, IsProductMatrix}
 use Rattle.class_matrices.specs.declared.matrices.Matrices.{Matrices}
 use Rattle.class_matrices.specs.declared.matrices.OperationMatrix.{OperationMatrix}
 use Rattle.class_matrices.specs.declared.matrices.ProductMatrix.{ProductMatrix}
-
--- the May elements of all live blocks and lines are stored
-abbrev pub AreStored : ℕ → List (ℕ × List (List ℕ × ℤ)) → List ℕ → Type 0
-AreStored p table ranks = Each (λ d. IsSome (stored_at d table)) (complex_elements p (record { simplices = []; ranks = ranks }))
 
 -- m is the matrix of its product, or of its block, on the classes of each complex with these levels
 abbrev pub IsProductOf : {p : ℕ} → Bool → List (List (List ℕ)) → (ℕ → List (Cochain p)) → ProductMatrix p → Type 0

@@ -1,8 +1,7 @@
 -- Sums of columns, each times its coefficient.
 use Rattle.std.specs.Prelude.{◌≡◌, ℕ, ◌<◌, ◌==◌, List, [], ◌∷◌, cond, length, map}
-use Rattle.signed_sum.specs.Lists.{numbers_from}
-use Rattle.linear_law.specs.Lists.{Each}
-use Rattle.linear_law.specs.Matrices.{plus_scaled}
+use Rattle.signed_sum.specs.Names.{numbers_from}
+use Rattle.linear_law.specs.Names.{Each, plus_scaled}
 
 -- a list plus the columns, each times its coefficient, modulo p
 abbrev pub sum_onto : ℕ → List ℕ → List (List ℕ) → List ℕ → List ℕ

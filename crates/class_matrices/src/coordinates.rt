@@ -1,13 +1,11 @@
 ghost use Rattle.std.specs.Prelude.{◌≡◌, ◌≤◌, ◌+◌, ◌-◌, ◌<◌, ◌^◌, Bool, List, ℕ, length, true, IfOk, IsTrue};
 ghost use Rattle.fp_field.specs.Served.{served};
-ghost use Rattle.linear_law.specs.Congruence.{negated};
-ghost use Rattle.simplicial_law.specs.Cochains.{Cochain as SimplexCochain};
+ghost use Rattle.linear_law.specs.Names.{negated};
+ghost use Rattle.simplicial_law.specs.Names.{Cochain as SimplexCochain};
 ghost use Rattle.complex_index.specs.declared.indexed.Cochain.{Cochain};
-ghost use Rattle.report_law.specs.Differences.{IsOperation};
-ghost use Rattle.report_law.specs.Live.{is_defined, target_degree};
-ghost use Rattle.steenrod_law.specs.Operations.{cup_product};
-ghost use Rattle.class_matrices.specs.Coordinates.{HasThese, IsSetting};
-ghost use Rattle.class_matrices.specs.Sums.{unit_coordinates};
+ghost use Rattle.report_law.specs.Names.{IsOperation, is_defined, target_degree};
+ghost use Rattle.steenrod_law.specs.Names.{cup_product};
+ghost use Rattle.class_matrices.specs.Names.{HasThese, IsSetting, unit_coordinates};
 
 use crate::matrices::Matrices;
 use crate::sums::{plus_scaled, unit, with_columns, with_products, zeros};

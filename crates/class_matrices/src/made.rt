@@ -1,8 +1,9 @@
 ghost use Rattle.std.specs.Prelude.{◌≡◌, ◌≤◌, length, map, IfOk, IsTrue};
 ghost use Rattle.fp_field.specs.Served.{served};
-ghost use Rattle.linear_law.specs.Lists.{Each};
-ghost use Rattle.report_law.specs.Live.{blocks as blocks_at, products as products_at};
-ghost use Rattle.class_matrices.specs.Matrices.{AreStored, IsOperationOf, IsProductOf};
+ghost use Rattle.linear_law.specs.Names.{Each};
+ghost use Rattle.report_law.specs.Names.{blocks as blocks_at, products as products_at};
+ghost use Rattle.line_difference.specs.Elements.{AreStored};
+ghost use Rattle.class_matrices.specs.Names.{IsOperationOf, IsProductOf};
 
 use crate::matrices::{OperationMatrix, ProductMatrix};
 use cohomology::Basis;

@@ -1,6 +1,7 @@
 ghost use Rattle.std.specs.Prelude.{◌≤◌, length, IfOk, IsTrue};
 ghost use Rattle.fp_field.specs.Served.{served};
-ghost use Rattle.class_matrices.specs.Matrices.{AreMatrices, AreStored, IsFound};
+ghost use Rattle.line_difference.specs.Elements.{AreStored};
+ghost use Rattle.class_matrices.specs.Names.{AreMatrices, IsFound};
 
 use crate::made::{operation_matrices, product_matrices};
 use cohomology::{Basis, Column};

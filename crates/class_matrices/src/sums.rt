@@ -1,10 +1,9 @@
 ghost use Rattle.std.specs.Prelude.{◌≡◌, ◌*◌, ◌<◌, length, map, IfOk, IsTrue};
 ghost use Rattle.fp_field.specs.Served.{served};
-ghost use Rattle.linear_law.specs.Lists.{Each, copies};
-ghost use Rattle.linear_law.specs.Matrices.{plus_scaled as plus_scaled_of};
-ghost use Rattle.steenrod_law.specs.Operations.{coefficient_products};
+ghost use Rattle.linear_law.specs.Names.{Each, copies, plus_scaled as plus_scaled_of};
+ghost use Rattle.steenrod_law.specs.Names.{coefficient_products};
 ghost use Rattle.op_matrix.specs.Columns.{values_of};
-ghost use Rattle.class_matrices.specs.Sums.{Fits, sum_onto, unit_coordinates};
+ghost use Rattle.class_matrices.specs.Names.{Fits, sum_onto, unit_coordinates};
 
 use cohomology::Column;
 use fp_field::Fp;

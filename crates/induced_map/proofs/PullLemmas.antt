@@ -1,29 +1,21 @@
 -- Pull-backs of classes, and the matrices of their columns.
-use Rattle.std.proofs.Common.{◌≡◌, ℕ, Bool, List, [], ◌∷◌, map, sym, ap, subst}
-use Rattle.std.specs.Prelude.{IsTrue}
+use Rattle.std.proofs.Common.{◌≡◌, ℕ, Bool, List, [], ◌∷◌, map, sym, ap, subst, IsTrue}
 use Rattle.std.specs.List.{AllZip}
 use Rattle.fp_field.specs.Served.{served}
 use Rattle.fp_field.proofs.ServedLemmas.{served_field, served_large}
-use Rattle.linear_law.proofs.CongruenceLemmas.{Congruent_of, Congruent_trans}
-use Rattle.linear_law.specs.Matrices.{matrix_times}
-use Rattle.simplicial_law.specs.Cochains.{AgreesOnSimplices, Cochain as SimplexCochain, HasCoordinates}
-use Rattle.simplicial_law.specs.CanonicalClasses.{cochain_of}
-use Rattle.simplicial_law.proofs.Bases.{cocycles}
-use Rattle.simplicial_law.proofs.SimplexPlaces.{agree_by_place}
-use Rattle.steenrod_law.specs.Operations.{pull_back}
+use Rattle.linear_law.proofs.Names.{Congruent_of, Congruent_trans}
+use Rattle.linear_law.specs.Names.{matrix_times}
+use Rattle.simplicial_law.specs.Names.{AgreesOnSimplices, Cochain as SimplexCochain, HasCoordinates, cochain_of}
+use Rattle.simplicial_law.proofs.Names.{cocycles, agree_by_place}
+use Rattle.steenrod_law.specs.Names.{pull_back}
 use Rattle.steenrod_law.proofs.LawProofs.{induced_map_law}
 use Rattle.complex_index.specs.declared.indexed.Cochain.{Cochain}
-use Rattle.complex_index.specs.Levels.{IsIndexOf, level}
-use Rattle.complex_index.specs.Maps.{IsPullBackOf}
+use Rattle.complex_index.specs.Names.{IsIndexOf, level, IsPullBackOf}
 use Rattle.cohomology.specs.declared.basis.Column.{Column}
-use Rattle.cohomology.specs.Basis.{IsColumnOf}
-use Rattle.cohomology.specs.Classes.{AreCanonicalIn, cochain_in}
-use Rattle.cohomology.specs.Coordinates.{IsClosedIn}
-use Rattle.cohomology.specs.Values.{cochains_at}
+use Rattle.cohomology.specs.Names.{IsColumnOf, AreCanonicalIn, cochain_in, IsClosedIn, cochains_at}
 use Rattle.may_steenrod.specs.Cochains.{IsClosed}
 use Rattle.may_steenrod.proofs.OnLemmas.{value_by_place}
-use Rattle.report_law.specs.Columns.{IsColumn}
-use Rattle.report_law.specs.Matrices.{cochains_in}
+use Rattle.report_law.specs.Names.{IsColumn, cochains_in}
 use Rattle.op_matrix.specs.Columns.{listed_columns, primitive_terms, values_of}
 use Rattle.op_matrix.proofs.ColumnLemmas.{column-for}
 use Rattle.op_matrix.proofs.TableLemmas.{column-alike, count-classes}

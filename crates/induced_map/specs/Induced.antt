@@ -1,14 +1,13 @@
 -- The matrices that a map of complexes induces, and what they carry.
 use Rattle.std.specs.Prelude.{ℕ, Bool, List, length}
-use Rattle.linear_law.specs.Matrices.{matrix_times}
-use Rattle.simplicial_law.specs.Cochains.{Cochain as SimplexCochain, HasCoordinates, IsCocycle}
-use Rattle.steenrod_law.specs.Operations.{IsSimplicial, pull_back}
+use Rattle.linear_law.specs.Names.{matrix_times}
+use Rattle.simplicial_law.specs.Names.{Cochain as SimplexCochain, HasCoordinates, IsCocycle}
+use Rattle.steenrod_law.specs.Names.{IsSimplicial, pull_back}
 use Rattle.complex_index.specs.declared.indexed.Cochain.{Cochain}
-use Rattle.complex_index.specs.Levels.{IsIndexOf}
+use Rattle.complex_index.specs.Names.{IsIndexOf}
 use Rattle.cohomology.specs.declared.basis.Column.{Column}
-use Rattle.cohomology.specs.Classes.{cochain_in}
-use Rattle.cohomology.specs.Values.{cochains_at}
-use Rattle.report_law.specs.Matrices.{Classes, IsInducedBlock}
+use Rattle.cohomology.specs.Names.{cochain_in, cochains_at}
+use Rattle.report_law.specs.Names.{Classes, IsInducedBlock}
 use Rattle.op_matrix.specs.Columns.{AreListedAs, IsColumnFor, listed_columns, values_of}
 
 -- f is a simplicial map from each complex with the levels `from` to each with the levels `to`, of which there is one

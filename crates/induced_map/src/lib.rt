@@ -3,7 +3,7 @@
 
 ghost use Rattle.std.specs.Prelude.{◌≡◌, get_or, IfOk, IsTrue};
 ghost use Rattle.fp_field.specs.Served.{served};
-ghost use Rattle.cohomology.specs.Classes.{IsPlaced};
+ghost use Rattle.cohomology.specs.Names.{IsPlaced};
 ghost use Rattle.may_steenrod.specs.Cochains.{IsClosed};
 ghost use Rattle.induced_map.specs.Induced.{IsInducedMatrix, IsMapIn, IsPulledColumn};
 

@@ -1,36 +1,26 @@
 -- The two sides of a line and their difference, from rows by place.
-use Rattle.std.proofs.Common.{◌≡◌, ℕ, ◌+◌, ◌*◌, Bool, ◌-◌, ◌%◌, ◌≤◌, ◌&&◌, true, List, [], ◌∷◌, ◌++◌, map, length, arith, refl, sym, ap, subst, ◌∙◌}
-use Rattle.std.specs.Prelude.{IsTrue, Result, Ok, Err, IfOk}
-use Rattle.std.proofs.lemmas.Bool.{and_parts, leb-true}
+use Rattle.std.proofs.Common.{◌≡◌, ℕ, ◌+◌, ◌*◌, Bool, ◌-◌, ◌%◌, ◌≤◌, ◌&&◌, true, List, [], ◌∷◌, ◌++◌, map, length, arith, refl, sym, ap, subst, ◌∙◌, IsTrue, Result, Ok, Err, IfOk, leb-true}
+use Rattle.std.proofs.lemmas.Bool.{and_parts}
 use Rattle.fp_field.specs.Served.{served}
 use Rattle.fp_field.proofs.ServedLemmas.{for_served, served_field}
-use Rattle.linear_law.specs.Congruence.{Congruent, negated}
-use Rattle.linear_law.proofs.CongruenceLemmas.{Congruent_add, Congruent_mod, Congruent_mul, Congruent_of, Congruent_refl, Congruent_scale, Congruent_trans}
-use Rattle.linear_law.specs.Lists.{Each}
-use Rattle.linear_law.proofs.ListLemmas.{each_among, zip_push}
-use Rattle.signed_sum.specs.Lists.{numbers_from}
-use Rattle.linear_law.proofs.SumLemmas.{sum_append}
-use Rattle.simplicial_law.specs.Cochains.{AgreesOnSimplices, Cochain as SimplexCochain}
-use Rattle.simplicial_law.proofs.Bases.{cocycles}
-use Rattle.simplicial_law.proofs.IntegralCongruence.{CongruentInt_sym, CongruentInt_trans}
-use Rattle.steenrod_law.specs.Operations.{cup_product, extended}
+use Rattle.linear_law.specs.Names.{Congruent, negated, Each}
+use Rattle.linear_law.proofs.Names.{Congruent_add, Congruent_mod, Congruent_mul, Congruent_of, Congruent_refl, Congruent_scale, Congruent_trans, each_zip, zip_push, sum_append}
+use Rattle.signed_sum.specs.Names.{numbers_from}
+use Rattle.simplicial_law.specs.Names.{AgreesOnSimplices, Cochain as SimplexCochain}
+use Rattle.simplicial_law.proofs.Names.{cocycles, CongruentInt_sym, CongruentInt_trans}
+use Rattle.steenrod_law.specs.Names.{cup_product, extended}
 use Rattle.steenrod_law.proofs.Complexes.{weak_of_simplex}
 use Rattle.steenrod_law.proofs.OperationLaws.{operation-faces, to_residues, value-same, vertices}
 use Rattle.sparse_rows.specs.Rows.{IsBelow, IsRow, value_in}
 use Rattle.complex_index.specs.declared.indexed.Cochain.{Cochain}
-use Rattle.complex_index.specs.Levels.{IsIndexOf, level}
+use Rattle.complex_index.specs.Names.{IsIndexOf, level}
 use Rattle.may_steenrod.specs.Cochains.{HasValues, IsClosed, cochain_in}
 use Rattle.report.specs.declared.plan.Line.{Line}
 use Rattle.report.specs.declared.plan.Op.{Op}
-use Rattle.report_law.specs.Differences.{IsCartanProduct, IsOperation}
-use Rattle.report_law.specs.Live.{cartan_op, cartan_pairs, element_degree, is_defined, target_degree}
-use Rattle.report_law.specs.Matrices.{line_degree}
-use Rattle.report_law.proofs.Coordinates.{agrees-trans}
-use Rattle.report_law.proofs.Lists.{each-of, of-filter, of-map, of-numbers}
-use Rattle.report_law.proofs.ScaledForms.{scaled}
-use Rattle.report_law.proofs.Verdicts.{extended-alike}
+use Rattle.report_law.specs.Names.{IsCartanProduct, IsOperation, cartan_op, cartan_pairs, element_degree, is_defined, target_degree, line_degree}
+use Rattle.report_law.proofs.Names.{agrees-trans, each-of, of-filter, of-map, of-numbers, scaled, extended-alike}
 use Rattle.line_difference.specs.Differences.{IsLess, IsLinePair, IsPart, IsPlacedIn}
-use Rattle.line_difference.specs.Elements.{HasElement, HasElements}
+use Rattle.line_difference.specs.Elements.{HasElements}
 use Rattle.line_difference.proofs.RowSums.{sum-agrees, sum-below}
 
 -- ---- what holds of an answer in parts
@@ -51,7 +41,7 @@ target-low p n q is_served = for_served (λ (m : ℕ). q ≤ 15 → is_defined m
     (λ l h. let k = leb-true n q h in omega (arith, l, k)) (λ l h. let k = leb-true (2 * n) q h in omega (arith, l, k)) (λ l h. let k = leb-true (2 * n) q h in omega (arith, l, k)) is_served
 
 -- the degrees of the operations of a pair add up to that of the line
-targets-add : (p a b i j : ℕ) → IsTrue (served p) → target_degree p a (cartan_op p i) + target_degree p b (cartan_op p j) ≡ target_degree p (a + b) (cartan_op p (i + j))
+pub targets-add : (p a b i j : ℕ) → IsTrue (served p) → target_degree p a (cartan_op p i) + target_degree p b (cartan_op p j) ≡ target_degree p (a + b) (cartan_op p (i + j))
 targets-add p a b i j is_served = for_served (λ (m : ℕ). target_degree m a (cartan_op m i) + target_degree m b (cartan_op m j) ≡ target_degree m (a + b) (cartan_op m (i + j))) p
     (omega arith) (omega arith) (omega arith) is_served
 
@@ -171,19 +161,27 @@ module _ (p : ℕ) (is_served : IsTrue (served p)) (levels : List (List (List �
         });
       }
 
+-- the operations of a pair with the sum n are defined on degrees a and b
+pub record IsDefinedPair (p a b n : ℕ) (pair : ℕ × ℕ) : Type 0 where
+  pub sum : pair.0 + pair.1 ≡ n
+  pub first : is_defined p a (cartan_op p pair.0) ≡ true
+  pub second : is_defined p b (cartan_op p pair.1) ≡ true
+
+pub defined-pairs : (p a b n : ℕ) → Each (IsDefinedPair p a b n) (cartan_pairs p a b n)
+defined-pairs p a b n =
+    let test : ℕ × ℕ → Bool = λ e. is_defined p a (cartan_op p e.0) && is_defined p b (cartan_op p e.1) in
+    let all : List (ℕ × ℕ) = map (λ i. (i, n - i)) (numbers_from 0 (n + 1)) in
+    each-of (IsDefinedPair p a b n) (cartan_pairs p a b n)
+    (λ e m.
+    let on = of-filter test all e m in
+    let i = of-map (λ (i : ℕ). (i, n - i)) (numbers_from 0 (n + 1)) e on.0 in
+    let low = (of-numbers i.0 0 (n + 1) i.1).1 in
+    let here : i.0 + (n - i.0) ≡ n = omega (arith, low) in
+    let defined = and_parts (is_defined p a (cartan_op p e.0)) (is_defined p b (cartan_op p e.1)) on.1 in
+    record { sum = subst (λ (x : ℕ × ℕ). x.0 + x.1 ≡ n) i.2 here; first = defined.0; second = defined.1 })
+
 -- the pairs of a line for which May elements are stored
 pub line-pairs : (p : ℕ) (table : _) (line : Line) → HasElements p table line → Each (IsLinePair p table line) (cartan_pairs p line.a line.b line.n)
 line-pairs p table line stored =
-    let a : ℕ = line.a in
-    let b : ℕ = line.b in
-    let test : ℕ × ℕ → Bool = λ e. is_defined p a (cartan_op p e.0) && is_defined p b (cartan_op p e.1) in
-    let all : List (ℕ × ℕ) = map (λ i. (i, line.n - i)) (numbers_from 0 (line.n + 1)) in
-    each-of (IsLinePair p table line) (cartan_pairs p a b line.n)
-    (λ e m.
-    let on = of-filter test all e m in
-    let i = of-map (λ (i : ℕ). (i, line.n - i)) (numbers_from 0 (line.n + 1)) e on.0 in
-    let low = (of-numbers i.0 0 (line.n + 1) i.1).1 in
-    let here : i.0 + (line.n - i.0) ≡ line.n = omega (arith, low) in
-    let defined = and_parts (is_defined p a (cartan_op p e.0)) (is_defined p b (cartan_op p e.1)) on.1 in
-    let kept = each_among (λ (x : ℕ × ℕ). HasElement p table a (cartan_op p x.0) × HasElement p table b (cartan_op p x.1)) e (cartan_pairs p a b line.n) stored.parts m in
-    record { sum = subst (λ (x : ℕ × ℕ). x.0 + x.1 ≡ line.n) i.2 here; first_defined = defined.0; second_defined = defined.1; first_stored = kept.0; second_stored = kept.1 })
+    each_zip (λ e d k. record { sum = d.sum; first_defined = d.first; second_defined = d.second; first_stored = k.0; second_stored = k.1 }) (cartan_pairs p line.a line.b line.n)
+    (defined-pairs p line.a line.b line.n) stored.parts

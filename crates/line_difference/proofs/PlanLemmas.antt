@@ -1,15 +1,14 @@
 -- The live products, blocks and lines of a complex, and what is stored for them.
-use Rattle.std.proofs.Common.{◌≡◌, ◌∙◌, ℕ, ◌+◌, ◌<◌, ◌≤◌, ◌&&◌, inl, inr, Bool, true, List, [], ◌∷◌, length, map, get_or, arith, refl, sym, ap, subst}
-use Rattle.std.specs.Prelude.{IsSome, flat_map, fold, if◌then◌else◌, None, Some, unwrap_or, ℤ}
+use Rattle.std.proofs.Common.{◌≡◌, ◌∙◌, ℕ, ◌+◌, ◌<◌, ◌≤◌, ◌&&◌, inl, inr, Bool, true, List, [], ◌∷◌, length, map, get_or, arith, refl, sym, ap, subst, IsSome, flat_map, fold, if◌then◌else◌, None, Some, unwrap_or, ℤ}
 use Rattle.std.specs.declared.option.Option.{Option}
 use Rattle.std.specs.BTreeSet.{insert_key}
 use Rattle.std.specs.Ordering.{nat_cmp}
 use Rattle.std.specs.FinMap.{nat_cmp-IsAntisymmetric}
-use Rattle.std.proofs.lemmas.Bool.{and_parts, cases_lt, ltb-true}
-use Rattle.signed_sum.specs.Lists.{numbers_from}
-use Rattle.linear_law.specs.Lists.{Among, Each}
-use Rattle.linear_law.proofs.ListLemmas.{among_left, among_map, among_right, each_among}
-use Rattle.simplicial_law.proofs.OrderedKeys.{insert_keeps, insert_puts}
+use Rattle.std.proofs.lemmas.Bool.{and_parts}
+use Rattle.signed_sum.specs.Names.{numbers_from}
+use Rattle.linear_law.specs.Names.{Among, Each}
+use Rattle.linear_law.proofs.Names.{among_left, among_map, among_right, each_among}
+use Rattle.simplicial_law.proofs.Names.{insert_keeps, insert_puts}
 use Rattle.may_elements.specs.Stored.{stored_at}
 use Rattle.report.specs.declared.plan.Block.{Block}
 use Rattle.report.specs.declared.plan.Line.{Line}
@@ -17,10 +16,8 @@ use Rattle.report.specs.declared.plan.Op.{Op}
 use Rattle.report.specs.declared.plan.Op.TheVariants.{Square, Power, BocksteinPower}
 use Rattle.report.specs.declared.plan.Product.{Product}
 use Rattle.report.specs.declared.plan.Sizes.{Sizes}
-use Rattle.report_law.specs.Live.{all_lines, blocks, cartan_op, cartan_pairs, class_numbers, degrees, element_degree, has_class, is_defined, lines, products, target, target_degree}
-use Rattle.report_law.specs.Terms.{complex_elements, elements, line_elements}
-use Rattle.report_law.proofs.Lists.{each-of, get_or-past, in-flat_map, of-filter, of-flat_map, of-map, of-numbers}
-use Rattle.report_law.proofs.Verdicts.{of-lines}
+use Rattle.report_law.specs.Names.{all_lines, blocks, cartan_op, cartan_pairs, class_numbers, degrees, element_degree, has_class, is_defined, lines, products, target, target_degree, complex_elements, elements, line_elements}
+use Rattle.report_law.proofs.Names.{has-degree, each-of, in-flat_map, of-filter, of-flat_map, of-map, of-numbers, of-lines}
 use Rattle.line_difference.specs.Elements.{AreStored, HasElement, HasElements}
 
 -- what was inserted stands among the keys
@@ -33,13 +30,6 @@ key-put [] ks x m = elim m [ ]
 key-put (v ∷ vs) ks x m = elim m [
   | inl e ↦ key-kept vs (insert_key nat_cmp ks v) x (subst (λ (y : ℕ). Among y (insert_key nat_cmp ks v)) e (insert_puts nat_cmp nat_cmp-IsAntisymmetric v ks))
   | inr n ↦ key-put vs (insert_key nat_cmp ks v) x n
-]
-
--- a degree with a class is one of the degrees
-has-degree : (ranks : List ℕ) (n : ℕ) → has_class ranks n ≡ true → n < length ranks
-has-degree ranks n h = elim (cases_lt n (length ranks)) [
-  | inl l ↦ l
-  | inr m ↦ let l : 0 < get_or ranks n 0 = ltb-true 0 (get_or ranks n 0) h in let z = get_or-past ranks n 0 m in absurd (omega (arith, l, z))
 ]
 
 module _ (ranks : List ℕ) (few : length ranks ≤ 16) where

@@ -1,14 +1,12 @@
 -- A row plus a multiple of another.
 use Rattle.std.proofs.Common.{◌≡◌, ◌∙◌, ℕ, ◌+◌, ◌*◌, ◌%◌, ◌<◌, List, [], ◌∷◌, ◌++◌, map, arith, sym, ap}
-use Rattle.linear_law.proofs.CongruenceLemmas.{Congruent_mod, Congruent_of, Congruent_trans}
-use Rattle.linear_law.proofs.ListLemmas.{each_append, each_of_map}
-use Rattle.linear_law.proofs.SumLemmas.{sum_append}
-use Rattle.linear_law.specs.Listing.{unit_vector}
-use Rattle.simplicial_law.specs.Cochains.{AgreesOnSimplices}
-use Rattle.simplicial_law.proofs.SimplexPlaces.{agree_by_place}
+use Rattle.linear_law.proofs.Names.{Congruent_mod, Congruent_of, Congruent_trans, each_append, each_of_map, sum_append}
+use Rattle.linear_law.specs.Names.{unit_vector}
+use Rattle.simplicial_law.specs.Names.{AgreesOnSimplices}
+use Rattle.simplicial_law.proofs.Names.{agree_by_place}
 use Rattle.sparse_rows.specs.Rows.{IsBelow, IsRow, value_in}
 use Rattle.sparse_rows.proofs.RowLemmas.{below_of_sum}
-use Rattle.complex_index.specs.Levels.{IsIndexOf, level}
+use Rattle.complex_index.specs.Names.{IsIndexOf, level}
 use Rattle.may_steenrod.specs.Cochains.{cochain_in}
 use Rattle.may_steenrod.proofs.OnLemmas.{value_by_place}
 

@@ -1,17 +1,15 @@
 -- The difference of the two sides of a Cartan line, as it is made.
 use Rattle.std.specs.Prelude.{◌≡◌, ℕ, ◌+◌, true, List, length, ℤ}
 use Rattle.std.specs.List.{AllZip}
-use Rattle.linear_law.specs.Congruence.{negated, sum_over}
-use Rattle.simplicial_law.specs.Cochains.{AgreesOnSimplices, Cochain as SimplexCochain}
+use Rattle.linear_law.specs.Names.{negated, sum_over}
+use Rattle.simplicial_law.specs.Names.{AgreesOnSimplices, Cochain as SimplexCochain}
 use Rattle.complex_index.specs.declared.indexed.Cochain.{Cochain}
-use Rattle.complex_index.specs.Levels.{IsIndexOf, level}
+use Rattle.complex_index.specs.Names.{IsIndexOf, level}
 use Rattle.sparse_rows.specs.Rows.{IsBelow}
 use Rattle.may_steenrod.specs.Cochains.{IsClosed, cochain_in}
 use Rattle.report.specs.declared.plan.Line.{Line}
-use Rattle.report_law.specs.Differences.{IsCartanProduct, IsOperation}
-use Rattle.report_law.specs.Live.{cartan_op, is_defined}
-use Rattle.report_law.specs.Matrices.{line_degree}
-use Rattle.steenrod_law.specs.Operations.{cup_product}
+use Rattle.report_law.specs.Names.{IsCartanProduct, IsOperation, cartan_op, is_defined, line_degree}
+use Rattle.steenrod_law.specs.Names.{cup_product}
 use Rattle.line_difference.specs.Elements.{HasElement}
 
 -- a cochain of degree n, at places of simplices of this degree

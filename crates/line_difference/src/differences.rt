@@ -1,6 +1,6 @@
 ghost use Rattle.std.specs.Prelude.{◌≡◌, ◌≤◌, ◌+◌, [], true, IfOk, IsTrue};
 ghost use Rattle.fp_field.specs.Served.{served};
-ghost use Rattle.report_law.specs.Live.{cartan_op as cartan_op_at, cartan_pairs as cartan_pairs_of, is_defined};
+ghost use Rattle.report_law.specs.Names.{cartan_op as cartan_op_at, cartan_pairs as cartan_pairs_of, is_defined};
 ghost use Rattle.line_difference.specs.Differences.{IsLess, IsLinePair, IsPart, IsPlacedIn};
 ghost use Rattle.line_difference.specs.Elements.{HasElement, HasElements};
 

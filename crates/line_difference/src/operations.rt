@@ -1,10 +1,9 @@
 ghost use Rattle.std.specs.Prelude.{◌≡◌, ◌≤◌, ℕ, List, length, true, IfOk, IsTrue};
 ghost use Rattle.fp_field.specs.Served.{served};
 ghost use Rattle.sparse_rows.specs.Rows.{IsBelow};
-ghost use Rattle.complex_index.specs.Levels.{IsIndexOf, level};
+ghost use Rattle.complex_index.specs.Names.{IsIndexOf, level};
 ghost use Rattle.may_steenrod.specs.Cochains.{IsClosed, cochain_in};
-ghost use Rattle.report_law.specs.Differences.{IsOperation};
-ghost use Rattle.report_law.specs.Live.{is_defined, target_degree};
+ghost use Rattle.report_law.specs.Names.{IsOperation, is_defined, target_degree};
 ghost use Rattle.line_difference.specs.Elements.{HasElement};
 
 use complex_index::{Cochain, Indexed};

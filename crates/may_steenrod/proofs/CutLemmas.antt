@@ -1,27 +1,18 @@
 -- The terms of a surjection, from its live cuts.
-use Rattle.std.proofs.Common.{◌≡◌, ℕ, zero, suc, ◌-◌, ◌*◌, ◌%◌, ◌<◌, ◌≤◌, List, [], ◌∷◌, map, length, arith, refl, sym, ap, subst, ◌∙◌, lit≤}
-use Rattle.std.specs.Prelude.{ℤ, pos, ◌+ℤ◌, ◌*ℤ◌, IsSome, IsTrue, pred}
+use Rattle.std.proofs.Common.{◌≡◌, ℕ, zero, suc, ◌-◌, ◌*◌, ◌%◌, ◌<◌, ◌≤◌, List, [], ◌∷◌, map, length, arith, refl, sym, ap, subst, ◌∙◌, lit≤, ℤ, pos, ◌+ℤ◌, ◌*ℤ◌, IsSome, IsTrue, pred}
 use Rattle.fp_field.specs.Served.{served}
 use Rattle.fp_field.proofs.ServedLemmas.{for_served}
 use Rattle.std.proofs.lemmas.Int.{ints}
-use Rattle.signed_sum.specs.Lists.{numbers_from}
-use Rattle.signed_sum.specs.Signs.{signed}
-use Rattle.signed_sum.specs.Sums.{total}
-use Rattle.signed_sum.proofs.Ring.{mul-add, mul_comm}
-use Rattle.signed_sum.proofs.SignLemmas.{signed-mul}
-use Rattle.signed_sum.proofs.SumLemmas.{fun_ext}
-use Rattle.simplicial_law.specs.Integral.{CongruentInt}
-use Rattle.simplicial_law.proofs.IntegralCongruence.{CongruentInt-scale, CongruentInt-sum, CongruentInt-times, CongruentInt_of, CongruentInt_refl, CongruentInt_trans}
-use Rattle.surjection_law.specs.Surjections.{arity}
-use Rattle.interval_cut_law.specs.Cuts.{cut_faces, cuts, sign_exponent, vertex_at}
-use Rattle.interval_cut_law.specs.Operations.{operation_value, value_product}
-use Rattle.interval_cut.specs.LiveWalking.{LiveWalk, live_start, live_top}
-use Rattle.interval_cut.specs.Masks.{by_mask, cut_term}
-use Rattle.interval_cut.specs.Walking.{cut_of, next_walk}
-use Rattle.interval_cut.specs.Evaluation.{IsOfDegree}
+use Rattle.signed_sum.specs.Names.{numbers_from, signed, total}
+use Rattle.signed_sum.proofs.Names.{mul-add, mul_comm, signed-mul, fun_ext}
+use Rattle.simplicial_law.specs.Names.{CongruentInt}
+use Rattle.simplicial_law.proofs.Names.{CongruentInt-scale, CongruentInt-sum, CongruentInt-times, CongruentInt_of, CongruentInt_refl, CongruentInt_trans}
+use Rattle.surjection_law.specs.Names.{arity}
+use Rattle.interval_cut_law.specs.Names.{cut_faces, cuts, sign_exponent, vertex_at, operation_value, value_product}
+use Rattle.interval_cut.specs.Names.{LiveWalk, live_start, live_top, by_mask, signed_product, cut_of, next_walk, IsOfDegree}
 use Rattle.interval_cut.proofs.EvaluationLemmas.{ended, took}
 use Rattle.interval_cut.proofs.LiveValueLemmas.{live_part-start}
-use Rattle.steenrod_law.specs.Words.{copies}
+use Rattle.steenrod_law.specs.Names.{copies}
 use Rattle.may_steenrod.specs.FaceSums.{face_product, face_sum}
 use Rattle.may_steenrod.specs.Elements.{AddsTo}
 
@@ -52,7 +43,7 @@ product-faces r a u s p =
     ap (λ k. value_product (copies k a) (faces_at s (cut_faces (numbers_from 1 r) u p))) (sym (length-faces 1 r u p))
     ∙ product-copies a s (cut_faces (numbers_from 1 r) u p)
 
-mask-term : (a : List ℕ → ℤ) (u s p : List ℕ) → cut_term (arity u) 0 a a u s p ≡ face_term (arity u) a u s p
+mask-term : (a : List ℕ → ℤ) (u s p : List ℕ) → signed_product (arity u) 0 a a u s p ≡ face_term (arity u) a u s p
 mask-term a u s p =
     ap (signed (sign_exponent u 0 p))
     (ap (λ (cs : List (List ℕ → ℤ)). value_product cs (faces_at s (cut_faces (numbers_from 1 (arity u)) u p))) (mask-copies (arity u) a) ∙ product-faces (arity u) a u s p)
@@ -80,11 +71,11 @@ part_added-start p q c u old w large e = record {
       let A : List ℕ → ℤ = λ f. pos (a f) in
       let zero_is : 0 ≡ 0 % p = omega arith in
       let part = live_part-start p 0 q 0 a a u s w e zero_is h h in
-      let same : (ps : List (List ℕ)) → total (cut_term (arity u) 0 A A u s) ps ≡ total (face_term (arity u) A u s) ps =
+      let same : (ps : List (List ℕ)) → total (signed_product (arity u) 0 A A u s) ps ≡ total (face_term (arity u) A u s) ps =
       λ ps. ap (λ (g : List ℕ → ℤ). total g ps) (fun_ext (λ r. mask-term A u s r)) in
       CongruentInt-sum (CongruentInt_refl (face_sum A s old))
       (CongruentInt-scale (pos c)
-      (CongruentInt_trans (CongruentInt_of (sym (same w.walk.left) ∙ plus (total (cut_term (arity u) 0 A A u s) w.walk.left)))
+      (CongruentInt_trans (CongruentInt_of (sym (same w.walk.left) ∙ plus (total (signed_product (arity u) 0 A A u s) w.walk.left)))
       (CongruentInt_trans part.rest (CongruentInt_of (same (cuts u (live_top q u))))))));
 }
   where

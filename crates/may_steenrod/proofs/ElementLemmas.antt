@@ -1,38 +1,29 @@
 -- The terms of a sum of surjections, one surjection after the other.
-use Rattle.std.proofs.Common.{◌≡◌, ℕ, suc, ◌+◌, ◌-◌, ◌*◌, ◌/◌, ◌%◌, ◌<◌, ◌≤◌, ◌==◌, Bool, true, false, cond, List, [], ◌∷◌, ◌++◌, length, take, get_or, take_all, arith, refl, sym, ap, ap₂, subst, ◌∙◌}
-use Rattle.std.specs.Prelude.{ℤ, pos, negsuc, ◌+ℤ◌, ◌*ℤ◌, ◌&&◌}
-use Rattle.std.proofs.Common.{Result, Ok, Err}
+use Rattle.std.proofs.Common.{◌≡◌, ℕ, suc, ◌+◌, ◌-◌, ◌*◌, ◌/◌, ◌%◌, ◌<◌, ◌≤◌, ◌==◌, Bool, true, false, cond, List, [], ◌∷◌, ◌++◌, length, take, get_or, take_all, arith, refl, sym, ap, ap₂, subst, ◌∙◌, ℤ, pos, negsuc, ◌+ℤ◌, ◌*ℤ◌, ◌&&◌, Result, Ok, Err, eqb-true, eq-eqb}
 use Rattle.std.specs.Result.{OnOk}
 use Rattle.std.specs.Int.{int_rem_euclid}
-use Rattle.std.proofs.Common.{eqb-true}
-use Rattle.std.proofs.lemmas.Bool.{eq-eqb, false≢true}
+use Rattle.std.proofs.lemmas.Bool.{false≢true}
 use Rattle.std.proofs.lemmas.Int.{ints}
 use Rattle.std.proofs.lemmas.List.{take_more}
-use Rattle.signed_sum.specs.Sums.{value_at}
-use Rattle.signed_sum.proofs.SumLemmas.{value_at-append}
-use Rattle.simplicial_law.specs.Integral.{CongruentInt}
-use Rattle.simplicial_law.proofs.IntegralCongruence.{CongruentInt-sum, CongruentInt-times, CongruentInt_of, CongruentInt_refl, CongruentInt_trans}
-use Rattle.surjection_law.specs.Boundary.{caesura_count}
-use Rattle.surjection_law.specs.Surjections.{IsOnto, IsSurjection, arity, surjection_degree}
-use Rattle.surjection.specs.ActionLaws.{among, arity-is}
-use Rattle.interval_cut_law.specs.Operations.{operation_value}
+use Rattle.signed_sum.specs.Names.{value_at}
+use Rattle.signed_sum.proofs.Names.{value_at-append}
+use Rattle.simplicial_law.specs.Names.{CongruentInt}
+use Rattle.simplicial_law.proofs.Names.{CongruentInt-sum, CongruentInt-times, CongruentInt_of, CongruentInt_refl, CongruentInt_trans}
+use Rattle.surjection_law.specs.Names.{caesura_count, IsOnto, IsSurjection, arity, surjection_degree}
+use Rattle.surjection_law.proofs.Caesuras.{caesura_law}
+use Rattle.surjection.specs.Names.{among, arity-is}
+use Rattle.interval_cut_law.specs.Names.{operation_value}
 use Rattle.operad_law.specs.FormalSums.{IsSameSum}
-use Rattle.table_reduction_law.specs.MayElements.{may_element}
-use Rattle.steenrod_law.specs.Values.{sum_value}
-use Rattle.steenrod_law.specs.Words.{copies}
-use Rattle.steenrod_law.proofs.Degrees.{caesuras-count}
+use Rattle.table_reduction_law.specs.Names.{may_element}
+use Rattle.steenrod_law.specs.Names.{sum_value, copies}
 use Rattle.steenrod_law.proofs.Forms.{AreTerms}
 use Rattle.steenrod_law.proofs.MayFamily.{may_family}
-use Rattle.interval_cut.specs.Evaluation.{IsOfDegree}
+use Rattle.interval_cut.specs.Names.{IsOfDegree}
 use Rattle.interval_cut.proofs.ProductLemmas.{remainder}
 use Rattle.may_steenrod.specs.FaceSums.{face_sum}
 use Rattle.may_steenrod.specs.Elements.{AddsTo, tested_value}
 
 -- ---- the test of arity and degree
-
--- the degree is the number of caesuras
-pub degree-caesuras : (u : List ℕ) → IsSurjection u → surjection_degree u ≡ caesura_count u
-degree-caesuras u s = let c = caesuras-count (arity u) u s.onto in omega (arith, c)
 
 tested-none : (p d : ℕ) (a : List ℕ → ℤ) (s u : List ℕ) → ((arity u == p) && (surjection_degree u == d)) ≡ false → tested_value p d a s u ≡ pos 0
 tested-none p d a s u e = ap (λ b. cond b (operation_value p u (copies p a) s) (pos 0)) e
@@ -49,7 +40,7 @@ tested-element p d a s le = go (may_element p d) ((may_family p le).terms d)
     passes : (u : List ℕ) → IsOnto p u → caesura_count u ≡ d → tested_value p d a s u ≡ operation_value p u (copies p a) s
     passes u o c =
         let ar : arity u ≡ p = arity-is p u (among p u (λ v k. sym (o v) ∙ k)) o le in
-        tested-some p d a s u ar (let l = caesuras-count p u o in omega arith)
+        tested-some p d a s u ar (let l = caesura_law.places p u o in omega arith)
 
     go : (x : List (List ℕ × ℤ)) → AreTerms p d x → value_at (tested_value p d a s) x ≡ sum_value p x (copies p a) s
     go [] k = refl
@@ -137,7 +128,7 @@ pub adds-form : (p q d c : ℕ) (u : List ℕ) (now next : List (ℕ × List (Li
     → AddsTo p q (p * q - caesura_count u) now next (λ a s. pos c *ℤ operation_value p u (copies p a) s) → AddsTo p q (p * q - d) now next (λ a s. pos c *ℤ tested_value p d a s u)
 adds-form p q d c u now next s e h =
     let k = form-is p d u e in
-    let same : caesura_count u ≡ d = sym (degree-caesuras u s) ∙ k.1 in
+    let same : caesura_count u ≡ d = sym (caesura_law.degree u s) ∙ k.1 in
     adds-some p q (p * q - d) d c u now next k.0 k.1 (subst (λ m. AddsTo p q (p * q - m) now next (λ a s. pos c *ℤ operation_value p u (copies p a) s)) same h)
 
 pub on_ok-map : {A E : Type 0} (r : Result A E) (P Q : Type 0) → (P → Q) → OnOk r P → OnOk r Q

@@ -5,6 +5,8 @@ pub mod ElementLemmas
 pub mod ValueLemmas
 pub mod PlaceLemmas
 pub mod CupLemmas
+mod BeginningLemmas
+pub mod FrontLemmas
 pub mod OperationLemmas
 pub mod PowerLemmas
 mod SquareLemmas

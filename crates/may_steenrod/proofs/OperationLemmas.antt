@@ -1,28 +1,26 @@
 -- Operations and products on cochains of a complex.
-use Rattle.std.proofs.Common.{◌≡◌, ℕ, suc, ◌+◌, ◌*◌, ◌<◌, List, [], ◌∷◌, length, get_or, arith, ap, ap₂, subst, ◌∙◌}
-use Rattle.std.specs.Prelude.{ℤ, pos, ◌*ℤ◌, IsTrue}
+use Rattle.std.proofs.Common.{◌≡◌, ℕ, suc, ◌+◌, ◌*◌, ◌%◌, ◌<◌, List, [], ◌∷◌, length, take, drop, get_or, arith, ap, ap₂, subst, ◌∙◌, ℤ, pos, ◌*ℤ◌, IsTrue}
 use Rattle.fp_field.specs.Served.{served}
 use Rattle.fp_field.proofs.ServedLemmas.{served_field, served_large}
-use Rattle.linear_law.specs.Congruence.{Congruent}
-use Rattle.linear_law.proofs.CongruenceLemmas.{Congruent_mul, Congruent_of, Congruent_refl, Congruent_trans}
-use Rattle.simplicial_law.specs.Integral.{CongruentInt}
-use Rattle.simplicial_law.specs.Cochains.{Cochain}
-use Rattle.simplicial_law.proofs.Bases.{cocycles}
-use Rattle.simplicial_law.proofs.IntegralBridge.{residues}
-use Rattle.simplicial_law.proofs.IntegralCongruence.{CongruentInt-scale, CongruentInt_of, CongruentInt_sym, CongruentInt_trans}
+use Rattle.linear_law.specs.Names.{Congruent}
+use Rattle.linear_law.proofs.Names.{Congruent_mod, Congruent_mul, Congruent_of, Congruent_refl, Congruent_trans}
+use Rattle.simplicial_law.specs.Names.{CongruentInt, Cochain}
+use Rattle.simplicial_law.proofs.Names.{cocycles, residues, CongruentInt-scale, CongruentInt_of, CongruentInt_sym, CongruentInt_trans}
 use Rattle.complex_index.specs.declared.indexed.Cochain.{Cochain as ComplexCochain}
-use Rattle.complex_index.specs.Levels.{level}
-use Rattle.table_reduction_law.specs.MayElements.{may_element}
-use Rattle.interval_cut_law.specs.Operations.{operation_value}
-use Rattle.interval_cut.specs.Evaluation.{IsOfDegree}
-use Rattle.steenrod_law.specs.Operations.{cup_product, extended, may_operation, scaled_operation}
-use Rattle.steenrod_law.specs.Values.{sum_value}
-use Rattle.steenrod_law.specs.Words.{copies}
+use Rattle.sparse_rows.specs.Rows.{IsBelow, value_in}
+use Rattle.complex_index.specs.Names.{IsIndexOf, level}
+use Rattle.table_reduction_law.specs.Names.{may_element}
+use Rattle.interval_cut_law.specs.Names.{operation_value}
+use Rattle.interval_cut.specs.Names.{IsOfDegree}
+use Rattle.steenrod_law.specs.Names.{cup_product, extended, may_operation, scaled_operation, sum_value, copies}
 use Rattle.steenrod_law.proofs.Complexes.{residue_cochain-same}
 use Rattle.steenrod_law.proofs.LawProofs.{closed_law, product_law}
 use Rattle.may_steenrod.specs.Cochains.{HasValues, IsClosed, IsOn, IsRowOfFirst, cochain_in}
 use Rattle.may_steenrod.specs.FaceSums.{face_sum}
-use Rattle.may_steenrod.proofs.PlaceLemmas.{extended-row, has_values, residue-value, row-degree}
+use Rattle.may_steenrod.specs.Fronts.{AddsFronts}
+use Rattle.may_steenrod.proofs.CupLemmas.{at-faces}
+use Rattle.may_steenrod.proofs.FrontLemmas.{fronts-value}
+use Rattle.may_steenrod.proofs.PlaceLemmas.{extended-row, has_values, has_values_by_place, residue-value, row-degree, simplex-size}
 
 -- ---- operations
 
@@ -85,22 +83,23 @@ operation-closed p levels q n d c row out prime h closed facets i =
 -- ---- products
 
 module _ (p : ℕ) (levels : List (List (List ℕ))) (q k : ℕ) (first second : List (ℕ × ℕ)) (prime : IsTrue (served p)) where
-  pub product-values : (h e : List ℕ → ℕ) (vs : List ℕ) (out : List (ℕ × ℕ)) → h ≡ cochain_in levels q first → e ≡ cochain_in levels k second → IsOn p levels q first → IsOn p levels k second → length vs ≡ length (level levels (q + k))
-      → ((x : ℕ) → x < length (level levels (q + k)) → CongruentInt p (pos (get_or vs x 0))
-      (operation_value 2 (1 ∷ 2 ∷ []) ((λ f. pos (h f)) ∷ (λ f. pos (e f)) ∷ []) (get_or (level levels (q + k)) x [])))
-      → IsRowOfFirst vs (length vs) out → HasValues p levels (q + k) (cup_product p q k (cochain_in levels q first) (cochain_in levels k second)) out
-  product-values m l vs out first_is second_is on_first on_second long at row =
+  pub product-values : (facets : List (List ℕ)) (pairs out : List (ℕ × ℕ)) → IsIndexOf facets levels → IsOn p levels q first → IsOn p levels k second → IsBelow (length (level levels q)) first
+      → AddsFronts p (level levels q) (level levels (q + k)) (cochain_in levels k second) first pairs → ((x : ℕ) → value_in out x ≡ value_in pairs x % p) → IsBelow (length (level levels (q + k))) out
+      → HasValues p levels (q + k) (cup_product p q k (cochain_in levels q first) (cochain_in levels k second)) out
+  product-values facets pairs out index on_first on_second inside adds sum below =
       let a : Cochain = cochain_in levels q first in
       let b : Cochain = cochain_in levels k second in
       let large : 1 < p = served_large p prime in
-      has_values p levels (q + k) (cup_product p q k a b) vs out long
+      has_values_by_place p levels (q + k) (cup_product p q k a b) out below
       (λ x h size. (
       let s : List ℕ = get_or (level levels (q + k)) x [] in
-      residue-value p (get_or vs x 0) (operation_value 2 (1 ∷ 2 ∷ []) (extended q a ∷ extended k b ∷ [])) s large (omega (arith, size))
-      (CongruentInt_trans (at x h)
-      (CongruentInt_of (ap₂ (λ (f g : List ℕ → ℕ). operation_value 2 (1 ∷ 2 ∷ []) ((λ t. pos (f t)) ∷ (λ t. pos (g t)) ∷ []) s) first_is second_is
-      ∙ ap₂ (λ (f g : List ℕ → ℤ). operation_value 2 (1 ∷ 2 ∷ []) (f ∷ g ∷ []) s)
-      (extended-row q a (row-degree p levels q first on_first)) (extended-row k b (row-degree p levels k second on_second))))))) row
+      let value : Congruent p (value_in out x) (a (take (q + 1) s) * b (drop q s)) =
+      Congruent_trans (Congruent_of (sum x)) (Congruent_trans (Congruent_mod p (value_in pairs x)) (Congruent_trans (Congruent_of (adds.sum x h))
+      (fronts-value p q (level levels q) b s first (λ y l. simplex-size levels facets q y index l) inside))) in
+      residue-value p (value_in out x) (operation_value 2 (1 ∷ 2 ∷ []) (extended q a ∷ extended k b ∷ [])) s large (omega (arith, size))
+      (CongruentInt_trans (at-faces p q k a b s on_first.long size (value_in out x) value)
+      (CongruentInt_of (ap₂ (λ (f g : List ℕ → ℤ). operation_value 2 (1 ∷ 2 ∷ []) (f ∷ g ∷ []) s)
+      (extended-row q a (row-degree p levels q first on_first)) (extended-row k b (row-degree p levels k second on_second)))))))
 
   pub product-closed : (out : List (ℕ × ℕ)) → HasValues p levels (q + k) (cup_product p q k (cochain_in levels q first) (cochain_in levels k second)) out
       → IsClosed p levels q first → IsClosed p levels k second → IsClosed p levels (q + k) out

@@ -1,26 +1,18 @@
 -- Cochains from their values at the simplices of a degree.
-use Rattle.std.proofs.Common.{◌≡◌, ℕ, suc, ◌+◌, ◌*◌, ◌%◌, ◌<◌, ◌≤◌, Bool, true, false, cond, ◌==◌, not, List, [], ◌∷◌, ◌++◌, length, get_or, arith, refl, sym, ap, subst, ◌∙◌, inl, inr, eq-eqb, below_more}
-use Rattle.std.specs.Prelude.{ℤ, pos, ◌*ℤ◌, ◌&&◌}
+use Rattle.std.proofs.Common.{◌≡◌, ℕ, suc, ◌+◌, ◌*◌, ◌%◌, ◌<◌, ◌≤◌, Bool, true, false, cond, ◌==◌, not, List, [], ◌∷◌, ◌++◌, length, get_or, arith, refl, sym, ap, subst, ◌∙◌, inl, inr, eq-eqb, below_more, ℤ, pos, ◌*ℤ◌, ◌&&◌}
 use Rattle.std.proofs.lemmas.Bool.{and_cases, cases_Bool, false≢true}
-use Rattle.linear_law.specs.Congruence.{Congruent}
-use Rattle.linear_law.proofs.CongruenceLemmas.{Congruent_of, Congruent_trans}
-use Rattle.linear_law.proofs.ListLemmas.{get_before, get_last, length_push}
+use Rattle.linear_law.specs.Names.{Congruent, unit_vector}
+use Rattle.linear_law.proofs.Names.{Congruent_of, Congruent_trans, get_before, get_last, length_push, unit_one, unit_other}
 use Rattle.interval_cut.proofs.ProductLemmas.{remainder}
-use Rattle.signed_sum.proofs.Ring.{mul_comm}
-use Rattle.linear_law.specs.Listing.{unit_vector}
-use Rattle.linear_law.proofs.RowCombinations.{unit_one, unit_other}
-use Rattle.signed_sum.specs.Lists.{is_degenerate}
-use Rattle.signed_sum.proofs.SumLemmas.{fun_ext}
-use Rattle.simplicial_law.specs.Integral.{CongruentInt}
-use Rattle.simplicial_law.specs.Cochains.{Cochain}
-use Rattle.simplicial_law.proofs.IntegralBridge.{residues}
-use Rattle.simplicial_law.proofs.IntegralCongruence.{CongruentInt-scale, CongruentInt_of, CongruentInt_sym, CongruentInt_trans}
-use Rattle.simplicial_law.proofs.SimplexPlaces.{agree_by_place, simplex_at}
+use Rattle.signed_sum.proofs.Names.{mul_comm, fun_ext}
+use Rattle.signed_sum.specs.Names.{is_degenerate}
+use Rattle.simplicial_law.specs.Names.{CongruentInt, Cochain}
+use Rattle.simplicial_law.proofs.Names.{residues, CongruentInt-scale, CongruentInt_of, CongruentInt_sym, CongruentInt_trans, agree_by_place, simplex_at}
 use Rattle.sparse_rows.specs.Rows.{IsBelow, value_in}
 use Rattle.sparse_rows.proofs.MergeLemmas.{put_below, put_sum, stay_below}
-use Rattle.complex_index.specs.Levels.{IsIndexOf, level}
-use Rattle.interval_cut.specs.Evaluation.{IsOfDegree}
-use Rattle.steenrod_law.specs.Operations.{extended, residue_cochain}
+use Rattle.complex_index.specs.Names.{IsIndexOf, level}
+use Rattle.interval_cut.specs.Names.{IsOfDegree}
+use Rattle.steenrod_law.specs.Names.{extended, residue_cochain}
 use Rattle.steenrod_law.proofs.Complexes.{ascending-plain, residue_cochain-same}
 use Rattle.may_steenrod.specs.Cochains.{HasValues, IsOn, IsRowOfFirst, cochain_in}
 use Rattle.may_steenrod.proofs.OnLemmas.{value_by_place}
@@ -85,14 +77,20 @@ pub simplex-size : (levels : List (List (List ℕ))) (facets : List (List ℕ)) 
 simplex-size levels facets n x i h = let s = (simplex_at facets n 2 (level levels n) (i.lists n) x h).size in omega arith
 
 -- a row with the values of b
+pub has_values_by_place : (p : ℕ) (levels : List (List (List ℕ))) (n : ℕ) (b : Cochain) (row : List (ℕ × ℕ)) → IsBelow (length (level levels n)) row
+    → ((x : ℕ) → x < length (level levels n) → length (get_or (level levels n) x []) ≡ suc n → Congruent p (value_in row x) (b (get_or (level levels n) x [])))
+    → HasValues p levels n b row
+has_values_by_place p levels n b row below k = record {
+  inside = below;
+  values = λ facets i. agree_by_place facets n p (level levels n) (i.lists n) (cochain_in levels n row) b
+      (λ x h. Congruent_trans (Congruent_of (value_by_place facets n p (level levels n) (i.lists n) row x h)) (k x h (simplex-size levels facets n x i h)));
+}
+
 pub has_values : (p : ℕ) (levels : List (List (List ℕ))) (n : ℕ) (b : Cochain) (vs : List ℕ) (row : List (ℕ × ℕ)) → length vs ≡ length (level levels n)
     → ((x : ℕ) → x < length (level levels n) → length (get_or (level levels n) x []) ≡ suc n → Congruent p (get_or vs x 0) (b (get_or (level levels n) x [])))
     → IsRowOfFirst vs (length vs) row → HasValues p levels n b row
-has_values p levels n b vs row l k r = record {
-  inside = subst (λ m. IsBelow m row) l r.below;
-  values = λ facets i. agree_by_place facets n p (level levels n) (i.lists n) (cochain_in levels n row) b
-      (λ x h. Congruent_trans (Congruent_of (value_by_place facets n p (level levels n) (i.lists n) row x h ∙ r.values x (omega arith))) (k x h (simplex-size levels facets n x i h)));
-}
+has_values p levels n b vs row l k r =
+    has_values_by_place p levels n b row (subst (λ m. IsBelow m row) l r.below) (λ x h size. Congruent_trans (Congruent_of (r.values x (omega arith))) (k x h size))
 
 -- a residue of h
 pub residue-value : (p v : ℕ) (h : List ℕ → ℤ) (s : List ℕ) → 1 < p → 1 ≤ length s → CongruentInt p (pos v) (h s) → Congruent p v (residue_cochain p h s)

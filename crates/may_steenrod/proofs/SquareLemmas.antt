@@ -1,20 +1,15 @@
 -- Squares from the values of the closed formula.
-use Rattle.std.proofs.Common.{◌≡◌, ℕ, zero, suc, ◌+◌, ◌-◌, ◌<◌, List, [], ◌∷◌, length, get_or, arith, refl, sym, ap, subst, ◌∙◌}
-use Rattle.std.specs.Prelude.{ℤ, pos, IsTrue}
+use Rattle.std.proofs.Common.{◌≡◌, ℕ, zero, suc, ◌+◌, ◌-◌, ◌<◌, ◌≤◌, List, [], ◌∷◌, length, get_or, arith, refl, sym, ap, subst, ◌∙◌, ℤ, pos, IsTrue}
 use Rattle.fp_field.specs.Served.{served}
 use Rattle.fp_field.proofs.ServedLemmas.{served_large}
-use Rattle.linear_law.proofs.CongruenceLemmas.{Congruent_of, Congruent_trans}
-use Rattle.simplicial_law.specs.Integral.{CongruentInt}
-use Rattle.simplicial_law.specs.Cochains.{Cochain}
-use Rattle.simplicial_law.proofs.IntegralCongruence.{CongruentInt_of, CongruentInt_trans}
-use Rattle.interval_cut_law.specs.Operations.{operation_value}
-use Rattle.table_reduction_law.specs.Counts.{in_turn}
-use Rattle.table_reduction_law.specs.MayElements.{may_element}
+use Rattle.linear_law.proofs.Names.{Congruent_of, Congruent_trans}
+use Rattle.simplicial_law.specs.Names.{CongruentInt, Cochain}
+use Rattle.simplicial_law.proofs.Names.{CongruentInt_of, CongruentInt_trans}
+use Rattle.interval_cut_law.specs.Names.{operation_value}
+use Rattle.table_reduction_law.specs.Names.{in_turn, may_element}
 use Rattle.table_reduction_law.proofs.MayTwo.{may_two_law}
-use Rattle.complex_index.specs.Levels.{IsIndexOf, level}
-use Rattle.steenrod_law.specs.Operations.{IsSquare, extended, may_operation}
-use Rattle.steenrod_law.specs.Values.{sum_value}
-use Rattle.steenrod_law.specs.Words.{copies}
+use Rattle.complex_index.specs.Names.{IsIndexOf, level}
+use Rattle.steenrod_law.specs.Names.{IsSquare, extended, may_operation, sum_value, copies}
 use Rattle.may_steenrod.specs.Cochains.{HasValues, IsClosed, IsOn, IsRowOfFirst, cochain_in}
 use Rattle.may_steenrod.proofs.OperationLemmas.{operation-closed}
 use Rattle.may_steenrod.proofs.PlaceLemmas.{extended-row, has_values, residue-value, row-degree}
@@ -51,7 +46,9 @@ module _ (p : ℕ) (levels : List (List (List ℕ))) (q n d : ℕ) (row : List (
       operation-closed p levels q n d 1 row out (subst (λ m. IsTrue (served m)) (sym two) refl)
       (record { inside = h.inside; values = λ facets i. record { at = λ s on. Congruent_trans ((h.values facets i).at s on) (Congruent_of (omega arith)) } })
 
-pub is_square : (p : ℕ) (levels : List (List (List ℕ))) (q k : ℕ) (row out : List (ℕ × ℕ)) → p ≡ 2 → HasValues p levels (q + k) (may_operation p (q - k) q (cochain_in levels q row)) out
+pub is_square : (p : ℕ) (levels : List (List (List ℕ))) (q k : ℕ) (row out : List (ℕ × ℕ)) → p ≡ 2 → k ≤ q → HasValues p levels (q + k) (may_operation p (q - k) q (cochain_in levels q row)) out
     → (facets : List (List ℕ)) → IsIndexOf facets levels → IsSquare facets k q (cochain_in levels q row) (cochain_in levels (q + k) out)
-is_square p levels q k row out two h facets i =
-    (subst (λ x. HasValues x levels (q + k) (may_operation x (q - k) q (cochain_in levels q row)) out) two h).values facets i
+is_square p levels q k row out two d h facets i = record {
+  defined = d;
+  value = (subst (λ x. HasValues x levels (q + k) (may_operation x (q - k) q (cochain_in levels q row)) out) two h).values facets i;
+}

@@ -1,12 +1,10 @@
 -- Cochains of a complex, as rows by place.
 use Rattle.std.specs.Prelude.{◌≡◌, ◌≢◌, ◌<◌, ℕ, List, [], length, get_or, suc, IsTrue}
 use Rattle.fp_field.specs.Served.{served}
-use Rattle.linear_law.specs.Lists.{IsAscending}
+use Rattle.linear_law.specs.Names.{IsAscending}
 use Rattle.sparse_rows.specs.Rows.{IsBelow, value_in}
-use Rattle.simplicial_law.specs.Cochains.{AgreesOnSimplices, Cochain as SimplexCochain, IsCocycle}
-use Rattle.simplicial_law.specs.CanonicalClasses.{cochain_of}
-use Rattle.simplicial_law.specs.Places.{terms_of}
-use Rattle.complex_index.specs.Levels.{IsIndexOf, level}
+use Rattle.simplicial_law.specs.Names.{AgreesOnSimplices, Cochain as SimplexCochain, IsCocycle, cochain_of, terms_of}
+use Rattle.complex_index.specs.Names.{IsIndexOf, level}
 
 -- the cochain of degree n with this row
 abbrev pub cochain_in : List (List (List ℕ)) → ℕ → List (ℕ × ℕ) → SimplexCochain

@@ -1,10 +1,10 @@
 -- The value of a sum of surjections on one cochain.
 use Rattle.std.specs.Prelude.{◌≡◌, ℕ, ◌==◌, ◌&&◌, cond, List, ℤ, pos, ◌+ℤ◌, length, suc}
-use Rattle.simplicial_law.specs.Integral.{CongruentInt}
-use Rattle.surjection_law.specs.Surjections.{arity, surjection_degree}
-use Rattle.interval_cut_law.specs.Operations.{operation_value}
-use Rattle.steenrod_law.specs.Words.{copies}
-use Rattle.interval_cut.specs.Evaluation.{IsOfDegree}
+use Rattle.simplicial_law.specs.Names.{CongruentInt}
+use Rattle.surjection_law.specs.Names.{arity, surjection_degree}
+use Rattle.interval_cut_law.specs.Names.{operation_value}
+use Rattle.steenrod_law.specs.Names.{copies}
+use Rattle.interval_cut.specs.Names.{IsOfDegree}
 use Rattle.may_steenrod.specs.FaceSums.{face_sum}
 
 -- the value of the operation of u on p times the cochain a, if u has arity p and degree d, else 0

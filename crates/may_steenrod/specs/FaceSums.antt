@@ -1,10 +1,10 @@
 -- Sums of products of the values of one cochain on faces of a simplex.
 use Rattle.std.specs.Prelude.{◌≡◌, ◌<◌, ◌≤◌, ℕ, ◌*◌, List, [], ◌∷◌, map, take, length, get_or, ℤ, pos, ◌*ℤ◌, Vec}
 use Rattle.std.specs.declared.alloc.Global.{Global}
-use Rattle.linear_law.specs.Lists.{Each}
-use Rattle.signed_sum.specs.Sums.{total}
-use Rattle.interval_cut_law.specs.Cuts.{vertex_at}
-use Rattle.complex_index.specs.Incidence.{list_at}
+use Rattle.linear_law.specs.Names.{Each}
+use Rattle.signed_sum.specs.Names.{total}
+use Rattle.interval_cut_law.specs.Names.{vertex_at}
+use Rattle.complex_index.specs.Names.{list_at}
 use Rattle.may_steenrod.specs.declared.face_sum.Term.{Term}
 
 -- the product of the values of a on faces, given by places, of the simplex s

@@ -1,3 +1,4 @@
 pub mod Cochains
 pub mod FaceSums
 pub mod Elements
+pub mod Fronts

@@ -1,24 +1,17 @@
 //! The operation of a sum of surjections on cochains of one degree, as a sum of products of values on
 //! faces. The live cuts are walked once, and not again for each simplex.
 ghost use Rattle.std.specs.Prelude.{◌≡◌, ◌==◌, ◌&&◌, ◌<◌, ◌≤◌, ◌+◌, ◌-◌, ◌*◌, ◌%◌, ◌^◌, ◌∷◌, ℕ, ℤ, List, [], cond, length, map, pos, slice_index_or, suc, take, IfOk, IsSome, IsTrue, OnOk, ◌+ℤ◌, ◌*ℤ◌};
-ghost use Rattle.linear_law.specs.Congruence.{sum_over};
-ghost use Rattle.linear_law.specs.Lists.{Each};
-ghost use Rattle.signed_sum.specs.Lists.{numbers_from};
-ghost use Rattle.signed_sum.specs.Signs.{signed};
-ghost use Rattle.surjection_law.specs.Boundary.{caesura_count};
-ghost use Rattle.surjection_law.specs.Surjections.{IsSurjection, arity, surjection_degree};
-ghost use Rattle.simplicial_law.specs.Integral.{CongruentInt};
-ghost use Rattle.interval_cut_law.specs.Cuts.{cut_faces, vertex_at};
-ghost use Rattle.interval_cut_law.specs.Operations.{operation_value};
-ghost use Rattle.interval_cut.specs.Walking.{cut_of};
-ghost use Rattle.interval_cut.specs.Evaluation.{IsOfDegree};
-ghost use Rattle.complex_index.specs.Incidence.{list_at};
-ghost use Rattle.complex_index.specs.Levels.{level};
+ghost use Rattle.linear_law.specs.Names.{sum_over, Each};
+ghost use Rattle.signed_sum.specs.Names.{numbers_from, signed};
+ghost use Rattle.surjection_law.specs.Names.{caesura_count, IsSurjection, arity, surjection_degree};
+ghost use Rattle.simplicial_law.specs.Names.{CongruentInt};
+ghost use Rattle.interval_cut_law.specs.Names.{cut_faces, vertex_at, operation_value};
+ghost use Rattle.interval_cut.specs.Names.{cut_of, IsOfDegree};
+ghost use Rattle.complex_index.specs.Names.{list_at, level};
 ghost use Rattle.fp_field.specs.Served.{served};
 ghost use Rattle.operad_law.specs.FormalSums.{IsSameSum};
-ghost use Rattle.table_reduction_law.specs.MayElements.{may_element};
-ghost use Rattle.steenrod_law.specs.Values.{sum_value};
-ghost use Rattle.steenrod_law.specs.Words.{copies};
+ghost use Rattle.table_reduction_law.specs.Names.{may_element};
+ghost use Rattle.steenrod_law.specs.Names.{sum_value, copies};
 ghost use Rattle.may_steenrod.specs.Elements.{AddsTo, tested_value};
 ghost use Rattle.may_steenrod.specs.FaceSums.{AreNumbered, Extends, face_product, face_sum, product_at, term_product, terms_in, value_on_face};
 

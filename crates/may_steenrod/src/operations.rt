@@ -1,13 +1,13 @@
 //! May operations, squares, powers and Bockstein powers on cochains.
 ghost use Rattle.std.specs.Prelude.{◌≡◌, ◌≤◌, ◌<◌, ◌+◌, ◌-◌, ◌*◌, ◌%◌, ℕ, List, length, IfOk, IsSome, IsTrue};
-ghost use Rattle.linear_law.specs.Congruence.{negated};
+ghost use Rattle.linear_law.specs.Names.{negated};
 ghost use Rattle.fp_field.specs.Served.{served};
 ghost use Rattle.sparse_rows.specs.Rows.{IsBelow};
 ghost use Rattle.operad_law.specs.FormalSums.{IsSameSum};
-ghost use Rattle.table_reduction_law.specs.MayElements.{may_element};
-ghost use Rattle.complex_index.specs.Levels.{IsIndexOf, level};
+ghost use Rattle.table_reduction_law.specs.Names.{may_element};
+ghost use Rattle.complex_index.specs.Names.{IsIndexOf, level};
 ghost use Rattle.may_elements.specs.Stored.{stored_at};
-ghost use Rattle.steenrod_law.specs.Operations.{IsBocksteinPower, IsPower, may_operation, power_degree, scaled_operation};
+ghost use Rattle.steenrod_law.specs.Names.{IsBocksteinPower, IsPower, may_operation, power_degree, scaled_operation};
 ghost use Rattle.may_steenrod.specs.Cochains.{HasValues, IsClosed, cochain_in};
 
 use crate::face_sum::FaceSum;

@@ -1,11 +1,11 @@
 //! Squares, by the closed formula.
 ghost use Rattle.std.specs.Prelude.{◌≡◌, ◌≤◌, ◌<◌, ◌+◌, ◌-◌, ◌^◌, ◌∷◌, ℕ, List, [], length, pos, slice_index_or, IfOk};
-ghost use Rattle.simplicial_law.specs.Integral.{CongruentInt};
-ghost use Rattle.interval_cut_law.specs.Operations.{operation_value};
-ghost use Rattle.table_reduction_law.specs.Counts.{in_turn};
+ghost use Rattle.simplicial_law.specs.Names.{CongruentInt};
+ghost use Rattle.interval_cut_law.specs.Names.{operation_value};
+ghost use Rattle.table_reduction_law.specs.Names.{in_turn};
 ghost use Rattle.sparse_rows.specs.Rows.{IsBelow};
-ghost use Rattle.complex_index.specs.Levels.{IsIndexOf, level};
-ghost use Rattle.steenrod_law.specs.Operations.{IsSquare};
+ghost use Rattle.complex_index.specs.Names.{IsIndexOf, level};
+ghost use Rattle.steenrod_law.specs.Names.{IsSquare};
 ghost use Rattle.may_steenrod.specs.Cochains.{IsClosed, cochain_in};
 
 use crate::on::On;

@@ -1,24 +1,16 @@
 -- From rows by place to columns of a report.
-use Rattle.std.proofs.Common.{◌≡◌, ◌≢◌, ℕ, zero, suc, ◌+◌, ◌-◌, ◌<◌, Bool, true, false, List, [], length, get_or, arith, refl, sym, ap, subst}
-use Rattle.std.specs.Prelude.{IsTrue, MatchOption, Some, None}
+use Rattle.std.proofs.Common.{◌≡◌, ◌≢◌, ℕ, zero, suc, ◌+◌, ◌-◌, ◌<◌, Bool, true, false, List, [], length, get_or, arith, refl, sym, ap, subst, IsTrue, MatchOption, Some, None}
 use Rattle.std.specs.declared.option.Option.{Option}
 use Rattle.std.proofs.lemmas.Simd.{map-map}
-use Rattle.linear_law.proofs.ListLemmas.{each_map, each_of_map}
-use Rattle.simplicial_law.specs.Simplices.{IsInOrder, IsSimplex}
-use Rattle.linear_law.proofs.CongruenceLemmas.{Congruent_trans}
-use Rattle.simplicial_law.specs.Cochains.{AgreesOnSimplices, Chain, Cochain as SimplexCochain}
-use Rattle.simplicial_law.specs.Canonical.{IsCanonicalPrimitive}
-use Rattle.simplicial_law.specs.CanonicalClasses.{AreTerms, cochain_of}
-use Rattle.simplicial_law.specs.Places.{terms_of}
-use Rattle.simplicial_law.proofs.SimplexPlaces.{ordered_places, simplex_at}
+use Rattle.linear_law.proofs.Names.{each_map, each_of_map, Congruent_trans}
+use Rattle.simplicial_law.specs.Names.{IsInOrder, IsSimplex, AgreesOnSimplices, Chain, Cochain as SimplexCochain, IsCanonicalPrimitive, AreTerms, cochain_of, terms_of}
+use Rattle.simplicial_law.proofs.Names.{ordered_places, simplex_at}
 use Rattle.sparse_rows.specs.Rows.{IsBelow, IsRow}
 use Rattle.complex_index.specs.declared.indexed.Cochain.{Cochain}
-use Rattle.complex_index.specs.Levels.{IsIndexOf, level}
+use Rattle.complex_index.specs.Names.{IsIndexOf, level}
 use Rattle.cohomology.specs.declared.basis.Column.{Column}
-use Rattle.cohomology.specs.Classes.{cochain_in}
-use Rattle.cohomology.specs.Coordinates.{IsPrimitiveOf, rest_in}
-use Rattle.cohomology.specs.Basis.{IsColumnOf}
-use Rattle.report_law.specs.Columns.{IsPrimitive}
+use Rattle.cohomology.specs.Names.{cochain_in, IsPrimitiveOf, rest_in, IsColumnOf}
+use Rattle.report_law.specs.Names.{IsPrimitive}
 use Rattle.op_matrix.specs.Columns.{IsColumnFor, primitive_terms}
 
 not-both : (b : Bool) → b ≡ false → IsTrue b → ⊥

@@ -1,4 +1,3 @@
 pub mod ColumnLemmas
 pub mod ListLemmas
 pub mod TableLemmas
-pub mod OperationLemmas

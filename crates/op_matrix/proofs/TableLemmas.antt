@@ -1,39 +1,27 @@
 -- Matrices from their columns.
-use Rattle.std.proofs.Common.{◌≡◌, ℕ, zero, suc, ◌+◌, Bool, true, List, [], ◌∷◌, ◌++◌, map, length, refl, sym, ap, ap₂, subst, ◌∙◌}
-use Rattle.std.specs.Prelude.{IsTrue, flat_map, slice_get, Some, None}
+use Rattle.std.proofs.Common.{◌≡◌, ℕ, zero, suc, ◌+◌, Bool, true, List, [], ◌∷◌, ◌++◌, map, length, refl, sym, ap, ap₂, subst, ◌∙◌, IsTrue, flat_map, slice_get, Some, None}
 use Rattle.std.specs.declared.option.Option.{Option}
 use Rattle.std.specs.List.{AllZip}
-use Rattle.std.proofs.lemmas.List.{length-map}
+use Rattle.std.proofs.lemmas.List.{length-map, map-append}
 use Rattle.fp_field.specs.Served.{served}
 use Rattle.fp_field.proofs.ServedLemmas.{served_field}
-use Rattle.linear_law.specs.Congruence.{IsField, negated}
-use Rattle.linear_law.specs.Lists.{Each}
-use Rattle.linear_law.specs.ReducedBases.{combination}
-use Rattle.linear_law.proofs.CongruenceLemmas.{Congruent_add, Congruent_refl, Congruent_sym}
-use Rattle.linear_law.specs.Matrices.{matrix_times}
-use Rattle.simplicial_law.specs.Cochains.{AgreesOnSimplices, Cochain as SimplexCochain, HasCoordinates, IsCocycle, IsCohomologyBasis}
-use Rattle.simplicial_law.specs.CanonicalClasses.{cochain_of}
-use Rattle.simplicial_law.specs.Places.{terms_of}
-use Rattle.steenrod_law.specs.Operations.{cochain_products, coefficient_products, cup_product, scaled_operation}
+use Rattle.linear_law.specs.Names.{IsField, negated, Each, combination, matrix_times}
+use Rattle.linear_law.proofs.Names.{Congruent_add, Congruent_refl, Congruent_sym}
+use Rattle.simplicial_law.specs.Names.{AgreesOnSimplices, Cochain as SimplexCochain, HasCoordinates, IsCocycle, IsCohomologyBasis, cochain_of, terms_of}
+use Rattle.steenrod_law.specs.Names.{cochain_products, coefficient_products, cup_product, scaled_operation}
 use Rattle.steenrod_law.proofs.ClassLaws.{matrix-law, product-closed, product-matrix}
-use Rattle.steenrod_law.proofs.OrbitTables.{orbit_tables}
+use Rattle.fp_field.specs.Orbits.{orbit_words}
+use Rattle.steenrod_law.proofs.OrbitTables.{orbit_words_law}
 use Rattle.complex_index.specs.declared.indexed.Cochain.{Cochain}
-use Rattle.complex_index.specs.Levels.{IsIndexOf, level}
+use Rattle.complex_index.specs.Names.{IsIndexOf, level}
 use Rattle.cohomology.specs.declared.basis.Column.{Column}
-use Rattle.cohomology.specs.Classes.{AreCanonicalIn, IsPlaced, chains_at, cochain_in}
-use Rattle.cohomology.specs.Coordinates.{IsClosedIn}
-use Rattle.cohomology.specs.Basis.{IsColumnOf}
-use Rattle.cohomology.specs.Values.{cochains_at}
+use Rattle.cohomology.specs.Names.{AreCanonicalIn, IsPlaced, chains_at, cochain_in, IsClosedIn, IsColumnOf, cochains_at}
 use Rattle.report.specs.declared.plan.Block.{Block}
 use Rattle.report.specs.declared.plan.Product.{Product}
 use Rattle.may_steenrod.specs.Cochains.{HasValues, IsClosed}
 use Rattle.sparse_rows.specs.Rows.{IsBelow}
-use Rattle.report_law.specs.Columns.{IsColumn, rest_of}
-use Rattle.report_law.specs.Differences.{IsOperation}
-use Rattle.report_law.specs.Live.{element_degree, is_defined, target_degree}
-use Rattle.report_law.specs.Matrices.{Classes, IsOperationColumn, cochains_in}
-use Rattle.report_law.proofs.Coordinates.{agrees-sym, coordinates-alike}
-use Rattle.report_law.proofs.ScaledForms.{IsScaled, scaled, scaled-closed}
+use Rattle.report_law.specs.Names.{IsColumn, rest_of, IsOperation, element_degree, is_defined, target_degree, Classes, IsOperationColumn, cochains_in}
+use Rattle.report_law.proofs.Names.{agrees-sym, coordinates-alike, IsScaled, scaled, scaled-closed}
 use Rattle.op_matrix.specs.Columns.{AreListedAs, IsColumnFor, listed_column, listed_columns, primitive_terms, values_of}
 use Rattle.op_matrix.proofs.ColumnLemmas.{column-for, primitive-alike}
 use Rattle.op_matrix.specs.Tables.{IsOperationMatrix, IsPairColumn, IsProductMatrix, IsResultColumn}
@@ -113,8 +101,7 @@ module _ (p : ℕ) (detailed : Bool) (levels : List (List (List ℕ))) (classes 
             let us : List SimplexCochain = cochains_at {p = p} levels block.to (classes block.to) in
             let d : ℕ = element_degree p block.from block.op in
             let same = subst (λ (n : ℕ). AgreesOnSimplices facets n p b (made z)) (sym to) (constant.there facets z b operation) in
-            let ms = orbit_tables.all_served p is_served in
-            let whole = matrix-law p field facets d constant.scale block.from block.to ms.0 (cochains_at {p = p} levels block.from (classes block.from)) us (values_of {p = p} cs) ms.1
+            let whole = matrix-law p field facets d constant.scale block.from block.to (orbit_words p) (cochains_at {p = p} levels block.from (classes block.from)) us (values_of {p = p} cs) (orbit_words_law p is_served)
             (basis-in block.from).cocycles (made-columns (classes block.from) cs h) z ds coordinates in (
               scaled-closed facets p d constant.scale block.from block.to z b field closed same,
               subst (λ (k : ℕ). HasCoordinates facets block.to p us b (matrix_times p k (values_of {p = p} cs) ds)) (count-classes block.to)
@@ -148,10 +135,6 @@ module _ (p : ℕ) (detailed : Bool) (levels : List (List (List ℕ))) (classes 
       row-of-products : (z : Cochain p) (ws : List (Cochain p)) → map product_of (map (λ (w : Cochain p). (z, w)) ws) ≡ map (λ w. cup_product p x.a x.b (made_in x.a z) w) (cochains_at {p = p} levels x.b ws)
       row-of-products z [] = refl
       row-of-products z (w ∷ ws) = ap (λ us. cup_product p x.a x.b (made_in x.a z) (made_in x.b w) ∷ us) (row-of-products z ws)
-
-      map-append : {A B : Type 0} (f : A → B) (us vs : List A) → map f (us ++ vs) ≡ map f us ++ map f vs
-      map-append f [] vs = refl
-      map-append f (u ∷ us) vs = ap (λ t. f u ∷ t) (map-append f us vs)
 
       all-products : (zs ws : List (Cochain p)) → map product_of (pairs_of zs ws) ≡ cochain_products p x.a x.b (cochains_at {p = p} levels x.a zs) (cochains_at {p = p} levels x.b ws)
       all-products [] ws = refl

@@ -1,23 +1,13 @@
 -- Columns of coordinates for the canonical classes of a complex, as a report lists them.
-use Rattle.std.specs.Prelude.{◌≡◌, ◌⊎◌, ℕ, ◌-◌, Bool, List, [], map, IsSome, Some, None, ℤ}
+use Rattle.std.specs.Prelude.{◌≡◌, ℕ, ◌-◌, Bool, List, [], map, Some, None}
 use Rattle.std.specs.declared.option.Option.{Option}
-use Rattle.simplicial_law.specs.Cochains.{Chain, Cochain as SimplexCochain}
-use Rattle.simplicial_law.specs.Places.{terms_of}
+use Rattle.simplicial_law.specs.Names.{Chain, Cochain as SimplexCochain, terms_of}
 use Rattle.complex_index.specs.declared.indexed.Cochain.{Cochain}
-use Rattle.complex_index.specs.Levels.{level}
-use Rattle.may_elements.specs.Stored.{stored_at}
+use Rattle.complex_index.specs.Names.{level}
 use Rattle.cohomology.specs.declared.basis.Column.{Column}
-use Rattle.cohomology.specs.Classes.{chains_at}
-use Rattle.cohomology.specs.Values.{cochains_at}
+use Rattle.cohomology.specs.Names.{chains_at, cochains_at}
 use Rattle.report.specs.declared.columns.Column.{Column as ListedColumn}
-use Rattle.report.specs.declared.plan.Op.{Op}
-use Rattle.report_law.specs.Columns.{IsColumn}
-use Rattle.report_law.specs.Live.{element_degree}
-use Rattle.report_law.specs.Matrices.{Classes, classes_in}
-
--- the May element that an operation on degree q is made with is stored; at 2 none is needed
-abbrev pub HasElement : ℕ → List (ℕ × List (List ℕ × ℤ)) → ℕ → Op → Type 0
-HasElement p table q op = (p ≡ 2) ⊎ IsSome (stored_at (element_degree p q op) table)
+use Rattle.report_law.specs.Names.{IsColumn, Classes, classes_in}
 
 -- the classes of each degree, as a report lists them
 pub record AreListedAs {p : ℕ} (levels : List (List (List ℕ))) (classes : ℕ → List (Cochain p)) (listed : Classes) : Type 0 where

@@ -2,9 +2,7 @@
 #![tactic(auto)]
 
 mod matrices;
-mod operations;
 mod products;
 
 pub use matrices::matrix;
-pub use operations::operation;
 pub use products::ring;

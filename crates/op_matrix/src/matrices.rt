@@ -1,13 +1,13 @@
 ghost use Rattle.std.specs.Prelude.{◌≡◌, ◌≤◌, ◌-◌, length, slice_get, Some, true, IfOk, IsTrue};
 ghost use Rattle.fp_field.specs.Served.{served};
 ghost use Rattle.complex_index.specs.declared.indexed.Cochain.{Cochain};
-ghost use Rattle.report_law.specs.Live.{is_defined, target_degree};
-ghost use Rattle.op_matrix.specs.Columns.{HasElement};
+ghost use Rattle.report_law.specs.Names.{is_defined, target_degree};
+ghost use Rattle.line_difference.specs.Elements.{HasElement};
 ghost use Rattle.op_matrix.specs.Tables.{IsOperationMatrix, IsResultColumn};
 
-use crate::operations::operation;
 use cohomology::{Basis, Column};
 use complex_index::Indexed;
+use line_difference::operation;
 use may_elements::MayTable;
 use report::Block;
 use std::alloc::{AllocError, Global};

@@ -1,11 +1,10 @@
-use Rattle.std.proofs.Common.{◌≡◌, ◌+◌, ◌-◌, ◌<◌, ◌≤◌, ℕ, List, arith, length, subst, sym, ◌∙◌, take, lit<}
-use Rattle.std.specs.Prelude.{get_or, slice_get, Some}
+use Rattle.std.proofs.Common.{◌≡◌, ◌+◌, ◌-◌, ◌<◌, ◌≤◌, ℕ, List, arith, length, subst, sym, ◌∙◌, take, lit<, take_all, get_or, slice_get, Some}
 use Rattle.std.specs.List.{AllZip}
 use Rattle.complex_index.specs.declared.indexed.Cochain.{Cochain}
 use Rattle.cohomology.specs.declared.basis.Column.{Column}
-use Rattle.cohomology.specs.Classes.{IsPlaced}
+use Rattle.cohomology.specs.Names.{IsPlaced}
 use Rattle.may_steenrod.specs.Cochains.{IsClosed}
-use Rattle.op_matrix.proofs.ListLemmas.{whole, zip-more}
+use Rattle.op_matrix.proofs.ListLemmas.{zip-more}
 use Rattle.op_matrix.proofs.TableLemmas.{class-closed, class-placed}
 use Rattle.induced_map.specs.Induced.{IsPulledColumn}
 use Rattle.induced_map.proofs.PullLemmas.{induced-matrix}
@@ -62,4 +61,4 @@ returns g c =
     let R : Cochain p → Column p → Type 0 = IsPulledColumn {p = p} g.B.Basis.keeps f from c.args.to.now (g.B.Basis.classes c.args.source.now) q in
     let all : length zs ≤ c.loop-i.i = omega arith in
     induced-matrix p g.B.Basis.keeps f from c.args.to.now (g.B.Basis.classes c.args.source.now) (g.met.B.Basis.canonical from c.args.source.now c.requires.source_of) c.requires.prime c.requires.map
-    (g.B.Basis.classes c.args.target.now) q c.loop-i.columns.items (subst (λ (xs : List (Cochain p)). AllZip R xs c.loop-i.columns.items) (whole zs c.loop-i.i all) c.loop-i.invariant)
+    (g.B.Basis.classes c.args.target.now) q c.loop-i.columns.items (subst (λ (xs : List (Cochain p)). AllZip R xs c.loop-i.columns.items) (take_all c.loop-i.i zs all) c.loop-i.invariant)

@@ -1,9 +1,9 @@
 use Rattle.std.proofs.Common.{subst, sym}
 use Rattle.report.specs.declared.plan.Op.{Op}
-use Rattle.report_law.specs.Differences.{IsOperation}
-use Rattle.simplicial_law.specs.Cochains.{HasCoordinates}
-use Rattle.cohomology.specs.Values.{cochains_at}
-use Rattle.class_matrices.specs.Coordinates.{IsSetting}
+use Rattle.report_law.specs.Names.{IsOperation}
+use Rattle.simplicial_law.specs.Names.{HasCoordinates}
+use Rattle.cohomology.specs.Names.{cochains_at}
+use Rattle.class_matrices.specs.Names.{IsSetting}
 use Rattle.cartan_check.proofs.ByMatrixLemmas.{verdict-is}
 use Rattle.cartan_check.proofs.by_matrices.cartan_by_matrices.Goals as goal
 

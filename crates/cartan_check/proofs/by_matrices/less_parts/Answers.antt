@@ -1,7 +1,6 @@
-use Rattle.std.proofs.Common.{◌≡◌, ◌∙◌, ◌<◌, ◌≤◌, ◌+◌, ℕ, List, true, ap, ap₂, arith, get_or, length, lit<, subst, sym, take}
+use Rattle.std.proofs.Common.{◌≡◌, ◌∙◌, ◌<◌, ◌≤◌, ◌+◌, ℕ, List, true, ap, ap₂, arith, get_or, length, lit<, subst, sym, take, take_all}
 use Rattle.std.proofs.lemmas.List.{take_more}
-use Rattle.report_law.specs.Live.{cartan_op, cartan_pairs, is_defined}
-use Rattle.op_matrix.proofs.ListLemmas.{whole}
+use Rattle.report_law.specs.Names.{cartan_op, cartan_pairs, is_defined}
 use Rattle.cartan_check.specs.ByMatrices.{HasPart, IsLessParts}
 use Rattle.cartan_check.proofs.ByMatrixLemmas.{no-parts, one-more, pair-at, part-degree}
 use Rattle.cartan_check.proofs.by_matrices.less_parts.Goals as goal
@@ -73,4 +72,4 @@ returns-clause-less g c = λ facets levels z w u on hz hw hu.
     let count = ap (λ (xs : List (ℕ × ℕ)). length xs) (c.as_slice-pair-items.ensures.value ∙ c.in_ok-pairs.ensures) in
     let done = c.loop-pair-test.false in
     let all : length pairs ≤ c.loop-pair.pair-index = omega (arith, count, done) in
-    subst (λ (xs : List (ℕ × ℕ)). IsLessParts {p = p} facets levels (g.B.Basis.classes c.args.basis.now) line z w u xs c.loop-pair.rest) (whole pairs c.loop-pair.pair-index all) (c.loop-pair.invariant.1 facets levels z w u on hz hw hu)
+    subst (λ (xs : List (ℕ × ℕ)). IsLessParts {p = p} facets levels (g.B.Basis.classes c.args.basis.now) line z w u xs c.loop-pair.rest) (take_all c.loop-pair.pair-index pairs all) (c.loop-pair.invariant.1 facets levels z w u on hz hw hu)

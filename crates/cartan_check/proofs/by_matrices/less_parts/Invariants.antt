@@ -1,8 +1,7 @@
 use Rattle.std.proofs.Common.{◌≡◌, ℕ, List, take}
-use Rattle.simplicial_law.specs.Cochains.{Cochain as SimplexCochain}
-use Rattle.report_law.specs.Live.{cartan_pairs}
-use Rattle.report_law.specs.Matrices.{line_degree}
-use Rattle.class_matrices.specs.Coordinates.{HasThese, IsSetting}
+use Rattle.simplicial_law.specs.Names.{Cochain as SimplexCochain}
+use Rattle.report_law.specs.Names.{cartan_pairs, line_degree}
+use Rattle.class_matrices.specs.Names.{HasThese, IsSetting}
 use Rattle.cartan_check.specs.ByMatrices.{IsLessParts}
 use Rattle.cartan_check.proofs.by_matrices.less_parts.Given as goal
 

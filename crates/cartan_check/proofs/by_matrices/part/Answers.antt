@@ -1,8 +1,7 @@
 use Rattle.std.proofs.Common.{◌∙◌, ap, subst, sym}
 use Rattle.std.proofs.lemmas.Result.{IfOk-weaker}
 use Rattle.report.specs.declared.plan.Op.{Op}
-use Rattle.report_law.specs.Differences.{IsOperation}
-use Rattle.report_law.specs.Live.{target_degree}
+use Rattle.report_law.specs.Names.{IsOperation, target_degree}
 use Rattle.cartan_check.proofs.ByMatrixLemmas.{part-has}
 use Rattle.cartan_check.proofs.by_matrices.part.Goals as goal
 

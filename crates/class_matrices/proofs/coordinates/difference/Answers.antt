@@ -1,6 +1,5 @@
 use Rattle.std.proofs.Common.{◌∙◌, ◌%◌, ℕ, List, ap, ap₂, refl}
-use Rattle.linear_law.specs.Congruence.{negated}
-use Rattle.linear_law.specs.Matrices.{plus_scaled}
+use Rattle.linear_law.specs.Names.{negated, plus_scaled}
 use Rattle.class_matrices.proofs.ClassCoordinates.{difference-has}
 use Rattle.class_matrices.proofs.coordinates.difference.Goals as goal
 

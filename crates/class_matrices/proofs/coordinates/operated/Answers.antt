@@ -1,5 +1,5 @@
 use Rattle.std.proofs.Common.{◌∙◌, ℕ, ap, sym}
-use Rattle.linear_law.specs.Lists.{copies}
+use Rattle.linear_law.specs.Names.{copies}
 use Rattle.class_matrices.proofs.CoordinateLemmas.{result-is}
 use Rattle.class_matrices.proofs.coordinates.operated.Goals as goal
 

@@ -1,5 +1,5 @@
 use Rattle.std.proofs.Common.{◌∙◌, ◌+◌, ℕ, ap, refl}
-use Rattle.linear_law.specs.Lists.{copies}
+use Rattle.linear_law.specs.Names.{copies}
 use Rattle.class_matrices.proofs.CoordinateLemmas.{product-is}
 use Rattle.class_matrices.proofs.coordinates.product_of.Goals as goal
 

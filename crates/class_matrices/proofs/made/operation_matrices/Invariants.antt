@@ -1,6 +1,6 @@
 use Rattle.std.proofs.Common.{◌≡◌, map, take}
-use Rattle.linear_law.specs.Lists.{Each}
-use Rattle.class_matrices.specs.Matrices.{IsOperationOf}
+use Rattle.linear_law.specs.Names.{Each}
+use Rattle.class_matrices.specs.Names.{IsOperationOf}
 use Rattle.class_matrices.proofs.made.operation_matrices.Given as goal
 
 abbrev pub invariant-loop-block : goal.invariant-loop-block

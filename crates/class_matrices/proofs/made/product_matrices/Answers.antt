@@ -1,7 +1,7 @@
 use Rattle.std.proofs.Common.{◌∙◌, lit<}
-use Rattle.report_law.specs.Live.{products}
+use Rattle.report_law.specs.Names.{products}
 use Rattle.class_matrices.proofs.ListLemmas.{item-among}
-use Rattle.class_matrices.proofs.PlanLemmas.{product-low}
+use Rattle.line_difference.proofs.PlanLemmas.{product-low}
 use Rattle.class_matrices.proofs.made.product_matrices.Goals as goal
 
 pub ring-requires : goal.ring-requires

@@ -1,6 +1,6 @@
 use Rattle.std.proofs.Common.{◌≡◌, map, take}
-use Rattle.linear_law.specs.Lists.{Each}
-use Rattle.class_matrices.specs.Matrices.{IsProductOf}
+use Rattle.linear_law.specs.Names.{Each}
+use Rattle.class_matrices.specs.Names.{IsProductOf}
 use Rattle.class_matrices.proofs.made.product_matrices.Given as goal
 
 abbrev pub invariant-loop-product : goal.invariant-loop-product

@@ -1,5 +1,5 @@
 use Rattle.std.proofs.Common.{◌≡◌, length, take}
-use Rattle.linear_law.specs.Matrices.{plus_scaled}
+use Rattle.linear_law.specs.Names.{plus_scaled}
 use Rattle.class_matrices.proofs.sums.plus_scaled.Given as goal
 
 abbrev pub invariant-loop-x : goal.invariant-loop-x

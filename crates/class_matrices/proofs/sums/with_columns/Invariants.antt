@@ -1,6 +1,6 @@
 use Rattle.std.proofs.Common.{◌≡◌, ◌*◌, length, map, take}
 use Rattle.op_matrix.specs.Columns.{values_of}
-use Rattle.class_matrices.specs.Sums.{Fits, sum_onto}
+use Rattle.class_matrices.specs.Names.{Fits, sum_onto}
 use Rattle.class_matrices.proofs.sums.with_columns.Given as goal
 
 abbrev pub invariant-loop-column : goal.invariant-loop-column

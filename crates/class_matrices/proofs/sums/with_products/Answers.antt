@@ -2,8 +2,8 @@ use Rattle.std.proofs.Common.{◌≡◌, ◌∙◌, ◌≤◌, ℕ, List, ap, ar
 use Rattle.std.proofs.lemmas.List.{drop_all}
 use Rattle.fp_field.proofs.ServedLemmas.{served_field}
 use Rattle.op_matrix.specs.Columns.{values_of}
-use Rattle.steenrod_law.specs.Operations.{coefficient_products}
-use Rattle.class_matrices.specs.Sums.{sum_onto}
+use Rattle.steenrod_law.specs.Names.{coefficient_products}
+use Rattle.class_matrices.specs.Names.{sum_onto}
 use Rattle.class_matrices.proofs.ListLemmas.{mapped-back, mapped-front}
 use Rattle.class_matrices.proofs.SumLemmas.{row-more, sum-no-more}
 use Rattle.class_matrices.proofs.sums.with_products.Goals as goal

@@ -1,7 +1,7 @@
 use Rattle.std.proofs.Common.{drop}
 use Rattle.op_matrix.specs.Columns.{values_of}
-use Rattle.steenrod_law.specs.Operations.{coefficient_products}
-use Rattle.class_matrices.specs.Sums.{Fits, sum_onto}
+use Rattle.steenrod_law.specs.Names.{coefficient_products}
+use Rattle.class_matrices.specs.Names.{Fits, sum_onto}
 use Rattle.class_matrices.proofs.SumLemmas.{IsRest}
 use Rattle.class_matrices.proofs.sums.with_products.Given as goal
 

@@ -1,5 +1,5 @@
 use Rattle.std.proofs.Common.{◌≡◌}
-use Rattle.linear_law.specs.Lists.{copies}
+use Rattle.linear_law.specs.Names.{copies}
 use Rattle.class_matrices.proofs.sums.zeros.Given as goal
 
 abbrev pub invariant-loop : goal.invariant-loop

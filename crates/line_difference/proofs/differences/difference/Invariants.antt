@@ -1,5 +1,5 @@
 use Rattle.std.proofs.Common.{take}
-use Rattle.report_law.specs.Live.{cartan_pairs}
+use Rattle.report_law.specs.Names.{cartan_pairs}
 use Rattle.line_difference.specs.Differences.{IsLess}
 use Rattle.line_difference.proofs.differences.difference.Given as goal
 

@@ -1,6 +1,6 @@
 use Rattle.std.proofs.Common.{ap, subst, ◌∙◌}
 use Rattle.report.specs.declared.plan.Op.{Op}
-use Rattle.report_law.specs.Live.{target_degree}
+use Rattle.report_law.specs.Names.{target_degree}
 use Rattle.line_difference.proofs.DifferenceLemmas.{IsResultRow, of-four, whole-side}
 use Rattle.line_difference.proofs.differences.whole.Goals as goal
 

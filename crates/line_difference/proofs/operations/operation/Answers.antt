@@ -1,11 +1,9 @@
-use Rattle.std.proofs.Common.{ℕ, List, subst, sym}
-use Rattle.std.specs.Prelude.{IfOk, Result}
+use Rattle.std.proofs.Common.{ℕ, List, subst, sym, IfOk, Result}
 use Rattle.complex_index.specs.declared.indexed.Cochain.{Cochain}
-use Rattle.complex_index.specs.Levels.{IsIndexOf}
+use Rattle.complex_index.specs.Names.{IsIndexOf}
 use Rattle.may_steenrod.specs.Cochains.{IsClosed, cochain_in}
 use Rattle.report.specs.declared.plan.Op.{Op}
-use Rattle.report_law.specs.Differences.{IsOperation}
-use Rattle.report_law.specs.Live.{target_degree}
+use Rattle.report_law.specs.Names.{IsOperation, target_degree}
 use Rattle.line_difference.proofs.operations.operation.Goals as goal
 
 -- the two clauses, by the operation that was matched

@@ -1,38 +1,29 @@
-use Rattle.std.proofs.Common.{◌∙◌, ◌+◌, ◌≤◌, ℕ, List, [], ◌∷◌, ap, arith, get_or, length, lit<, subst, sym}
-use Rattle.std.specs.Prelude.{pos}
-use Rattle.simplicial_law.specs.Integral.{CongruentInt}
-use Rattle.interval_cut_law.specs.Operations.{operation_value}
-use Rattle.complex_index.specs.Levels.{level}
-use Rattle.may_steenrod.specs.Cochains.{cochain_in}
+use Rattle.std.proofs.Common.{◌∙◌, ◌+◌, ◌%◌, ℕ, List, ap, length, subst, sym}
+use Rattle.sparse_rows.specs.Rows.{IsBelow, value_in}
+use Rattle.complex_index.specs.Names.{level}
+use Rattle.may_steenrod.specs.Fronts.{AddsFronts}
+use Rattle.may_steenrod.proofs.OnLemmas.{is_on}
 use Rattle.may_steenrod.proofs.OperationLemmas.{on-same, product-closed, product-values, values-same}
 use Rattle.may_steenrod.proofs.product.cup.Goals as goal
 
-pub row_of-requires : goal.row_of-requires
-row_of-requires g c =
-    let few : length c.deref.result.now ≤ 4294967296 = let e = ap (λ (xs : List ℕ). length xs) c.deref.ensures.value in let b = c.in_ok-values.ensures.few in omega arith in
-    (lit< tt, (lit< tt, few))
-
 pub returns-clause-values : goal.returns-clause-values
 returns-clause-values g c =
-    let p = g.row.P in
+    let p : ℕ = g.row.P in
     let index = c.args.index.now in
     let alpha = c.args.alpha.now in
     let beta = c.args.beta.now in
-    let first = c.new-first in
     let second = c.new-second in
-    let a = cochain_in first.result.index.now first.result.cochain.now.degree first.result.cochain.now.row in
-    let b = cochain_in second.result.index.now second.result.cochain.now.degree second.result.cochain.now.row in
-    let n = alpha.degree + beta.degree in
+    let n : ℕ = alpha.degree + beta.degree in
+    let pairs = c.in_ok-pairs.pairs.items in
     let same = c.deref.ensures.value in
-    product-values p index alpha.degree beta.degree alpha.row beta.row c.requires.prime a b c.deref.result.now c.in_ok-row_of.field-0
-    (values-same p first.result.index.now index first.result.cochain.now alpha first.ensures.index first.ensures.cochain)
-    (values-same p second.result.index.now index second.result.cochain.now beta second.ensures.index second.ensures.cochain)
-    (on-same p first.result.index.now index first.result.cochain.now alpha first.ensures.index first.ensures.cochain first.result.sound)
+    let adds = subst (λ (b : List ℕ → ℕ). AddsFronts p (level index alpha.degree) (level index n) b alpha.row pairs)
+    (values-same p second.result.index.now index second.result.cochain.now beta second.ensures.index second.ensures.cochain) c.in_ok-pairs.ensures.fronts in
+    product-values p index alpha.degree beta.degree alpha.row beta.row c.requires.prime second.ensures.complex.facets pairs c.in_ok-from_pairs.field-0 second.ensures.complex.index
+    (is_on p index alpha.degree alpha.row c.requires.prime second.ensures.complex c.in_ok-pairs.ensures.row c.requires.alpha_inside)
     (on-same p second.result.index.now index second.result.cochain.now beta second.ensures.index second.ensures.cochain second.result.sound)
-    (ap (λ (xs : List ℕ). length xs) same ∙ c.in_ok-values.ensures.long)
-    (λ x h. subst (λ (xs : List ℕ). CongruentInt p (pos (get_or xs x 0)) (operation_value 2 (1 ∷ 2 ∷ []) ((λ f. pos (a f)) ∷ (λ f. pos (b f)) ∷ []) (get_or (level index n) x []))) (sym same) (c.in_ok-values.ensures.values x h))
-    c.in_ok-row_of.ensures
+    c.requires.alpha_inside adds (λ x. c.in_ok-from_pairs.ensures.sum x ∙ ap (λ (xs : List (ℕ × ℕ)). value_in xs x % p) same)
+    (c.in_ok-from_pairs.ensures.below (length (level index n)) (subst (IsBelow (length (level index n))) (sym same) adds.below))
 
 pub returns-clause-closed : goal.returns-clause-closed
 returns-clause-closed g c =
-    product-closed g.row.P c.args.index.now c.args.alpha.now.degree c.args.beta.now.degree c.args.alpha.now.row c.args.beta.now.row c.requires.prime c.in_ok-row_of.field-0 (returns-clause-values g c)
+    product-closed g.row.P c.args.index.now c.args.alpha.now.degree c.args.beta.now.degree c.args.alpha.now.row c.args.beta.now.row c.requires.prime c.in_ok-from_pairs.field-0 (returns-clause-values g c)

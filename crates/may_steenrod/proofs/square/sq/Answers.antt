@@ -1,9 +1,8 @@
-use Rattle.std.proofs.Common.{◌∙◌, ◌+◌, ◌-◌, ◌≤◌, ℕ, List, [], ◌∷◌, ap, arith, get_or, length, lit<, subst, sym}
-use Rattle.std.specs.Prelude.{pos}
-use Rattle.simplicial_law.specs.Integral.{CongruentInt}
-use Rattle.interval_cut_law.specs.Operations.{operation_value}
-use Rattle.table_reduction_law.specs.Counts.{in_turn}
-use Rattle.complex_index.specs.Levels.{level}
+use Rattle.std.proofs.Common.{◌∙◌, ◌+◌, ◌-◌, ◌≤◌, ℕ, List, [], ◌∷◌, ap, arith, get_or, length, lit<, subst, sym, pos}
+use Rattle.simplicial_law.specs.Names.{CongruentInt}
+use Rattle.interval_cut_law.specs.Names.{operation_value}
+use Rattle.table_reduction_law.specs.Names.{in_turn}
+use Rattle.complex_index.specs.Names.{level}
 use Rattle.may_steenrod.specs.Cochains.{cochain_in}
 use Rattle.may_steenrod.proofs.OperationLemmas.{on-same, values-same}
 use Rattle.may_steenrod.proofs.SquareLemmas.{is_square, square-closed, square-values}
@@ -24,7 +23,7 @@ returns-clause-square g c =
     let on = c.new-on in
     let a = cochain_in on.result.index.now on.result.cochain.now.degree on.result.cochain.now.row in
     let same = c.deref.ensures.value in
-    is_square p index q c.args.k alpha.row c.in_ok-row_of.field-0 c.requires.two
+    is_square p index q c.args.k alpha.row c.in_ok-row_of.field-0 c.requires.two c.requires.defined
     (square-values p index q n (q - c.args.k) alpha.row c.requires.two (on-same p on.result.index.now index on.result.cochain.now alpha on.ensures.index on.ensures.cochain on.result.sound) a
     c.deref.result.now c.in_ok-row_of.field-0 (values-same p on.result.index.now index on.result.cochain.now alpha on.ensures.index on.ensures.cochain)
     (ap (λ (xs : List ℕ). length xs) same ∙ c.in_ok-values.ensures.long)

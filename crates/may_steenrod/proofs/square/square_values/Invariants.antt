@@ -1,9 +1,8 @@
-use Rattle.std.proofs.Common.{◌≡◌, ◌+◌, ℕ, ◌<◌, [], ◌∷◌, length, get_or}
-use Rattle.std.specs.Prelude.{pos}
-use Rattle.simplicial_law.specs.Integral.{CongruentInt}
-use Rattle.interval_cut_law.specs.Operations.{operation_value}
-use Rattle.table_reduction_law.specs.Counts.{in_turn}
-use Rattle.complex_index.specs.Levels.{level}
+use Rattle.std.proofs.Common.{◌≡◌, ◌+◌, ℕ, ◌<◌, [], ◌∷◌, length, get_or, pos}
+use Rattle.simplicial_law.specs.Names.{CongruentInt}
+use Rattle.interval_cut_law.specs.Names.{operation_value}
+use Rattle.table_reduction_law.specs.Names.{in_turn}
+use Rattle.complex_index.specs.Names.{level}
 use Rattle.may_steenrod.proofs.square.square_values.Given as goal
 
 abbrev pub invariant-loop-place : goal.invariant-loop-place

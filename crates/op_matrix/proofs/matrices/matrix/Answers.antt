@@ -1,10 +1,9 @@
-use Rattle.std.proofs.Common.{◌≡◌, ◌+◌, ◌-◌, ◌<◌, ◌≤◌, ℕ, List, arith, length, subst, sym, take}
-use Rattle.std.specs.Prelude.{slice_get, Some}
+use Rattle.std.proofs.Common.{◌≡◌, ◌+◌, ◌-◌, ◌<◌, ◌≤◌, ℕ, List, arith, length, subst, sym, take, take_all, slice_get, Some}
 use Rattle.std.specs.List.{AllZip}
 use Rattle.complex_index.specs.declared.indexed.Cochain.{Cochain}
 use Rattle.cohomology.specs.declared.basis.Column.{Column}
 use Rattle.op_matrix.specs.Tables.{IsResultColumn}
-use Rattle.op_matrix.proofs.ListLemmas.{whole, zip-more}
+use Rattle.op_matrix.proofs.ListLemmas.{zip-more}
 use Rattle.op_matrix.proofs.TableLemmas.{operation-matrix}
 use Rattle.op_matrix.proofs.matrices.matrix.Goals as goal
 
@@ -28,4 +27,4 @@ returns g c =
     let R : Cochain p → Column p → Type 0 = IsResultColumn {p = p} g.B.Basis.keeps levels (g.B.Basis.classes c.args.basis.now) c.args.block in
     let all : length zs ≤ c.loop-i.i = omega arith in
     operation-matrix p g.B.Basis.keeps levels (g.B.Basis.classes c.args.basis.now) (g.met.B.Basis.canonical levels c.args.basis.now c.requires.of) c.requires.prime c.args.block c.loop-i.columns.items
-    c.requires.defined c.requires.target (subst (λ (xs : List (Cochain p)). AllZip R xs c.loop-i.columns.items) (whole zs c.loop-i.i all) c.loop-i.invariant)
+    c.requires.defined c.requires.target (subst (λ (xs : List (Cochain p)). AllZip R xs c.loop-i.columns.items) (take_all c.loop-i.i zs all) c.loop-i.invariant)

@@ -1,10 +1,9 @@
-use Rattle.std.proofs.Common.{◌≡◌, ◌+◌, ◌-◌, ◌<◌, ◌≤◌, ℕ, List, ◌++◌, arith, length, map, subst, sym, take}
-use Rattle.std.specs.Prelude.{slice_get, Some}
+use Rattle.std.proofs.Common.{◌≡◌, ◌+◌, ◌-◌, ◌<◌, ◌≤◌, ℕ, List, ◌++◌, arith, length, map, subst, sym, take, take_all, slice_get, Some}
 use Rattle.std.specs.List.{AllZip}
 use Rattle.complex_index.specs.declared.indexed.Cochain.{Cochain}
 use Rattle.cohomology.specs.declared.basis.Column.{Column}
 use Rattle.op_matrix.specs.Tables.{IsPairColumn}
-use Rattle.op_matrix.proofs.ListLemmas.{more-behind, whole}
+use Rattle.op_matrix.proofs.ListLemmas.{more-behind}
 use Rattle.op_matrix.proofs.products.add_products.Goals as goal
 
 pub loop-j-preserved : goal.loop-j-preserved
@@ -25,4 +24,4 @@ returns g c = λ pairs z e h.
     let ws : List (Cochain p) = g.B.Basis.classes c.args.basis.now c.args.product.b in
     let R : Cochain p × Cochain p → Column p → Type 0 = IsPairColumn {p = p} g.B.Basis.keeps c.args.index.now (g.B.Basis.classes c.args.basis.now) c.args.product in
     let all : length ws ≤ c.loop-j.j = omega arith in
-    subst (λ (xs : List (Cochain p)). AllZip R (pairs ++ map (λ (w : Cochain p). (z, w)) xs) c.loop-j.columns.items) (whole ws c.loop-j.j all) (c.loop-j.invariant pairs z e h)
+    subst (λ (xs : List (Cochain p)). AllZip R (pairs ++ map (λ (w : Cochain p). (z, w)) xs) c.loop-j.columns.items) (take_all c.loop-j.j ws all) (c.loop-j.invariant pairs z e h)

@@ -1,5 +1,4 @@
-use Rattle.std.proofs.Common.{◌≡◌, ◌-◌, ◌++◌, List, map, take}
-use Rattle.std.specs.Prelude.{slice_get, Some}
+use Rattle.std.proofs.Common.{◌≡◌, ◌-◌, ◌++◌, List, map, take, slice_get, Some}
 use Rattle.std.specs.List.{AllZip}
 use Rattle.complex_index.specs.declared.indexed.Cochain.{Cochain}
 use Rattle.op_matrix.specs.Tables.{IsPairColumn}

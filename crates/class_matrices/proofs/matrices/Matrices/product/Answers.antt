@@ -1,5 +1,5 @@
 use Rattle.std.proofs.Common.{◌≡◌, inl, rules, subst, sym}
-use Rattle.linear_law.specs.Lists.{Among}
+use Rattle.linear_law.specs.Names.{Among}
 use Rattle.class_matrices.proofs.ListLemmas.{item-among}
 use Rattle.class_matrices.proofs.matrices.Matrices.product.Goals as goal
 

@@ -1,5 +1,5 @@
 use Rattle.std.proofs.Common.{◌≢◌, take}
-use Rattle.linear_law.specs.Lists.{Each}
+use Rattle.linear_law.specs.Names.{Each}
 use Rattle.class_matrices.proofs.matrices.Matrices.product.Given as goal
 
 abbrev pub invariant-loop-matrix : goal.invariant-loop-matrix

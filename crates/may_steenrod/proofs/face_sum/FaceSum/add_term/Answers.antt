@@ -1,8 +1,7 @@
-use Rattle.std.proofs.Common.{◌*◌, ◌-◌, ◌∙◌, ℕ, List, sym}
-use Rattle.std.specs.Prelude.{pos, ◌*ℤ◌}
-use Rattle.surjection_law.specs.Boundary.{caesura_count}
-use Rattle.interval_cut_law.specs.Operations.{operation_value}
-use Rattle.steenrod_law.specs.Words.{copies}
+use Rattle.std.proofs.Common.{◌*◌, ◌-◌, ◌∙◌, ℕ, List, sym, pos, ◌*ℤ◌}
+use Rattle.surjection_law.specs.Names.{caesura_count}
+use Rattle.interval_cut_law.specs.Names.{operation_value}
+use Rattle.steenrod_law.specs.Names.{copies}
 use Rattle.may_steenrod.specs.Elements.{AddsTo, tested_value}
 use Rattle.may_steenrod.specs.FaceSums.{terms_in}
 use Rattle.may_steenrod.proofs.ElementLemmas.{adds-form, adds-none, on_ok-map}

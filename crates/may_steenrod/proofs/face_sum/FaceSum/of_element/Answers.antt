@@ -1,5 +1,4 @@
-use Rattle.std.proofs.Common.{◌*◌, ◌-◌, ◌<◌, ◌≤◌, ℕ, List, arith, length, rules, subst, sym, ap, FitsSigned, w64}
-use Rattle.std.specs.Prelude.{ℤ}
+use Rattle.std.proofs.Common.{◌*◌, ◌-◌, ◌<◌, ◌≤◌, ℕ, List, arith, length, rules, subst, sym, ap, FitsSigned, w64, ℤ}
 use Rattle.std.proofs.lemmas.Int.{to_z-of_z}
 use Rattle.fp_field.proofs.ServedLemmas.{served_large}
 use Rattle.may_steenrod.specs.declared.face_sum.Term.{Term}

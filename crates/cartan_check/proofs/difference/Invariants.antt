@@ -1,7 +1,0 @@
-use Rattle.std.proofs.Common.{take}
-use Rattle.report_law.specs.Live.{cartan_pairs}
-use Rattle.cartan_check.specs.Differences.{IsLess}
-use Rattle.cartan_check.proofs.difference.Given as goal
-
-abbrev pub invariant-loop-pair : goal.invariant-loop-pair
-invariant-loop-pair g l = IsLess {p = g.row.P} l.index l.line l.x l.y (take l.pair-index (cartan_pairs g.row.P l.line.a l.line.b l.line.n)) l.difference
