@@ -1,50 +1,38 @@
 -- The surjections of a May element, and their live cuts.
-use Rattle.std.proofs.Common.{◌≡◌, inl, inr, ℕ, zero, suc, ◌+◌, ◌-◌, ◌*◌, ◌^◌, ◌<◌, ◌≤◌, arith, lit≤, refl, sym, ◌∙◌, ap, ap₂, subst, List, [], ◌∷◌, ◌++◌, Bool, true, false, cond, not, if◌then◌else◌, map, Ordering, Less, Equal, Greater}
-use Rattle.std.specs.Prelude.{ℤ, pos, ◌+ℤ◌, ◌*ℤ◌, fold, min, ◌||◌, IsTrue}
+use Rattle.std.proofs.Common.{◌≡◌, inl, inr, ℕ, zero, suc, ◌+◌, ◌-◌, ◌*◌, ◌^◌, ◌<◌, ◌≤◌, arith, lit≤, refl, sym, ◌∙◌, ap, ap₂, subst, List, [], ◌∷◌, Bool, true, false, cond, not, if◌then◌else◌, map, Less, ℤ, pos, ◌+ℤ◌, ◌*ℤ◌, fold, min, ◌||◌, IsTrue, le-ltb}
 use Rattle.std.specs.BTreeSet.{insert_key}
 use Rattle.std.specs.List.{AllByRecursion}
 use Rattle.std.specs.List.Sorted.{IsStrictlySortedBy}
-use Rattle.std.specs.Ordering.{ordering_reverse}
-use Rattle.std.proofs.lemmas.Bool.{false≢true, le-ltb}
+use Rattle.std.proofs.lemmas.Bool.{false≢true}
 use Rattle.std.proofs.lemmas.Cmp.{nat_list_cmp_total}
 use Rattle.std.proofs.lemmas.Int.{ints}
 use Rattle.std.proofs.lemmas.List.Kept.{IsStrictlySortedBy-filter}
 use Rattle.fp_field.specs.Served.{served}
 use Rattle.fp_field.proofs.ServedLemmas.{for_served, served_large}
-use Rattle.signed_sum.specs.Lists.{is_same_list}
-use Rattle.signed_sum.specs.Sums.{is_zero}
-use Rattle.signed_sum.proofs.ListLemmas.{is_same_list-self, is_same_list-true}
-use Rattle.linear_law.specs.Congruence.{sum_over}
-use Rattle.linear_law.specs.Lists.{Among}
-use Rattle.simplicial_law.specs.ListedSimplices.{simplex_cmp}
-use Rattle.simplicial_law.proofs.ListedSimplices.{exact}
-use Rattle.simplicial_law.proofs.OrderedKeys.{sorted_same}
-use Rattle.surjection_law.specs.Boundary.{caesura_count}
-use Rattle.surjection_law.specs.Surjections.{IsOnto, arity}
-use Rattle.surjection.specs.ActionLaws.{among, arity-is}
-use Rattle.interval_cut_law.specs.LiveCuts.{live_cut_count}
-use Rattle.interval_cut.specs.LiveWalking.{counted_live, live_top}
+use Rattle.signed_sum.specs.Names.{is_same_list, is_zero}
+use Rattle.signed_sum.proofs.Names.{is_same_list-self, is_same_list-true}
+use Rattle.linear_law.specs.Names.{sum_over, Among}
+use Rattle.simplicial_law.specs.Names.{simplex_cmp}
+use Rattle.simplicial_law.proofs.Names.{exact, sorted_same}
+use Rattle.surjection_law.specs.Names.{caesura_count, IsOnto, arity}
+use Rattle.surjection.specs.Names.{among, arity-is}
+use Rattle.interval_cut_law.specs.Names.{live_cut_count}
+use Rattle.interval_cut.specs.Names.{counted_live, live_top}
 use Rattle.operad_law.specs.FormalSums.{IsAscending, IsBelow, IsFormalSum, IsNonzero, IsSameSum}
-use Rattle.table_reduction_law.specs.MayElements.{may_element}
+use Rattle.table_reduction_law.specs.Names.{may_element}
 use Rattle.steenrod_law.proofs.Forms.{AreTerms}
 use Rattle.steenrod_law.proofs.MayFamily.{may_family}
 use Rattle.may_elements.specs.Counted.{cut_off}
-use Rattle.report_law.specs.Terms.{coefficient, may_surjections}
-use Rattle.term_total.specs.Charges.{sum_of}
-use Rattle.term_total.specs.Counts.{AreCounted, live_total}
-use Rattle.term_total.specs.declared.live_counts.Counted.{Counted}
+use Rattle.report_law.specs.Names.{coefficient, may_surjections}
+use Rattle.term_total.specs.Names.{sum_of, live_total}
 use Rattle.term_total.proofs.ChargeLemmas.{cut-plus}
+use Rattle.term_total.proofs.GrowLemmas.{not-less}
 use Rattle.term_total.proofs.KeyLemmas.{among-filter, filter-among, fold-puts, fold-sorted}
 
 -- ---- coefficients in formal sums
 
 abbrev one_at : List ℕ → List ℕ → ℤ
 one_at u v = cond (is_same_list u v) (pos 1) (pos 0)
-
-not-less : (r : Ordering) → r ≡ ordering_reverse r → r ≡ Less → ⊥
-not-less Less e l = cc
-not-less Equal e l = cc
-not-less Greater e l = cc
 
 apart : (u v : List ℕ) → simplex_cmp u v ≡ Less → is_same_list u v ≡ false
 apart u v l = go (is_same_list u v) refl
@@ -163,27 +151,22 @@ terms-among p d (t ∷ ts) h u m = elim m [
   | inr n ↦ terms-among p d ts h.2 u n
 ]
 
+sum-elements : (f : List ℕ → ℕ) (ts : List (List ℕ × ℤ)) → sum_over (λ (t : List ℕ × ℤ). f t.0) ts ≡ sum_of (map f (map (λ t. t.0) ts))
+sum-elements f [] = refl
+sum-elements f (t ∷ ts) = ap (λ n. f t.0 + n) (sum-elements f ts)
+
 -- the live cuts of the elements of such a sum
 pub count-is : (p d q : ℕ) (e : List (List ℕ × ℤ)) → IsTrue (served p) → q ≤ 15 → d ≤ p * q → IsFormalSum simplex_cmp e → IsSameSum e (may_element p d)
-    → cut_off (sum_of (map (counted_live q) (map (λ t. t.0) e))) ≡ cut_off (live_total p d q)
+    → cut_off (sum_over (λ (t : List ℕ × ℤ). counted_live q t.0) e) ≡ cut_off (live_total p d q)
 count-is p d q e prime few l f s =
     let five : p ≤ 5 = for_served (λ n. n ≤ 5) p (lit≤ tt) (lit≤ tt) (lit≤ tt) prime in
     let large : 1 < p = served_large p prime in
     let some : 1 ≤ p = omega arith in
     let may : List (List ℕ × ℤ) = may_element p d in
     let same = surjections-are p d e f s in
-    ap (λ us. cut_off (sum_of (map (counted_live q) us))) same
+    ap cut_off (sum-elements (counted_live q) e) ∙ ap (λ us. cut_off (sum_of (map (counted_live q) us))) same
     ∙ cut-sum (counted_live q) (λ u. live_cut_count q p u) (may_surjections p d)
     (λ u m. (
     let z = zero-not (is_zero (coefficient u may)) (among-filter (λ v. not (is_zero (coefficient v may))) u (fold (insert_key simplex_cmp) [] (map (λ t. t.0) may)) m).1 in
     let k = terms-among p d may ((may_family p some).terms d) u (among-nonzero u may z) in
     cut-one p d q u five few l (arity-is p u (among p u (λ v j. sym (k.0 v) ∙ j)) k.0 some) k.1))
-
--- the count that was found
-pub found-count : (p : ℕ) (cs : List Counted) (c : Counted) → AreCounted p cs → Among c cs → c.count ≡ cut_off (live_total p c.element c.degree)
-found-count p [] c h m = elim m [ ]
-found-count p (x ∷ cs) c h m = elim m [ inl e ↦ subst (λ (y : Counted). y.count ≡ cut_off (live_total p y.element y.degree)) e h.0 | inr n ↦ found-count p cs c h.1 n ]
-
-pub counted-more : (p : ℕ) (cs : List Counted) (c : Counted) → AreCounted p cs → c.count ≡ cut_off (live_total p c.element c.degree) → AreCounted p (cs ++ c ∷ [])
-counted-more p [] c h k = (k, tt)
-counted-more p (x ∷ cs) c h k = (h.0, counted-more p cs c h.1 k)

@@ -1,24 +1,16 @@
 -- Ordered lists of keys.
-use Rattle.std.proofs.Common.{◌≡◌, ◌⊎◌, inl, inr, ℕ, zero, suc, ◌<◌, arith, refl, sym, ◌∙◌, ap, subst, List, [], ◌∷◌, ◌++◌, Bool, true, false, cond, Ordering, Equal}
-use Rattle.std.specs.Prelude.{flat_map, fold, map}
+use Rattle.std.proofs.Common.{◌≡◌, ◌⊎◌, inl, inr, ℕ, zero, suc, ◌<◌, arith, refl, sym, ◌∙◌, ap, subst, List, [], ◌∷◌, ◌++◌, Bool, true, false, cond, Ordering, Equal, flat_map, fold}
 use Rattle.std.specs.Cmp.{IsTotalOrder}
 use Rattle.std.specs.BTreeSet.{insert_key}
 use Rattle.std.specs.List.{filter}
 use Rattle.std.specs.List.Sorted.{IsStrictlySortedBy}
 use Rattle.std.proofs.lemmas.Bool.{false≢true}
-use Rattle.linear_law.specs.Lists.{Among, Each}
-use Rattle.simplicial_law.proofs.OrderedKeys.{among_inserted, insert_keeps, insert_puts, sorted_inserted, sorted_same}
-use Rattle.term_total.specs.Charges.{repeated}
+use Rattle.linear_law.specs.Names.{Among, Each}
+use Rattle.linear_law.proofs.Names.{among_left, among_right}
+use Rattle.simplicial_law.proofs.Names.{among_inserted, insert_keeps, insert_puts, sorted_inserted, sorted_same}
+use Rattle.term_total.specs.Names.{repeated}
 
 -- ---- which items there are
-
-pub among-left : {X : Type 0} (x : X) (xs ys : List X) → Among x xs → Among x (xs ++ ys)
-among-left x [] ys m = elim m [ ]
-among-left x (z ∷ xs) ys m = elim m [ inl e ↦ inl e | inr n ↦ inr (among-left x xs ys n) ]
-
-pub among-right : {X : Type 0} (x : X) (xs ys : List X) → Among x ys → Among x (xs ++ ys)
-among-right x [] ys m = m
-among-right x (z ∷ xs) ys m = inr (among-right x xs ys m)
 
 pub among-split : {X : Type 0} (x : X) (xs ys : List X) → Among x (xs ++ ys) → Among x xs ⊎ Among x ys
 among-split x [] ys m = inr m
@@ -33,42 +25,30 @@ among-repeated x (suc k) row m = elim (among-split x row (repeated k row) m) [ i
 
 pub repeated-among : {X : Type 0} (x : X) (k : ℕ) (row : List X) → 0 < k → Among x row → Among x (repeated k row)
 repeated-among x zero row l m = absurd (omega arith)
-repeated-among x (suc k) row l m = among-left x row (repeated k row) m
+repeated-among x (suc k) row l m = among_left x row (repeated k row) m
 
 -- rows that are repeated at least once have the same items
 pub flat-fewer : {X Y : Type 0} (y : Y) (n : X → ℕ) (row : X → List Y) (xs : List X) → Among y (flat_map (λ x. repeated (n x) (row x)) xs) → Among y (flat_map row xs)
 flat-fewer y n row [] m = m
 flat-fewer y n row (x ∷ xs) m = elim (among-split y (repeated (n x) (row x)) (flat_map (λ z. repeated (n z) (row z)) xs) m) [
-  | inl l ↦ among-left y (row x) (flat_map row xs) (among-repeated y (n x) (row x) l)
-  | inr r ↦ among-right y (row x) (flat_map row xs) (flat-fewer y n row xs r)
+  | inl l ↦ among_left y (row x) (flat_map row xs) (among-repeated y (n x) (row x) l)
+  | inr r ↦ among_right y (row x) (flat_map row xs) (flat-fewer y n row xs r)
 ]
 
 pub flat-more : {X Y : Type 0} (y : Y) (n : X → ℕ) (row : X → List Y) (xs : List X) → Each (λ x. 0 < n x) xs → Among y (flat_map row xs) → Among y (flat_map (λ x. repeated (n x) (row x)) xs)
 flat-more y n row [] h m = m
 flat-more y n row (x ∷ xs) h m = elim (among-split y (row x) (flat_map row xs) m) [
-  | inl l ↦ among-left y (repeated (n x) (row x)) (flat_map (λ z. repeated (n z) (row z)) xs) (repeated-among y (n x) (row x) h.0 l)
-  | inr r ↦ among-right y (repeated (n x) (row x)) (flat_map (λ z. repeated (n z) (row z)) xs) (flat-more y n row xs h.1 r)
+  | inl l ↦ among_left y (repeated (n x) (row x)) (flat_map (λ z. repeated (n z) (row z)) xs) (repeated-among y (n x) (row x) h.0 l)
+  | inr r ↦ among_right y (repeated (n x) (row x)) (flat_map (λ z. repeated (n z) (row z)) xs) (flat-more y n row xs h.1 r)
 ]
 
 -- a map of items, part by part
 pub flat-among : {X Y : Type 0} (y : Y) (f g : X → List Y) (xs : List X) → ((x : X) → Among y (f x) → Among y (g x)) → Among y (flat_map f xs) → Among y (flat_map g xs)
 flat-among y f g [] h m = m
 flat-among y f g (x ∷ xs) h m = elim (among-split y (f x) (flat_map f xs) m) [
-  | inl l ↦ among-left y (g x) (flat_map g xs) (h x l)
-  | inr r ↦ among-right y (g x) (flat_map g xs) (flat-among y f g xs h r)
+  | inl l ↦ among_left y (g x) (flat_map g xs) (h x l)
+  | inr r ↦ among_right y (g x) (flat_map g xs) (flat-among y f g xs h r)
 ]
-
-pub each-among : {X : Type 0} (P : X → Type 0) (xs : List X) (x : X) → Each P xs → Among x xs → P x
-each-among P [] x h m = elim m [ ]
-each-among P (z ∷ xs) x h m = elim m [ inl e ↦ subst P e h.0 | inr n ↦ each-among P xs x h.1 n ]
-
-pub each-of : {X : Type 0} (P : X → Type 0) (xs : List X) → ((x : X) → Among x xs → P x) → Each P xs
-each-of P [] h = tt
-each-of P (x ∷ xs) h = (h x (inl refl), each-of P xs (λ y m. h y (inr m)))
-
-pub among-map : {X Y : Type 0} (f : X → Y) (x : X) (xs : List X) → Among x xs → Among (f x) (map f xs)
-among-map f x [] m = elim m [ ]
-among-map f x (z ∷ xs) m = elim m [ inl e ↦ inl (ap f e) | inr n ↦ inr (among-map f x xs n) ]
 
 pub among-filter : {X : Type 0} (test : X → Bool) (x : X) (xs : List X) → Among x (filter test xs) → Among x xs × (test x ≡ true)
 among-filter test x [] m = elim m [ ]
@@ -130,7 +110,3 @@ module _ {K : Type 0} (cmp : K → K → Ordering) (o : IsTotalOrder cmp) (exact
     where
       given : (us : List K) (x : K) → Among x (fold (insert_key cmp) [] us) → Among x us
       given us x m = elim (fold-of us [] x m) [ inl n ↦ absurd n | inr r ↦ r ]
-
-pub fold-append : {A B : Type 0} (f : A → B → A) (a : A) (xs ys : List B) → fold f a (xs ++ ys) ≡ fold f (fold f a xs) ys
-fold-append f a [] ys = refl
-fold-append f a (x ∷ xs) ys = fold-append f (f a x) xs ys

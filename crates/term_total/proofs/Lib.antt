@@ -1,9 +1,11 @@
-mod LiveLemmas
 mod ChargeLemmas
-mod RowLemmas
+mod CountLemmas
+mod ElementLemmas
+mod GrowLemmas
 mod KeyLemmas
 mod LineLemmas
-mod CountLemmas
-mod PartLemmas
-mod StepLemmas
-mod TermLemmas
+mod LiveLemmas
+mod PlanLemmas
+mod ReadyLemmas
+mod RowLemmas
+mod TotalLemmas

@@ -1,16 +1,15 @@
 -- Lists of live blocks and lines, one part after the other.
-use Rattle.std.proofs.Common.{◌≡◌, ℕ, zero, suc, ◌+◌, Bool, true, false, cond, List, [], ◌∷◌, ◌++◌, map, arith, refl, sym, ap, ◌∙◌, append_assoc}
-use Rattle.std.specs.Prelude.{flat_map}
+use Rattle.std.proofs.Common.{◌≡◌, ℕ, zero, suc, ◌+◌, Bool, true, false, cond, List, [], ◌∷◌, ◌++◌, map, arith, sym, ap, ◌∙◌, append_assoc, flat_map, append-nil}
 use Rattle.std.specs.List.{filter}
 use Rattle.std.proofs.lemmas.Grind.{flat_map-append}
 use Rattle.std.proofs.lemmas.List.{map-append}
 use Rattle.std.proofs.lemmas.List.Elements.{filter-append}
-use Rattle.signed_sum.specs.Lists.{numbers_from}
+use Rattle.signed_sum.specs.Names.{numbers_from}
 use Rattle.report.specs.declared.plan.Block.{Block}
 use Rattle.report.specs.declared.plan.Op.{Op}
 use Rattle.report.specs.declared.plan.Op.TheVariants.{Square, Power, BocksteinPower}
-use Rattle.report_law.specs.Live.{block_on, is_defined}
-use Rattle.term_total.specs.LiveParts.{is_live_block, live_blocks, operations_with}
+use Rattle.report_law.specs.Names.{block_on, is_defined}
+use Rattle.term_total.specs.Names.{is_live_block, live_blocks, operations_with}
 
 numbers-more : (a k : ℕ) → numbers_from a (k + 1) ≡ numbers_from a k ++ (a + k) ∷ []
 numbers-more a zero = (let e : a ≡ a + 0 = omega arith in ap (λ n. n ∷ []) e)
@@ -18,10 +17,6 @@ numbers-more a (suc k) =
     let e : suc k + 1 ≡ suc (k + 1) = omega arith in
     let f : suc a + k ≡ a + suc k = omega arith in
     ap (numbers_from a) e ∙ ap (λ ns. a ∷ ns) (numbers-more (suc a) k ∙ ap (λ n. numbers_from (suc a) k ++ n ∷ []) f)
-
-append-nil : {X : Type 0} (xs : List X) → xs ++ [] ≡ xs
-append-nil [] = refl
-append-nil (x ∷ xs) = ap (λ ys. x ∷ ys) (append-nil xs)
 
 -- the parts of k numbers from s on, and the next part
 pub parts-more : {X : Type 0} (test : X → Bool) (g : ℕ → List X) (s k m : ℕ) (old found next : List X) → found ≡ old ++ filter test (flat_map g (numbers_from s k)) → m ≡ s + k

@@ -1,11 +1,11 @@
 -- Numbers that are charged one after the other.
 use Rattle.std.specs.Prelude.{◌≡◌, ℕ, zero, suc, ◌≤◌, ◌^◌, List, [], ◌++◌, Ok, Err, Some, None}
 use Rattle.std.specs.declared.result.Result.{Result}
-use Rattle.linear_law.specs.Congruence.{sum_over}
+use Rattle.linear_law.specs.Names.{sum_over}
 use Rattle.may_elements.specs.Counted.{Count, charged}
 use Rattle.may_elements.specs.declared.elements.MayRefused.{MayRefused}
 use Rattle.may_elements.specs.declared.elements.MayRefused.TheVariants.{TooManyTerms, OutOfMemory}
-use Rattle.report_law.specs.Terms.{first_past}
+use Rattle.report_law.specs.Names.{first_past}
 
 -- the used terms are within the limit, and the limit is at most 10^12
 pub record IsCount (t : Count) : Type 0 where

@@ -1,3 +1,4 @@
 pub mod LiveParts
 pub mod Charges
 pub mod Counts
+pub mod Names

@@ -6,7 +6,7 @@ use Rattle.report.specs.declared.plan.Line.{Line}
 use Rattle.report.specs.declared.plan.Op.{Op}
 use Rattle.report.specs.declared.plan.Op.TheVariants.{Square, Power, BocksteinPower}
 use Rattle.report.specs.declared.plan.Product.{Product}
-use Rattle.report_law.specs.Live.{block_on, cartan_op, class_numbers, degrees, has_class, is_defined, lines_of_pair, target_degree}
+use Rattle.report_law.specs.Names.{block_on, cartan_op, class_numbers, degrees, has_class, is_defined, lines_of_pair, target_degree}
 
 abbrev pub is_live_product : List ℕ → Product → Bool
 is_live_product ranks x = has_class ranks x.a && (has_class ranks x.b && has_class ranks (x.a + x.b))

@@ -1,7 +1,7 @@
 //! Charges of many numbers.
-ghost use Rattle.std.specs.Prelude.{◌≡◌, ◌*◌, ◌∷◌, []};
+ghost use Rattle.std.specs.Prelude.{◌≡◌, ◌*◌, ◌∷◌, [], ℕ, List, map};
 ghost use Rattle.may_elements.specs.Counted.{cut_off};
-ghost use Rattle.term_total.specs.Charges.{Charges, IsCount, repeated, sum_of};
+ghost use Rattle.term_total.specs.Names.{Charges, repeated, sum_of};
 
 use may_elements::MayRefused;
 use may_elements::terms::{MOST_COUNT, Terms};
@@ -26,8 +26,7 @@ pub(crate) fn capped_sum(numbers: &[u64]) -> u64
 
 /// Charges a number.
 fn charge(terms: &mut Terms, n: u64) -> Result<(), MayRefused>
-    requires count { IsCount terms.old }
-    ensures charged { Charges terms.old (n ∷ []) result terms.new }
+    ensures { Charges terms.old (n ∷ []) result terms.new }
 {
     match terms.charge(n) {
         Ok(()) => Ok(()),
@@ -36,9 +35,8 @@ fn charge(terms: &mut Terms, n: u64) -> Result<(), MayRefused>
 }
 
 /// Charges numbers, one after the other.
-pub(crate) fn charge_all(terms: &mut Terms, numbers: &[u64]) -> Result<(), MayRefused>
-    requires count { IsCount terms.old }
-    ensures charged { Charges terms.old numbers.now result terms.new }
+fn charge_all(terms: &mut Terms, numbers: &[u64]) -> Result<(), MayRefused>
+    ensures { Charges terms.old numbers.now result terms.new }
 {
     for n in numbers {
         charge(terms, *n)?;
@@ -46,16 +44,17 @@ pub(crate) fn charge_all(terms: &mut Terms, numbers: &[u64]) -> Result<(), MayRe
     Ok(())
 }
 
-/// Charges the numbers of a row, the row so many times over. The rows that fit are charged together.
+/// Charges the numbers of a row, the row so many times over. The rows that fit are charged together. Numbers that were cut
+/// off are charged as they are.
 pub(crate) fn charge_rows(terms: &mut Terms, row: &[u64], times: u64) -> Result<(), MayRefused>
-    requires count { IsCount terms.old }
-    ensures charged { Charges terms.old (repeated times row.now) result terms.new }
+    ensures { (ns : List ℕ) → row.now ≡ map cut_off ns → Charges terms.old (repeated times ns) result terms.new }
 {
+    let left = terms.left();
     let sum = capped_sum(row);
     let whole = if sum == 0 {
         times
     } else {
-        times.min(terms.left() / sum)
+        times.min(left / sum)
     };
     charge(terms, whole * sum)?;
     if whole < times {

@@ -1,7 +1,7 @@
 //! Where operations are defined, and their degrees.
 ghost use Rattle.std.specs.Prelude.{◌≡◌, ◌≤◌, IsTrue};
 ghost use Rattle.fp_field.specs.Served.{served};
-ghost use Rattle.report_law.specs.Live.{element_degree as element_degree_at, is_defined as is_defined_at, may_degree as may_degree_at, target as target_at, target_degree as target_degree_at};
+ghost use Rattle.report_law.specs.Names.{element_degree as element_degree_at, is_defined as is_defined_at, may_degree as may_degree_at, target as target_at, target_degree as target_degree_at};
 
 use report::Op;
 

@@ -2,11 +2,12 @@
 #![tactic(auto)]
 
 mod charges;
+mod counts;
 mod degrees;
 mod elements;
 mod live;
-mod live_counts;
 mod pairs;
+mod plan;
 mod terms;
 #[cfg(test)]
 mod tests;

@@ -1,11 +1,10 @@
 //! The live blocks and lines of a complex, from the ranks of its cohomology.
 ghost use Rattle.std.specs.Prelude.{◌≡◌, ◌≤◌, ◌<◌, ◌+◌, ◌++◌, ◌∷◌, [], length, map, flat_map, slice_index, IfOk, IsTrue, OnOk};
 ghost use Rattle.std.specs.List.{filter};
-ghost use Rattle.signed_sum.specs.Lists.{numbers_from};
+ghost use Rattle.signed_sum.specs.Names.{numbers_from};
 ghost use Rattle.fp_field.specs.Served.{served};
-ghost use Rattle.report_law.specs.Live.{blocks as blocks_of, degrees, has_class as has_class_at, lines as lines_of, lines_of_pair, products as products_of};
-ghost use Rattle.term_total.specs.Counts.{class_pairs as class_pairs_of};
-ghost use Rattle.term_total.specs.LiveParts.{is_class_pair, is_live_block, is_live_line, is_live_product, lines_of_class, lines_of_degree, lines_of_degrees, live_blocks, operations_with, product_of};
+ghost use Rattle.report_law.specs.Names.{blocks as blocks_of, degrees, has_class as has_class_at, lines as lines_of, lines_of_pair, products as products_of};
+ghost use Rattle.term_total.specs.Names.{class_pairs as class_pairs_of, is_class_pair, is_live_block, is_live_line, is_live_product, lines_of_class, lines_of_degree, lines_of_degrees, live_blocks, operations_with, product_of};
 
 use crate::degrees::{is_defined, target_degree};
 use crate::pairs::cartan_op;

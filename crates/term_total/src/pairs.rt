@@ -1,20 +1,13 @@
 //! The operations of Cartan lines.
-ghost use Rattle.std.specs.Prelude.{◌≡◌, ◌≤◌, ◌+◌, ◌++◌, ◌∷◌, [], ◌&&◌, IfOk, IsTrue, length, map};
+ghost use Rattle.std.specs.Prelude.{◌≡◌, ◌≤◌, ◌+◌, ◌&&◌, IfOk, IsTrue};
 ghost use Rattle.fp_field.specs.Served.{served};
-ghost use Rattle.report_law.specs.Live.{blocks as blocks_of, cartan_op as cartan_op_at, cartan_pairs as cartan_pairs_of, is_defined as is_defined_at};
-ghost use Rattle.term_total.specs.Counts.{IsLine, block_operations as block_operations_of, line_operations as line_operations_of, pair_lines as pair_lines_of};
+ghost use Rattle.report_law.specs.Names.{cartan_op as cartan_op_at, cartan_pairs as cartan_pairs_of, is_defined as is_defined_at};
+ghost use Rattle.term_total.specs.Names.{pair_lines as pair_lines_of};
 
 use crate::degrees::is_defined;
-use crate::live::{add_lines_of_pair, blocks};
+use crate::live::add_lines_of_pair;
 use report::{Line, Op, Product};
 use std::alloc::{AllocError, Global};
-
-/// An operation, and the degree of the cochains that it is taken of.
-#[derive(Clone, Copy)]
-pub(crate) struct Applied {
-    pub(crate) op: Op,
-    pub(crate) degree: u32,
-}
 
 /// The operation of a Cartan line: `Sq^n` at 2, `P^n` at an odd prime.
 pub fn cartan_op(p: u32, n: u32) -> Op
@@ -55,34 +48,6 @@ pub fn cartan_pairs(
     Ok(found)
 }
 
-/// The operations of a line: the one of the product, and those of the products that it is compared with.
-pub(crate) fn line_operations(
-    alloc: Global,
-    p: u32,
-    line: &Line,
-) -> Result<Vec<Applied>, AllocError>
-    requires { IsLine p line.now }
-    ensures { IfOk result (λ v. v.items ≡ line_operations_of p line.now) }
-{
-    let mut found = Vec::new(alloc);
-    found.push(Applied {
-        op: cartan_op(p, line.n),
-        degree: line.a + line.b,
-    })?;
-    let pairs = cartan_pairs(alloc, p, line.a, line.b, line.n)?;
-    for pair in pairs.as_slice() {
-        found.push(Applied {
-            op: cartan_op(p, pair.0),
-            degree: line.a,
-        })?;
-        found.push(Applied {
-            op: cartan_op(p, pair.1),
-            degree: line.b,
-        })?;
-    }
-    Ok(found)
-}
-
 /// The live lines of the first classes of two degrees.
 pub(crate) fn pair_lines(
     alloc: Global,
@@ -96,26 +61,5 @@ pub(crate) fn pair_lines(
 {
     let mut found = Vec::new(alloc);
     add_lines_of_pair(&mut found, p, ranks, pair.a, pair.b, 1, 1)?;
-    Ok(found)
-}
-
-/// The operations of the live blocks.
-pub(crate) fn block_operations(
-    alloc: Global,
-    p: u32,
-    ranks: &[u32],
-) -> Result<Vec<Applied>, AllocError>
-    requires prime { IsTrue (served p) }
-    requires few { length ranks.now ≤ 16 }
-    ensures { IfOk result (λ v. v.items ≡ block_operations_of p ranks.now) }
-{
-    let mut found = Vec::new(alloc);
-    let blocks = blocks(alloc, p, ranks)?;
-    for block in blocks.as_slice() {
-        found.push(Applied {
-            op: block.op,
-            degree: block.from,
-        })?;
-    }
     Ok(found)
 }

@@ -1,7 +1,8 @@
-use Rattle.std.proofs.Common.{◌≡◌, take}
-use Rattle.may_elements.specs.Counted.{cut_off}
-use Rattle.term_total.specs.Charges.{sum_of}
+use Rattle.std.proofs.Common.{drop}
+use Rattle.linear_law.specs.Names.{sum_over}
+use Rattle.term_total.specs.Names.{sum_of}
+use Rattle.term_total.proofs.ChargeLemmas.{IsSummed}
 use Rattle.term_total.proofs.charges.capped_sum.Given as goal
 
 abbrev pub invariant-loop-n : goal.invariant-loop-n
-invariant-loop-n l = l.sum ≡ cut_off (sum_of (take l.n-index l.numbers))
+invariant-loop-n l = IsSummed (sum_of l.numbers) (sum_over (λ n. n) (drop l.n-index l.numbers)) l.sum

@@ -1,7 +1,6 @@
-use Rattle.std.proofs.Common.{◌≡◌, ◌++◌}
-use Rattle.std.specs.Prelude.{flat_map}
-use Rattle.signed_sum.specs.Lists.{numbers_from}
-use Rattle.term_total.specs.LiveParts.{live_blocks, operations_with}
+use Rattle.std.proofs.Common.{◌≡◌, ◌++◌, flat_map}
+use Rattle.signed_sum.specs.Names.{numbers_from}
+use Rattle.term_total.specs.Names.{live_blocks, operations_with}
 use Rattle.term_total.proofs.live.add_blocks.Given as goal
 
 abbrev pub invariant-loop-k : goal.invariant-loop-k

@@ -1,5 +1,5 @@
 use Rattle.std.proofs.Common.{◌+◌, ◌≡◌, ◌∙◌, arith, ap, sym, Vec, Global}
-use Rattle.term_total.specs.LiveParts.{is_class_pair, product_of}
+use Rattle.term_total.specs.Names.{is_class_pair, product_of}
 use Rattle.term_total.proofs.LiveLemmas.{fails, items-more, passes}
 use Rattle.term_total.proofs.live.add_class_pairs.Goals as goal
 use Rattle.report.specs.declared.plan.Product.{Product}

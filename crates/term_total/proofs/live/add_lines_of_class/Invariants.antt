@@ -1,9 +1,8 @@
-use Rattle.std.proofs.Common.{◌≡◌, ◌++◌}
-use Rattle.std.specs.Prelude.{flat_map}
+use Rattle.std.proofs.Common.{◌≡◌, ◌++◌, flat_map}
 use Rattle.std.specs.List.{filter}
-use Rattle.signed_sum.specs.Lists.{numbers_from}
-use Rattle.report_law.specs.Live.{lines_of_pair}
-use Rattle.term_total.specs.LiveParts.{is_live_line}
+use Rattle.signed_sum.specs.Names.{numbers_from}
+use Rattle.report_law.specs.Names.{lines_of_pair}
+use Rattle.term_total.specs.Names.{is_live_line}
 use Rattle.term_total.proofs.live.add_lines_of_class.Given as goal
 
 abbrev pub invariant-loop-j : goal.invariant-loop-j

@@ -1,5 +1,5 @@
 use Rattle.std.proofs.Common.{◌+◌, ◌≡◌, ◌∙◌, arith, ap, sym, Vec, Global}
-use Rattle.term_total.specs.LiveParts.{is_live_line, line_of}
+use Rattle.term_total.specs.Names.{is_live_line, line_of}
 use Rattle.term_total.proofs.LiveLemmas.{fails, items-more, passes}
 use Rattle.term_total.proofs.live.add_lines_of_pair.Goals as goal
 use Rattle.report.specs.declared.plan.Line.{Line}

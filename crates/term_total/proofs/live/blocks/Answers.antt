@@ -1,6 +1,6 @@
 use Rattle.std.proofs.Common.{◌+◌, ◌≡◌, [], arith, map}
-use Rattle.report_law.specs.Live.{block_on, operations}
-use Rattle.term_total.specs.LiveParts.{is_live_block}
+use Rattle.report_law.specs.Names.{block_on, operations}
+use Rattle.term_total.specs.Names.{is_live_block}
 use Rattle.term_total.proofs.LiveLemmas.{parts-more}
 use Rattle.term_total.proofs.live.blocks.Goals as goal
 

@@ -1,9 +1,8 @@
-use Rattle.std.proofs.Common.{◌≡◌, map}
-use Rattle.std.specs.Prelude.{flat_map}
+use Rattle.std.proofs.Common.{◌≡◌, map, flat_map}
 use Rattle.std.specs.List.{filter}
-use Rattle.signed_sum.specs.Lists.{numbers_from}
-use Rattle.report_law.specs.Live.{block_on, operations}
-use Rattle.term_total.specs.LiveParts.{is_live_block}
+use Rattle.signed_sum.specs.Names.{numbers_from}
+use Rattle.report_law.specs.Names.{block_on, operations}
+use Rattle.term_total.specs.Names.{is_live_block}
 use Rattle.term_total.proofs.live.blocks.Given as goal
 
 abbrev pub invariant-loop-q : goal.invariant-loop-q

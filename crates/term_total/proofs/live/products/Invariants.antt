@@ -1,9 +1,8 @@
-use Rattle.std.proofs.Common.{◌≡◌, map}
-use Rattle.std.specs.Prelude.{flat_map}
+use Rattle.std.proofs.Common.{◌≡◌, map, flat_map}
 use Rattle.std.specs.List.{filter}
-use Rattle.signed_sum.specs.Lists.{numbers_from}
-use Rattle.report_law.specs.Live.{degrees}
-use Rattle.term_total.specs.LiveParts.{is_live_product, product_of}
+use Rattle.signed_sum.specs.Names.{numbers_from}
+use Rattle.report_law.specs.Names.{degrees}
+use Rattle.term_total.specs.Names.{is_live_product, product_of}
 use Rattle.term_total.proofs.live.products.Given as goal
 
 abbrev pub invariant-loop-a : goal.invariant-loop-a

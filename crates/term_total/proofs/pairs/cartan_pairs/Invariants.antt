@@ -1,8 +1,7 @@
-use Rattle.std.proofs.Common.{◌≡◌, ℕ, ◌-◌, map}
-use Rattle.std.specs.Prelude.{◌&&◌}
+use Rattle.std.proofs.Common.{◌≡◌, ℕ, ◌-◌, map, ◌&&◌}
 use Rattle.std.specs.List.{filter}
-use Rattle.signed_sum.specs.Lists.{numbers_from}
-use Rattle.report_law.specs.Live.{cartan_op, is_defined}
+use Rattle.signed_sum.specs.Names.{numbers_from}
+use Rattle.report_law.specs.Names.{cartan_op, is_defined}
 use Rattle.term_total.proofs.pairs.cartan_pairs.Given as goal
 
 abbrev pub invariant-loop-i : goal.invariant-loop-i
