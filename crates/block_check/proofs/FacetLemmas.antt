@@ -1,11 +1,9 @@
 -- The walk of the facets of a complex.
-use Rattle.std.proofs.Common.{◌≡◌, ℕ, ◌+◌, refl, sym, subst, List, [], ◌∷◌, Ok, Err, IsErrAnd}
-use Rattle.std.specs.Prelude.{Result}
-use Rattle.certificate_law.specs.Conditions.{Asks}
-use Rattle.certificate_law.specs.Stated.{Stated, facet_stands}
+use Rattle.std.proofs.Common.{◌≡◌, ℕ, ◌+◌, refl, sym, subst, List, [], ◌∷◌, Ok, Err, IsErrAnd, Result}
+use Rattle.certificate_law.specs.Names.{Asks, Stated, facet_stands}
+use Rattle.certificate_walk.specs.Names.{IsWalk}
 use Rattle.certificate_walk.specs.declared.stop.Stop.{Stop}
 use Rattle.certificate_walk.specs.declared.stop.Stop.TheVariants.{Fails, OutOfMemory}
-use Rattle.certificate_walk.specs.Walks.{IsWalk}
 use Rattle.block_check.specs.Blocks.{IsFacetWalk, walked}
 
 pub facet_stops : (p count : ℕ) (before : List (List ℕ)) (f : List ℕ) (e : Stop) → IsFacetWalk count before f (Err e) → IsWalk (Asks p 1) count (facet_stands before f ∷ []) (Err e)

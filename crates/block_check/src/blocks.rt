@@ -1,10 +1,7 @@
 //! The complexes, and all blocks.
 ghost use Rattle.std.specs.Prelude.{◌≡◌, ◌<◌, ◌+◌, ◌^◌, [], ℕ, length, map, sum_by, IfOk};
-ghost use Rattle.certificate_law.specs.Conditions.{Asks};
-ghost use Rattle.certificate_law.specs.Parts.{itself};
-ghost use Rattle.certificate_law.specs.Stated.{behind, complex_stated, stated};
-ghost use Rattle.certificate_walk.specs.Sizes.{complex_lines as complex_lines_of};
-ghost use Rattle.certificate_walk.specs.Walks.{IsWalk};
+ghost use Rattle.certificate_law.specs.Names.{Asks, itself, behind, complex_stated, stated};
+ghost use Rattle.certificate_walk.specs.Names.{complex_lines as complex_lines_of, IsWalk};
 ghost use Rattle.block_check.specs.Blocks.{walked};
 
 use crate::facets::facets;

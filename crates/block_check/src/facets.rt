@@ -1,8 +1,7 @@
 //! The facets of a complex.
 ghost use Rattle.std.specs.Prelude.{◌≡◌, ◌<◌, ◌+◌, ◌^◌, ◌∷◌, [], ℕ, List, length, IfOk};
-ghost use Rattle.certificate_law.specs.Conditions.{Asks};
-ghost use Rattle.certificate_law.specs.Stated.{behind, facet_stands};
-ghost use Rattle.certificate_walk.specs.Walks.{IsWalk};
+ghost use Rattle.certificate_law.specs.Names.{Asks, behind, facet_stands};
+ghost use Rattle.certificate_walk.specs.Names.{IsWalk};
 ghost use Rattle.block_check.specs.Blocks.{IsFacetWalk, walked};
 
 use certificate_walk::Stop;

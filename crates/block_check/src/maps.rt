@@ -1,11 +1,8 @@
 //! The maps.
 ghost use Rattle.std.specs.Prelude.{◌≡◌, ◌<◌, ◌+◌, ◌^◌, [], ℕ, map, sum_by, IfOk};
 ghost use Rattle.report.specs.declared.complex.ComplexPart.{ComplexPart as ListedComplex};
-ghost use Rattle.certificate_law.specs.Conditions.{Asks};
-ghost use Rattle.certificate_law.specs.Parts.{itself};
-ghost use Rattle.certificate_law.specs.Stated.{behind, map_stated};
-ghost use Rattle.certificate_walk.specs.Sizes.{map_lines as map_lines_of};
-ghost use Rattle.certificate_walk.specs.Walks.{IsWalk};
+ghost use Rattle.certificate_law.specs.Names.{Asks, itself, behind, map_stated};
+ghost use Rattle.certificate_walk.specs.Names.{map_lines as map_lines_of, IsWalk};
 ghost use Rattle.block_check.specs.Blocks.{fault_line, under_map};
 
 use crate::names::{block_named, is_new_map};

@@ -2,10 +2,9 @@
 ghost use Rattle.std.specs.Prelude.{◌≡◌, ◌↔◌, ◌++◌, List, false, map, IsTrue, MatchOption};
 ghost use Rattle.std.specs.List.{list_any};
 ghost use Rattle.std.specs.Str.{bytes_eq};
-ghost use Rattle.complex_file.specs.Jobs.{has_name};
+ghost use Rattle.complex_file.specs.Names.{has_name};
 ghost use Rattle.report.specs.declared.complex.ComplexPart.{ComplexPart as Listed};
-ghost use Rattle.certificate_law.specs.Conditions.{IsNewComplex, complex_names, map_names};
-ghost use Rattle.certificate_law.specs.Parts.{complex_named, itself};
+ghost use Rattle.certificate_law.specs.Names.{IsNewComplex, complex_names, map_names, complex_named, itself};
 ghost use Rattle.block_check.specs.Blocks.{IsNewName};
 
 use complex_file::ComplexBlock;

@@ -1,7 +1,7 @@
 -- Lines of which a condition asks nothing.
 use Rattle.std.proofs.Common.{◌≡◌, ℕ, zero, suc, ◌+◌, ◌<◌, ◌≤◌, refl, arith, lit<, List, [], ◌∷◌, ◌++◌}
-use Rattle.linear_law.specs.Lists.{Each}
-use Rattle.linear_law.proofs.ListLemmas.{each_append}
+use Rattle.linear_law.specs.Names.{Each}
+use Rattle.linear_law.proofs.Names.{each_append}
 use Rattle.complex_file.specs.declared.block.Sent.{Sent}
 use Rattle.report.specs.declared.columns.CartanAnswer.{CartanAnswer}
 use Rattle.report.specs.declared.columns.CartanAnswer.TheVariants.{No, Yes}
@@ -10,10 +10,8 @@ use Rattle.report.specs.declared.complex.ComplexPart.{ComplexPart}
 use Rattle.report.specs.declared.job.Report.{Report}
 use Rattle.report.specs.declared.map.InducedPart.{InducedPart}
 use Rattle.report.specs.declared.map.MapPart.{MapPart}
-use Rattle.simplicial_law.specs.Cochains.{Chain}
-use Rattle.certificate_law.specs.Certifies.{Certifies, Holds}
-use Rattle.certificate_law.specs.Conditions.{Asks}
-use Rattle.certificate_law.specs.Stated.{Stated, after, answer_stated, behind, below_stands, cartan_stated, class_stands, complex_ends, complex_opens, complex_stated, degree_stated, facet_stands, finish, heading, induced_column, induced_opens, induced_stated, map_between, map_ends, map_opens, numbered, operation_column, operation_stated, prime_is, product_column, product_stated, send_stands, stated, with_stands}
+use Rattle.simplicial_law.specs.Names.{Chain}
+use Rattle.certificate_law.specs.Names.{Certifies, Holds, Asks, Stated, after, answer_stated, behind, below_stands, cartan_stated, class_stands, complex_ends, complex_opens, complex_stated, degree_stated, facet_stands, finish, heading, induced_column, induced_opens, induced_stated, map_between, map_ends, map_opens, numbered, operation_column, operation_stated, prime_is, product_column, product_stated, send_stands, stated, with_stands}
 
 each_numbered : {X : Type 0} (P : Stated → Type 0) (line : ℕ → X → List Stated) (k : ℕ) (xs : List X) → ((k : ℕ) (x : X) → Each P (line k x)) → Each P (numbered line k xs)
 each_numbered P line k [] h = tt

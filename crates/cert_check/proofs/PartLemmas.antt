@@ -1,30 +1,27 @@
 -- What a certificate asks, by its complexes and its maps.
-use Rattle.std.proofs.Common.{◌≡◌, ℕ, zero, suc, ◌+◌, ◌^◌, ◌<◌, ◌≤◌, refl, sym, ◌∙◌, ap, subst, inl, inr, arith, lit<, Bool, true, false, List, [], ◌∷◌, ◌++◌, append_assoc, flat_map, length, map, get_or, drop, cond, ◌||◌, ◌⊎◌, ◌≢◌, Some, None, nat_lt, if◌then◌else◌}
+use Rattle.std.proofs.Common.{◌≡◌, ℕ, zero, suc, ◌+◌, ◌^◌, ◌<◌, ◌≤◌, refl, sym, ◌∙◌, ap, subst, inl, inr, arith, lit<, Bool, true, false, List, [], ◌∷◌, ◌++◌, append_assoc, flat_map, length, map, get_or, drop, cond, ◌||◌, ◌⊎◌, ◌≢◌, Some, None, nat_lt, if◌then◌else◌, ltb-false, append-nil}
 use Rattle.std.specs.List.{list_all}
-use Rattle.std.proofs.lemmas.Bool.{and_parts, cases_order, ltb-false}
+use Rattle.std.proofs.lemmas.Bool.{and_parts, cases_order}
 use Rattle.std.specs.Str.{bytes_eq}
-use Rattle.std.proofs.lemmas.List.{append-nil, at_drop_more, drop_all}
+use Rattle.std.proofs.lemmas.List.{at_drop_more, drop_all}
 use Rattle.std.proofs.lemmas.List.Folds.{list_all-append}
-use Rattle.linear_law.specs.Lists.{Each, IsAscending}
-use Rattle.linear_law.proofs.Counting.{apart_short}
-use Rattle.linear_law.proofs.ListLemmas.{each_among, each_get_or}
-use Rattle.simplicial_law.specs.Simplices.{IsSimplex}
-use Rattle.simplicial_law.specs.ListedSimplices.{of_degree, simplices}
-use Rattle.simplicial_law.proofs.ListedSimplices.{listed_simplices_law}
+use Rattle.linear_law.specs.Names.{Each, IsAscending}
+use Rattle.linear_law.proofs.Names.{apart_short, each_among, each_get_or}
+use Rattle.simplicial_law.specs.Names.{IsSimplex, of_degree}
+use Rattle.simplicial_law.specs.ListedSimplices.{simplices}
+use Rattle.simplicial_law.proofs.Names.{listed_simplices_law}
 use Rattle.complex_file.specs.declared.kind.InputKind.{InputKind}
 use Rattle.report.specs.declared.complex.ComplexPart.{ComplexPart}
 use Rattle.report.specs.declared.job.Report.{Report}
 use Rattle.report.specs.declared.map.MapPart.{MapPart}
 use Rattle.report_text_law.specs.declared.line.Line.{Line}
 use Rattle.report_text_law.specs.declared.line.Line.TheVariants.{Facet as facet_said}
-use Rattle.report_text_law.specs.Lines.{complex_lines, map_lines}
-use Rattle.report_text_law.specs.WellFormed.{is_line, is_simplex, is_well_formed}
+use Rattle.report_text_law.specs.Names.{complex_lines, map_lines, is_line, is_simplex}
+use Rattle.report_text_law.specs.WellFormed.{is_well_formed}
 use Rattle.fp_field.specs.Served.{served}
-use Rattle.certificate_law.specs.Conditions.{Asks, complex_names}
-use Rattle.certificate_law.specs.Parts.{complex_named}
-use Rattle.complex_file.specs.Jobs.{has_name}
+use Rattle.certificate_law.specs.Names.{Asks, complex_names, complex_named, Stated, behind, cartan_stated, complex_ends, complex_stated, degree_stated, facet_stands, map_stated, numbered, operation_stated, product_stated, stated}
+use Rattle.complex_file.specs.Names.{has_name}
 use Rattle.block_check.proofs.NameLemmas.{IsBehind}
-use Rattle.certificate_law.specs.Stated.{Stated, behind, cartan_stated, complex_ends, complex_stated, degree_stated, facet_stands, map_stated, numbered, operation_stated, product_stated, stated}
 use Rattle.certificate_law.proofs.Asked.{each_left, each_right}
 use Rattle.certificate_law.proofs.PivotCounts.{ascending_apart}
 use Rattle.certificate_law.proofs.WellFormed.{facet_ascends}

@@ -1,28 +1,23 @@
 -- What is known of the complexes and the maps of a certificate when a condition is tried.
-use Rattle.std.proofs.Common.{◌≡◌, ℕ, ◌+◌, ◌<◌, ◌≤◌, refl, sym, subst, inl, inr, arith, lit<, lit≤, OnOk, IsSome, true, List, [], ◌∷◌, ◌++◌, map, Ok, Err, ℤ}
-use Rattle.std.specs.Prelude.{Result}
+use Rattle.std.proofs.Common.{◌≡◌, ℕ, ◌+◌, ◌<◌, ◌≤◌, refl, sym, subst, inl, inr, arith, lit<, lit≤, OnOk, IsSome, true, List, [], ◌∷◌, ◌++◌, map, Ok, Err, ℤ, Result}
 use Rattle.std.specs.List.{AllZip, list_all}
 use Rattle.std.proofs.lemmas.Bool.{cases_order}
-use Rattle.linear_law.specs.Lists.{Each}
-use Rattle.linear_law.proofs.ListLemmas.{each_map, each_unmap, each_zip, zip_change}
-use Rattle.complex_index.specs.Levels.{IsIndexOf}
+use Rattle.linear_law.specs.Names.{Each}
+use Rattle.linear_law.proofs.Names.{each_map, each_unmap, each_zip, zip_change}
+use Rattle.complex_index.specs.Names.{IsIndexOf}
 use Rattle.report.specs.declared.complex.ComplexPart.{ComplexPart}
 use Rattle.report.specs.declared.job.Report.{Report}
 use Rattle.report.specs.declared.map.MapPart.{MapPart}
-use Rattle.report_text_law.specs.Lines.{complex_lines as lines_of, map_lines as map_lines_of}
-use Rattle.report_text_law.specs.WellFormed.{is_line, is_well_formed}
-use Rattle.certificate_law.specs.Certifies.{FailsAt, FailsFirst, Holds}
-use Rattle.certificate_law.specs.Conditions.{Asks}
-use Rattle.certificate_law.specs.Parts.{complex_named}
-use Rattle.certificate_law.specs.Stated.{Stated, behind, complex_stated, finish, heading, map_between, map_stated, prime_is, stated}
+use Rattle.report_text_law.specs.Names.{complex_lines as lines_of, map_lines as map_lines_of, is_line}
+use Rattle.report_text_law.specs.WellFormed.{is_well_formed}
+use Rattle.certificate_law.specs.Names.{FailsAt, FailsFirst, Holds, Asks, complex_named, Stated, behind, complex_stated, finish, heading, map_between, map_stated, prime_is, stated}
 use Rattle.certificate_walk.specs.declared.stop.Stop.{Stop}
 use Rattle.certificate_walk.specs.declared.stop.Stop.TheVariants.{Fails}
-use Rattle.certificate_walk.specs.Walks.{FailsBehind, IsWalk}
-use Rattle.certificate_walk.proofs.WalkLemmas.{walk_both}
+use Rattle.certificate_walk.specs.Names.{FailsBehind, IsWalk}
+use Rattle.certificate_walk.proofs.Names.{walk_both}
 use Rattle.may_elements.specs.Stored.{stored_at}
 use Rattle.report.specs.declared.plan.Sizes.{Sizes}
-use Rattle.report_law.specs.Parts.{ranks_of}
-use Rattle.report_law.specs.Terms.{elements, sizes_of}
+use Rattle.report_law.specs.Names.{ranks_of, elements, sizes_of}
 use Rattle.line_difference.specs.Elements.{AreStored}
 use Rattle.line_difference.proofs.PlanLemmas.{each-stored}
 use Rattle.count_check.specs.Totals.{IsCountable, job_sizes}

@@ -1,6 +1,6 @@
 -- What the checker answers.
 use Rattle.report.specs.declared.job.Report.{Report}
-use Rattle.certificate_law.specs.Certifies.{Certifies, FailsFirst}
+use Rattle.certificate_law.specs.Names.{Certifies, FailsFirst}
 use Rattle.cert_check.specs.declared.checked.Checked.{Checked}
 use Rattle.cert_check.specs.declared.checked.Checked.TheVariants.{Yes, No}
 

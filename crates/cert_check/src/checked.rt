@@ -2,7 +2,7 @@
 ghost use Rattle.std.specs.Prelude.{◌≡◌, ◌<◌, ◌^◌, true, length, IfOk, IsTrue};
 ghost use Rattle.fp_field.specs.Served.{served};
 ghost use Rattle.report_text_law.specs.WellFormed.{is_well_formed};
-ghost use Rattle.certificate_law.specs.Stated.{stated};
+ghost use Rattle.certificate_law.specs.Names.{stated};
 ghost use Rattle.cert_check.specs.Checked.{IsChecked};
 
 use crate::complexes::indexes;

@@ -1,16 +1,14 @@
 //! The conditions on complexes.
 ghost use Rattle.std.specs.Prelude.{◌≡◌, ◌<◌, ◌≤◌, ◌+◌, ◌^◌, [], ℕ, List, length, map, sum_by, IfOk, IsTrue};
 ghost use Rattle.std.specs.List.{AllZip};
-ghost use Rattle.linear_law.specs.Lists.{Each, IsAscending};
+ghost use Rattle.linear_law.specs.Names.{Each, IsAscending};
 ghost use Rattle.simplicial_law.specs.ListedSimplices.{simplices};
 ghost use Rattle.fp_field.specs.Served.{served};
-ghost use Rattle.complex_index.specs.Levels.{IsIndexOf};
+ghost use Rattle.complex_index.specs.Names.{IsIndexOf};
 ghost use Rattle.report.specs.declared.complex.ComplexPart.{ComplexPart as Listed};
-ghost use Rattle.report_law.specs.Parts.{ranks_of};
-ghost use Rattle.certificate_law.specs.Conditions.{Asks};
-ghost use Rattle.certificate_law.specs.Stated.{behind, complex_stated};
-ghost use Rattle.certificate_walk.specs.Sizes.{complex_lines as complex_lines_of};
-ghost use Rattle.certificate_walk.specs.Walks.{IsWalk};
+ghost use Rattle.report_law.specs.Names.{ranks_of};
+ghost use Rattle.certificate_law.specs.Names.{Asks, behind, complex_stated};
+ghost use Rattle.certificate_walk.specs.Names.{complex_lines as complex_lines_of, IsWalk};
 ghost use Rattle.line_difference.specs.Elements.{AreStored};
 ghost use Rattle.cert_check.specs.Ready.{AreAllStored, CanIndex, IsReady};
 

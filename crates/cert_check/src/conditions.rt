@@ -3,10 +3,8 @@ ghost use Rattle.std.specs.Prelude.{◌≡◌, ◌<◌, ◌≤◌, ◌+◌, ◌^
 ghost use Rattle.std.specs.List.{AllZip};
 ghost use Rattle.fp_field.specs.Served.{served};
 ghost use Rattle.report_text_law.specs.WellFormed.{is_well_formed};
-ghost use Rattle.certificate_law.specs.Certifies.{Holds};
-ghost use Rattle.certificate_law.specs.Conditions.{Asks};
-ghost use Rattle.certificate_law.specs.Stated.{stated};
-ghost use Rattle.certificate_walk.specs.Walks.{IsWalk};
+ghost use Rattle.certificate_law.specs.Names.{Holds, Asks, stated};
+ghost use Rattle.certificate_walk.specs.Names.{IsWalk};
 ghost use Rattle.cert_check.specs.Checked.{IsChecked};
 ghost use Rattle.cert_check.specs.Ready.{AreAllStored, IsKept};
 

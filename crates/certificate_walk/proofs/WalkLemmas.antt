@@ -1,14 +1,11 @@
 -- Walks that are put together: two sections, and the loops over the items of a section.
-use Rattle.std.proofs.Common.{◌≡◌, ℕ, ◌+◌, ◌<◌, ◌≤◌, refl, sym, ◌∙◌, ap, subst, arith, Bool, true, false, List, [], ◌∷◌, ◌++◌, length, get_or, drop, take, append_assoc, Ok, Err, if◌then◌else◌, ◌↔◌, IsErrAnd, IsTrue}
-use Rattle.std.specs.Prelude.{Result}
+use Rattle.std.proofs.Common.{◌≡◌, ℕ, ◌+◌, ◌<◌, ◌≤◌, refl, sym, ◌∙◌, ap, subst, arith, Bool, true, false, List, [], ◌∷◌, ◌++◌, length, get_or, drop, take, append_assoc, Ok, Err, if◌then◌else◌, ◌↔◌, IsErrAnd, IsTrue, Result, length-append}
 use Rattle.std.proofs.lemmas.Bool.{false≢true}
-use Rattle.std.proofs.lemmas.List.{length-append, at_drop_more, drop_all, take_more}
-use Rattle.linear_law.specs.Lists.{Each}
-use Rattle.linear_law.proofs.ListLemmas.{each_append}
-use Rattle.certificate_law.specs.Stated.{Stated, after, behind, numbered}
-use Rattle.certificate_walk.specs.declared.stop.Stop.{Stop}
-use Rattle.certificate_walk.specs.declared.stop.Stop.TheVariants.{Fails, OutOfMemory}
-use Rattle.certificate_walk.specs.Walks.{IsWalk}
+use Rattle.std.proofs.lemmas.List.{at_drop_more, drop_all, take_more}
+use Rattle.linear_law.specs.Names.{Each}
+use Rattle.linear_law.proofs.Names.{each_append}
+use Rattle.certificate_law.specs.Names.{Stated, after, behind, numbered}
+use Rattle.certificate_walk.specs.Names.{Stop, Fails, OutOfMemory, IsWalk}
 
 -- ---- one line
 

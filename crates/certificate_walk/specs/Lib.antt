@@ -1,2 +1,3 @@
 pub mod Walks
 pub mod Sizes
+pub mod Names

@@ -1,8 +1,7 @@
 -- What a walk of lines says.
 use Rattle.std.specs.Prelude.{◌≡◌, ℕ, ◌+◌, List, length, Ok, Err, Result}
-use Rattle.linear_law.specs.Lists.{Each}
-use Rattle.certificate_law.specs.Certifies.{FailsAt}
-use Rattle.certificate_law.specs.Stated.{Stated}
+use Rattle.linear_law.specs.Names.{Each}
+use Rattle.certificate_law.specs.Names.{FailsAt, Stated}
 use Rattle.certificate_walk.specs.declared.stop.Stop.{Stop}
 use Rattle.certificate_walk.specs.declared.stop.Stop.TheVariants.{Fails, OutOfMemory}
 

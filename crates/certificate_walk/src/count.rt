@@ -1,6 +1,6 @@
 //! How many lines the sections of a certificate have.
 ghost use Rattle.std.specs.Prelude.{◌≡◌, ◌+◌, ◌*◌, ◌<◌, ◌^◌, length, sum_by};
-ghost use Rattle.certificate_walk.specs.Sizes.{complex_lines as complex_lines_of, degree_lines as degree_lines_of, induced_lines as induced_lines_of, map_lines as map_lines_of, matrix_lines as matrix_lines_of, operation_lines, product_lines};
+ghost use Rattle.certificate_walk.specs.Names.{complex_lines as complex_lines_of, degree_lines as degree_lines_of, induced_lines as induced_lines_of, map_lines as map_lines_of, matrix_lines as matrix_lines_of, operation_lines, product_lines};
 
 use report::{ComplexPart, DegreePart, InducedPart, MapPart, OperationPart, ProductPart};
 

@@ -1,6 +1,6 @@
 //! Where a walk of lines stops.
 ghost use Rattle.std.specs.Prelude.{◌≡◌, ◌+◌, ◌<◌, ◌^◌, Ok, Err, if◌then◌else◌};
-ghost use Rattle.certificate_walk.specs.declared.stop.Stop.TheVariants.{Fails, OutOfMemory};
+ghost use Rattle.certificate_walk.specs.Names.{Fails, OutOfMemory};
 
 use std::alloc::{AllocError, AllocFailed};
 

@@ -7,16 +7,13 @@ mod walk;
 
 ghost use Rattle.std.specs.Prelude.{◌≡◌, ◌<◌, ◌+◌, ◌^◌, List, true, IsTrue};
 ghost use Rattle.std.specs.List.{list_all};
-ghost use Rattle.linear_law.specs.Lists.{Each};
+ghost use Rattle.linear_law.specs.Names.{Each};
 ghost use Rattle.fp_field.specs.Served.{served};
-ghost use Rattle.complex_index.specs.Levels.{IsIndexOf};
+ghost use Rattle.complex_index.specs.Names.{IsIndexOf};
 ghost use Rattle.report.specs.declared.complex.ComplexPart.{ComplexPart as Listed};
-ghost use Rattle.report_text_law.specs.Lines.{complex_lines as lines_of};
-ghost use Rattle.report_text_law.specs.WellFormed.{is_line};
-ghost use Rattle.certificate_law.specs.Conditions.{Asks};
-ghost use Rattle.certificate_law.specs.Stated.{complex_stated};
-ghost use Rattle.certificate_walk.specs.Sizes.{complex_lines};
-ghost use Rattle.certificate_walk.specs.Walks.{IsWalk};
+ghost use Rattle.report_text_law.specs.Names.{complex_lines as lines_of, is_line};
+ghost use Rattle.certificate_law.specs.Names.{Asks, complex_stated};
+ghost use Rattle.certificate_walk.specs.Names.{complex_lines, IsWalk};
 
 use crate::question::Question;
 use crate::walk::part_fault;

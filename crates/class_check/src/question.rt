@@ -1,14 +1,13 @@
 //! What is asked of a listed chain.
 ghost use Rattle.std.specs.Prelude.{◌≡◌, ℕ, List, [], ◌∷◌, length, true, IfOk, IsTrue, MatchBool, MatchOption};
-ghost use Rattle.linear_law.specs.Lists.{Each};
-ghost use Rattle.simplicial_law.specs.Cochains.{Chain as Terms, IsCocycle};
-ghost use Rattle.simplicial_law.specs.CanonicalClasses.{cochain_of};
+ghost use Rattle.linear_law.specs.Names.{Each};
+ghost use Rattle.simplicial_law.specs.Names.{Chain as Terms, IsCocycle, cochain_of};
 ghost use Rattle.fp_field.specs.Served.{served};
 ghost use Rattle.sparse_rows.specs.Rows.{IsBelow};
-ghost use Rattle.complex_index.specs.Levels.{IsComplexIndex, IsIndexOf, level};
+ghost use Rattle.complex_index.specs.Names.{IsComplexIndex, IsIndexOf, level};
 ghost use Rattle.report.specs.declared.complex.ComplexPart.{ComplexPart};
-ghost use Rattle.report_text_law.specs.WellFormed.{is_chain};
-ghost use Rattle.certificate_law.specs.ListedDegrees.{IsOn};
+ghost use Rattle.report_text_law.specs.Names.{is_chain};
+ghost use Rattle.certificate_law.specs.Names.{IsOn};
 ghost use Rattle.class_check.specs.Questions.{AreLeads, AreReady, IsAnswerOf, IsLeadTaken, others_of, stands_in};
 
 use complex_index::{Cochain, Indexed};

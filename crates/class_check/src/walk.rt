@@ -1,17 +1,14 @@
 //! The walk of the lines of a complex.
 ghost use Rattle.std.specs.Prelude.{◌≡◌, ◌↔◌, ◌<◌, ◌+◌, ◌^◌, ℕ, List, [], length, reverse, sum_by, true, IfOk, IsTrue};
 ghost use Rattle.std.specs.List.{list_all};
-ghost use Rattle.linear_law.specs.Lists.{Each, IsAscending};
+ghost use Rattle.linear_law.specs.Names.{Each, IsAscending};
 ghost use Rattle.fp_field.specs.Served.{served};
-ghost use Rattle.complex_index.specs.Levels.{IsComplexIndex, IsIndexOf, level};
+ghost use Rattle.complex_index.specs.Names.{IsComplexIndex, IsIndexOf, level};
 ghost use Rattle.report.specs.declared.complex.ComplexPart.{ComplexPart as Part};
-ghost use Rattle.report_law.specs.Parts.{below_in};
-ghost use Rattle.report_text_law.specs.Lines.{complex_lines as lines_of, degree_lines as lines_of_degree, degrees_from};
-ghost use Rattle.report_text_law.specs.WellFormed.{is_chain, is_line};
-ghost use Rattle.certificate_law.specs.Conditions.{Asks};
-ghost use Rattle.certificate_law.specs.Stated.{complex_ends, complex_stated, degree_stated, numbered};
-ghost use Rattle.certificate_walk.specs.Sizes.{complex_lines, degree_lines};
-ghost use Rattle.certificate_walk.specs.Walks.{IsWalk};
+ghost use Rattle.report_law.specs.Names.{below_in};
+ghost use Rattle.report_text_law.specs.Names.{complex_lines as lines_of, degree_lines as lines_of_degree, degrees_from, is_chain, is_line};
+ghost use Rattle.certificate_law.specs.Names.{Asks, complex_ends, complex_stated, degree_stated, numbered};
+ghost use Rattle.certificate_walk.specs.Names.{complex_lines, degree_lines, IsWalk};
 ghost use Rattle.class_check.specs.Questions.{AreLeads, AreReady, chain_lines, condition_of, others_of};
 
 use crate::question::Question::{self, Below, Class, Cocycle};

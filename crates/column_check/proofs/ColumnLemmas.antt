@@ -1,21 +1,15 @@
 -- Rows and columns at the simplices of a complex.
-use Rattle.std.proofs.Common.{◌≡◌, ℕ, ◌+◌, ◌-◌, ◌*◌, ◌<◌, Bool, true, List, [], ◌∷◌, map, length, get_or, refl, sym, ap, ap₂, subst, ◌∙◌}
-use Rattle.std.specs.Prelude.{IsTrue, ◌↔◌}
+use Rattle.std.proofs.Common.{◌≡◌, ℕ, ◌+◌, ◌-◌, ◌*◌, ◌<◌, Bool, true, List, [], ◌∷◌, map, length, get_or, refl, sym, ap, ap₂, subst, ◌∙◌, IsTrue, ◌↔◌}
 use Rattle.std.specs.List.{AllZip}
 use Rattle.fp_field.specs.Served.{served}
-use Rattle.linear_law.specs.Congruence.{Congruent}
-use Rattle.linear_law.specs.Lists.{Each}
-use Rattle.linear_law.specs.ReducedBases.{combination}
-use Rattle.linear_law.proofs.CongruenceLemmas.{Congruent_add, Congruent_of, Congruent_trans}
-use Rattle.linear_law.proofs.ListLemmas.{each_right}
-use Rattle.simplicial_law.specs.Cochains.{AgreesOnSimplices, Chain, Cochain as SimplexCochain, coboundary}
-use Rattle.simplicial_law.specs.CanonicalClasses.{cochain_of}
-use Rattle.simplicial_law.proofs.SimplexPlaces.{agree_by_place, simplex_at}
-use Rattle.steenrod_law.specs.Operations.{cup_product, pull_back}
+use Rattle.linear_law.specs.Names.{Congruent, Each, combination}
+use Rattle.linear_law.proofs.Names.{Congruent_add, Congruent_of, Congruent_trans, each_right}
+use Rattle.simplicial_law.specs.Names.{AgreesOnSimplices, Chain, Cochain as SimplexCochain, coboundary, cochain_of}
+use Rattle.simplicial_law.proofs.Names.{agree_by_place, simplex_at}
+use Rattle.steenrod_law.specs.Names.{cup_product, pull_back}
 use Rattle.sparse_rows.specs.Rows.{IsBelow, value_in}
 use Rattle.complex_index.specs.declared.indexed.Cochain.{Cochain}
-use Rattle.complex_index.specs.Levels.{IsIndexOf, level}
-use Rattle.complex_index.specs.Maps.{IsPullBackOf}
+use Rattle.complex_index.specs.Names.{IsIndexOf, level, IsPullBackOf}
 use Rattle.may_steenrod.specs.Cochains.{HasValues, cochain_in}
 use Rattle.may_steenrod.proofs.OnLemmas.{value_by_place}
 use Rattle.report.specs.declared.columns.Column.{Column}
@@ -26,17 +20,9 @@ use Rattle.report.specs.declared.complex.ComplexPart.{ComplexPart}
 use Rattle.report.specs.declared.map.InducedPart.{InducedPart}
 use Rattle.report.specs.declared.map.MapPart.{MapPart}
 use Rattle.report.specs.declared.plan.Op.{Op}
-use Rattle.report_law.specs.Differences.{IsOperation}
-use Rattle.report_law.specs.Headline.{listed}
-use Rattle.report_law.specs.Live.{is_defined, target_degree}
-use Rattle.report_law.specs.Matrices.{class_at, classes_in}
-use Rattle.report_law.specs.Parts.{classes_of, op_of}
-use Rattle.report_law.proofs.Coordinates.{agrees-sym, agrees-trans}
-use Rattle.report_law.proofs.ScaledForms.{scaled}
-use Rattle.report_law.proofs.Verdicts.{operation-once}
-use Rattle.certificate_law.specs.Conditions.{IsRightOperation, IsRightProduct, IsRightPullBack, column_sum}
-use Rattle.certificate_law.specs.ListedDegrees.{IsOnBelow}
-use Rattle.certificate_law.specs.Parts.{sent_by}
+use Rattle.report_law.specs.Names.{IsOperation, listed, is_defined, target_degree, class_at, classes_in, classes_of, op_of}
+use Rattle.report_law.proofs.Names.{agrees-sym, agrees-trans, scaled, operation-once}
+use Rattle.certificate_law.specs.Names.{IsRightOperation, IsRightProduct, IsRightPullBack, column_sum, IsOnBelow, sent_by}
 use Rattle.listed_rows.specs.ListedChains.{IsCoboundaryRow}
 use Rattle.column_check.specs.Listings.{IsBoundOf, IsRowOfClass, IsColumnSum, IsSumRow}
 use Rattle.column_check.proofs.ListLemmas.{tells}

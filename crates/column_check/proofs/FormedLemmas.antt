@@ -1,9 +1,8 @@
 -- What well-formed lines of a complex and of a map tell: the chains under them are well formed.
-use Rattle.std.proofs.Common.{◌≡◌, ℕ, zero, suc, ◌+◌, ◌^◌, ◌<◌, ◌≤◌, ◌&&◌, Bool, true, List, [], ◌∷◌, ◌++◌, map, length, get_or, arith, refl}
-use Rattle.std.specs.Prelude.{flat_map}
+use Rattle.std.proofs.Common.{◌≡◌, ℕ, zero, suc, ◌+◌, ◌^◌, ◌<◌, ◌≤◌, ◌&&◌, Bool, true, List, [], ◌∷◌, ◌++◌, map, length, get_or, arith, refl, flat_map, ltb-true}
 use Rattle.std.specs.List.{list_all}
-use Rattle.std.proofs.lemmas.Bool.{and_parts, ltb-true}
-use Rattle.linear_law.specs.Lists.{Each, IsAscending}
+use Rattle.std.proofs.lemmas.Bool.{and_parts}
+use Rattle.linear_law.specs.Names.{Each, IsAscending}
 use Rattle.report.specs.declared.columns.CartanAnswer.{CartanAnswer}
 use Rattle.report.specs.declared.columns.CartanAnswer.TheVariants.{Yes, No}
 use Rattle.report.specs.declared.columns.CartanPart.{CartanPart}
@@ -17,8 +16,7 @@ use Rattle.report.specs.declared.map.InducedPart.{InducedPart}
 use Rattle.report.specs.declared.map.MapPart.{MapPart}
 use Rattle.report_text_law.specs.declared.line.Line.{Line}
 use Rattle.report_text_law.specs.declared.line.Line.TheVariants.{Below as below_line, CartanNo as cartan_no, CartanYes as cartan_yes, Class as class_line, Column as column_line, Complex as complex_line, Cycle as cycle_line, Degree as degree_line, End as end_line, Facet as facet_line, Induced as induced_line, Map as map_line, Operation as operation_line, Pair as pair_line, Product as product_line, With as with_line}
-use Rattle.report_text_law.specs.Lines.{answer_lines, cartan_lines, columns_from, complex_lines, degree_lines, degrees_from, induced_lines, map_lines, operation_lines, pair_lines, product_lines, send_of, table_lines}
-use Rattle.report_text_law.specs.WellFormed.{are_values, is_chain, is_line, is_simplex, is_u32}
+use Rattle.report_text_law.specs.Names.{answer_lines, cartan_lines, columns_from, complex_lines, degree_lines, degrees_from, induced_lines, map_lines, operation_lines, pair_lines, product_lines, send_of, table_lines, are_values, is_chain, is_line, is_simplex, is_u32}
 use Rattle.certificate_law.proofs.WellFormed.{facet_ascends}
 use Rattle.column_check.specs.Ready.{IsFormedAnswer}
 

@@ -3,16 +3,15 @@ use Rattle.std.proofs.Common.{◌≡◌, ℕ, zero, suc, ◌+◌, ◌<◌, ◌�
 use Rattle.std.specs.List.{AllZip}
 use Rattle.std.proofs.lemmas.Bool.{cases_lt}
 use Rattle.std.proofs.lemmas.List.{length-map}
-use Rattle.linear_law.proofs.ListLemmas.{length_alike}
-use Rattle.simplicial_law.specs.Cochains.{Chain}
+use Rattle.linear_law.proofs.Names.{length_alike}
+use Rattle.simplicial_law.specs.Names.{Chain}
 use Rattle.complex_index.specs.declared.indexed.Cochain.{Cochain}
-use Rattle.complex_index.specs.Incidence.{list_at}
+use Rattle.complex_index.specs.Names.{list_at}
 use Rattle.report.specs.declared.complex.ComplexPart.{ComplexPart}
 use Rattle.report.specs.declared.complex.DegreePart.{DegreePart}
-use Rattle.report_law.specs.Matrices.{classes_in}
-use Rattle.report_law.specs.Parts.{classes_of}
-use Rattle.report_law.proofs.Lists.{get_or-past}
-use Rattle.certificate_law.specs.Parts.{rank_in}
+use Rattle.report_law.specs.Names.{classes_in, classes_of}
+use Rattle.report_law.proofs.Names.{get_or-past}
+use Rattle.certificate_law.specs.Names.{rank_in}
 use Rattle.column_check.specs.Listings.{IsRowOfClass, IsListing}
 use Rattle.column_check.specs.declared.listing.Listing.{Listing}
 use Rattle.column_check.proofs.ListLemmas.{list_at-before, list_at-past, list_at-push}

@@ -1,13 +1,12 @@
 -- What the conditions that were passed give of blocks, columns and lines.
-use Rattle.std.proofs.Common.{◌≡◌, ℕ, zero, suc, ◌+◌, ◌<◌, ◌≤◌, ◌&&◌, inl, inr, true, List, [], ◌∷◌, ◌++◌, map, length, get_or, arith, ap, subst}
-use Rattle.std.specs.Prelude.{ℤ}
-use Rattle.std.proofs.lemmas.Bool.{and_parts, cases_lt, ltb-true}
+use Rattle.std.proofs.Common.{◌≡◌, ℕ, zero, suc, ◌+◌, ◌<◌, ◌≤◌, ◌&&◌, inl, inr, true, List, [], ◌∷◌, ◌++◌, map, length, get_or, arith, ap, subst, ℤ, ltb-true}
+use Rattle.std.proofs.lemmas.Bool.{and_parts, cases_lt}
 use Rattle.std.proofs.lemmas.List.{length-map}
-use Rattle.signed_sum.specs.Lists.{numbers_from}
-use Rattle.linear_law.specs.Lists.{Among, Each}
-use Rattle.linear_law.proofs.ListLemmas.{each_zip}
-use Rattle.simplicial_law.specs.Cochains.{Chain}
-use Rattle.complex_index.specs.Levels.{IsIndexOf, level}
+use Rattle.signed_sum.specs.Names.{numbers_from}
+use Rattle.linear_law.specs.Names.{Among, Each}
+use Rattle.linear_law.proofs.Names.{each_zip}
+use Rattle.simplicial_law.specs.Names.{Chain}
+use Rattle.complex_index.specs.Names.{IsIndexOf, level}
 use Rattle.report.specs.declared.columns.CartanPart.{CartanPart}
 use Rattle.report.specs.declared.columns.OperationPart.{OperationPart}
 use Rattle.report.specs.declared.columns.ProductPart.{ProductPart}
@@ -16,17 +15,10 @@ use Rattle.report.specs.declared.complex.DegreePart.{DegreePart}
 use Rattle.report.specs.declared.map.InducedPart.{InducedPart}
 use Rattle.report.specs.declared.map.MapPart.{MapPart}
 use Rattle.report.specs.declared.plan.Product.{Product}
-use Rattle.report_law.specs.Live.{blocks, has_class, induced_degrees, lines, products}
-use Rattle.report_law.specs.Parts.{block_of, classes_of, line_of, number_pairs, numbers_of, product_of, ranks_of}
-use Rattle.report_law.proofs.Blocks.{has-degree, of-blocks, rank-of}
-use Rattle.report_law.proofs.Lists.{get_or-past, of-filter, of-flat_map, of-map, of-numbers}
-use Rattle.report_law.proofs.Verdicts.{of-lines}
-use Rattle.report_text_law.specs.Lines.{cartan_lines, induced_lines, operation_lines, product_lines}
-use Rattle.report_text_law.specs.WellFormed.{is_chain}
-use Rattle.certificate_law.specs.Conditions.{Asks}
-use Rattle.certificate_law.specs.ListedDegrees.{IsOn}
-use Rattle.certificate_law.specs.Parts.{rank_in}
-use Rattle.certificate_law.specs.Stated.{Stated, after, behind, below_stands, cartan_stated, class_stands, complex_ends, complex_stated, degree_stated, facet_stands, induced_column, induced_stated, map_between, map_ends, numbered, operation_column, operation_stated, product_column, product_stated, send_stands, with_stands}
+use Rattle.report_law.specs.Names.{blocks, has_class, induced_degrees, lines, products, block_of, classes_of, line_of, number_pairs, numbers_of, product_of, ranks_of}
+use Rattle.report_law.proofs.Names.{has-degree, of-blocks, rank-of, get_or-past, of-filter, of-flat_map, of-map, of-numbers, of-lines}
+use Rattle.report_text_law.specs.Names.{cartan_lines, induced_lines, operation_lines, product_lines, is_chain}
+use Rattle.certificate_law.specs.Names.{Asks, IsOn, rank_in, Stated, after, behind, below_stands, cartan_stated, class_stands, complex_ends, complex_stated, degree_stated, facet_stands, induced_column, induced_stated, map_between, map_ends, numbered, operation_column, operation_stated, product_column, product_stated, send_stands, with_stands}
 use Rattle.certificate_law.proofs.Asked.{each_left, each_right}
 use Rattle.certificate_law.proofs.Places.{at_count, at_each, each_at, numbered_heads}
 use Rattle.listed_rows.proofs.CountLemmas.{simplices_counted}

@@ -1,16 +1,13 @@
 -- Walks of columns and of blocks.
-use Rattle.std.proofs.Common.{◌≡◌, ℕ, ◌+◌, ◌*◌, ◌<◌, ◌≤◌, List, [], ◌∷◌, drop, length, get_or, arith, refl, sym, subst}
-use Rattle.std.specs.Prelude.{Result, Ok, Err}
-use Rattle.linear_law.specs.Lists.{Each}
-use Rattle.linear_law.proofs.ListLemmas.{each_get_or}
+use Rattle.std.proofs.Common.{◌≡◌, ℕ, ◌+◌, ◌*◌, ◌<◌, ◌≤◌, List, [], ◌∷◌, drop, length, get_or, arith, refl, sym, subst, Result, Ok, Err}
+use Rattle.linear_law.specs.Names.{Each}
+use Rattle.linear_law.proofs.Names.{each_get_or}
 use Rattle.report.specs.declared.columns.CartanAnswer.{CartanAnswer}
 use Rattle.report.specs.declared.columns.CartanAnswer.TheVariants.{Yes, No}
-use Rattle.certificate_law.specs.Conditions.{Asks}
-use Rattle.certificate_law.specs.Stated.{Stated, answer_stated, numbered}
+use Rattle.certificate_law.specs.Names.{Asks, Stated, answer_stated, numbered}
 use Rattle.certificate_walk.specs.declared.stop.Stop.{Stop}
-use Rattle.certificate_walk.specs.Walks.{IsWalk}
-use Rattle.certificate_walk.proofs.SizeLemmas.{numbered_each}
-use Rattle.certificate_walk.proofs.WalkLemmas.{Leads, leads_room, numbered_end, numbered_more, numbered_next, numbered_stop, walk_both}
+use Rattle.certificate_walk.specs.Names.{IsWalk}
+use Rattle.certificate_walk.proofs.Names.{numbered_each, Leads, leads_room, numbered_end, numbered_more, numbered_next, numbered_stop, walk_both}
 
 -- a line of which nothing is asked, before others
 pub headed : (P : Stated → Type 0) (before : ℕ) (s : Stated) (lines : List Stated) (r : Result ℕ Stop) → P s → IsWalk P (before + 1) lines r → IsWalk P before (s ∷ lines) r

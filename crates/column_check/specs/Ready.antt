@@ -1,7 +1,7 @@
 -- What earlier conditions give of the blocks, columns and lines whose sums are tested.
 use Rattle.std.specs.Prelude.{◌≡◌, ℕ, ◌+◌, ◌^◌, ◌<◌, ◌≤◌, true, List, length, ℤ}
 use Rattle.std.specs.List.{list_all}
-use Rattle.linear_law.specs.Lists.{Each}
+use Rattle.linear_law.specs.Names.{Each}
 use Rattle.report.specs.declared.columns.CartanAnswer.{CartanAnswer}
 use Rattle.report.specs.declared.columns.CartanAnswer.TheVariants.{Yes, No}
 use Rattle.report.specs.declared.columns.CartanPart.{CartanPart}
@@ -12,13 +12,9 @@ use Rattle.report.specs.declared.columns.ProductPart.{ProductPart}
 use Rattle.report.specs.declared.complex.ComplexPart.{ComplexPart}
 use Rattle.report.specs.declared.map.InducedPart.{InducedPart}
 use Rattle.report.specs.declared.map.MapPart.{MapPart}
-use Rattle.report_law.specs.Live.{cartan_op, is_defined, target_degree}
-use Rattle.report_law.specs.Parts.{line_of, op_of}
-use Rattle.report_text_law.specs.Lines.{complex_lines, map_lines}
-use Rattle.report_text_law.specs.WellFormed.{is_chain, is_line}
-use Rattle.certificate_law.specs.Conditions.{Asks}
-use Rattle.certificate_law.specs.Parts.{rank_in}
-use Rattle.certificate_law.specs.Stated.{complex_stated, map_between}
+use Rattle.report_law.specs.Names.{cartan_op, is_defined, target_degree, line_of, op_of}
+use Rattle.report_text_law.specs.Names.{complex_lines, map_lines, is_chain, is_line}
+use Rattle.certificate_law.specs.Names.{Asks, rank_in, complex_stated, map_between}
 use Rattle.line_difference.specs.Elements.{HasElement, HasElements}
 
 -- The lines of the complex are well formed, and meet the conditions 2, 3 and 5.

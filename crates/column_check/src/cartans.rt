@@ -1,16 +1,15 @@
 //! The answers of Cartan lines.
 ghost use Rattle.std.specs.Prelude.{◌≡◌, ◌↔◌, ◌+◌, ◌<◌, ◌^◌, ℕ, List, length, true, IfOk, IsTrue};
-ghost use Rattle.linear_law.specs.Lists.{Each};
+ghost use Rattle.linear_law.specs.Names.{Each};
 ghost use Rattle.fp_field.specs.Served.{served};
-ghost use Rattle.simplicial_law.specs.Places.{terms_of};
+ghost use Rattle.simplicial_law.specs.Names.{terms_of};
 ghost use Rattle.sparse_rows.specs.Rows.{IsBelow};
-ghost use Rattle.complex_index.specs.Levels.{IsIndexOf, level};
+ghost use Rattle.complex_index.specs.Names.{IsIndexOf, level};
 ghost use Rattle.may_steenrod.specs.Cochains.{cochain_in};
-ghost use Rattle.report_law.specs.Parts.{line_of as line_of_part};
-ghost use Rattle.report_text_law.specs.WellFormed.{is_chain};
-ghost use Rattle.certificate_law.specs.Conditions.{Asks, IsRightAnswer};
-ghost use Rattle.certificate_law.specs.Stated.{cartan_stated, numbered};
-ghost use Rattle.certificate_walk.specs.Walks.{IsWalk};
+ghost use Rattle.report_law.specs.Names.{line_of as line_of_part};
+ghost use Rattle.report_text_law.specs.Names.{is_chain};
+ghost use Rattle.certificate_law.specs.Names.{Asks, IsRightAnswer, cartan_stated, numbered};
+ghost use Rattle.certificate_walk.specs.Names.{IsWalk};
 ghost use Rattle.column_check.specs.Listings.{IsClosedChain, PairsWithCycle, IsListing};
 ghost use Rattle.column_check.specs.Ready.{IsCartanReady};
 

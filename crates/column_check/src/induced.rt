@@ -1,13 +1,10 @@
 //! Columns of pull-backs.
 ghost use Rattle.std.specs.Prelude.{◌≡◌, ◌↔◌, ◌+◌, ◌<◌, ◌^◌, ℕ, [], ◌∷◌, get_or, length, IfOk, IsTrue};
-ghost use Rattle.linear_law.specs.Lists.{Each};
+ghost use Rattle.linear_law.specs.Names.{Each};
 ghost use Rattle.fp_field.specs.Served.{served};
-ghost use Rattle.certificate_law.specs.Conditions.{Asks, IsRightPullBack};
-ghost use Rattle.certificate_law.specs.Parts.{rank_in};
-ghost use Rattle.certificate_law.specs.Stated.{induced_column, induced_stated, numbered, with_stands};
-ghost use Rattle.certificate_walk.specs.Sizes.{induced_lines};
-ghost use Rattle.certificate_walk.specs.Walks.{IsWalk};
-ghost use Rattle.complex_file.specs.Maps.{image};
+ghost use Rattle.certificate_law.specs.Names.{Asks, IsRightPullBack, rank_in, induced_column, induced_stated, numbered, with_stands};
+ghost use Rattle.certificate_walk.specs.Names.{induced_lines, IsWalk};
+ghost use Rattle.complex_file.specs.Names.{image};
 ghost use Rattle.column_check.specs.Listings.{IsListing, HasImagesOf};
 ghost use Rattle.column_check.specs.Ready.{IsColumnReady, IsInducedReady};
 

@@ -1,13 +1,11 @@
 //! The classes of a listed complex as rows.
 ghost use Rattle.std.specs.Prelude.{◌≡◌, ◌≤◌, ◌<◌, ◌-◌, ℕ, [], length, get_or, map, IfOk, IsTrue};
 ghost use Rattle.std.specs.List.{AllZip};
-ghost use Rattle.linear_law.specs.Lists.{Each};
+ghost use Rattle.linear_law.specs.Names.{Each};
 ghost use Rattle.fp_field.specs.Served.{served};
-ghost use Rattle.complex_index.specs.Incidence.{list_at};
-ghost use Rattle.complex_index.specs.Levels.{IsIndexOf};
-ghost use Rattle.report_law.specs.Matrices.{classes_in};
-ghost use Rattle.report_law.specs.Parts.{classes_of};
-ghost use Rattle.certificate_law.specs.Parts.{rank_in};
+ghost use Rattle.complex_index.specs.Names.{list_at, IsIndexOf};
+ghost use Rattle.report_law.specs.Names.{classes_in, classes_of};
+ghost use Rattle.certificate_law.specs.Names.{rank_in};
 ghost use Rattle.column_check.specs.Listings.{IsRowOfClass, IsListedOn, IsListing};
 ghost use Rattle.column_check.specs.Ready.{HasPassed};
 

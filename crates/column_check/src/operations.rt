@@ -1,13 +1,10 @@
 //! Columns of operations.
 ghost use Rattle.std.specs.Prelude.{◌≡◌, ◌↔◌, ◌+◌, ◌<◌, ◌^◌, ℕ, [], ◌∷◌, length, IfOk, IsTrue};
-ghost use Rattle.linear_law.specs.Lists.{Each};
+ghost use Rattle.linear_law.specs.Names.{Each};
 ghost use Rattle.fp_field.specs.Served.{served};
-ghost use Rattle.certificate_law.specs.Conditions.{Asks, IsRightOperation};
-ghost use Rattle.certificate_law.specs.Parts.{rank_in};
-ghost use Rattle.certificate_law.specs.Stated.{numbered, operation_column, operation_stated, with_stands};
-ghost use Rattle.certificate_walk.specs.Sizes.{operation_lines};
-ghost use Rattle.certificate_walk.specs.Walks.{IsWalk};
-ghost use Rattle.report_law.specs.Parts.{op_of as op_of_part};
+ghost use Rattle.certificate_law.specs.Names.{Asks, IsRightOperation, rank_in, numbered, operation_column, operation_stated, with_stands};
+ghost use Rattle.certificate_walk.specs.Names.{operation_lines, IsWalk};
+ghost use Rattle.report_law.specs.Names.{op_of as op_of_part};
 ghost use Rattle.column_check.specs.Listings.{IsListing};
 ghost use Rattle.column_check.specs.Ready.{IsColumnReady, IsOperationReady};
 

@@ -1,12 +1,9 @@
 //! Columns of products.
 ghost use Rattle.std.specs.Prelude.{◌+◌, ◌↔◌, ◌<◌, ◌≤◌, ◌^◌, ℕ, [], ◌∷◌, length, IfOk, IsTrue};
-ghost use Rattle.linear_law.specs.Lists.{Each};
+ghost use Rattle.linear_law.specs.Names.{Each};
 ghost use Rattle.fp_field.specs.Served.{served};
-ghost use Rattle.certificate_law.specs.Conditions.{Asks, IsRightProduct};
-ghost use Rattle.certificate_law.specs.Parts.{rank_in};
-ghost use Rattle.certificate_law.specs.Stated.{numbered, product_column, product_stated, with_stands};
-ghost use Rattle.certificate_walk.specs.Sizes.{product_lines};
-ghost use Rattle.certificate_walk.specs.Walks.{IsWalk};
+ghost use Rattle.certificate_law.specs.Names.{Asks, IsRightProduct, rank_in, numbered, product_column, product_stated, with_stands};
+ghost use Rattle.certificate_walk.specs.Names.{product_lines, IsWalk};
 ghost use Rattle.column_check.specs.Listings.{IsListing};
 ghost use Rattle.column_check.specs.Ready.{IsPairReady, IsProductReady};
 

@@ -1,14 +1,12 @@
 //! Sums of rows: the values of a column times the classes, plus a coboundary.
 ghost use Rattle.std.specs.Prelude.{◌≡◌, ◌↔◌, ◌+◌, ◌<◌, ℕ, true, length, map, IfOk, IsTrue, OnOk};
-ghost use Rattle.linear_law.specs.Congruence.{Congruent};
-ghost use Rattle.linear_law.specs.Lists.{Each};
-ghost use Rattle.linear_law.specs.ReducedBases.{combination};
+ghost use Rattle.linear_law.specs.Names.{Congruent, Each, combination};
 ghost use Rattle.fp_field.specs.Served.{served};
 ghost use Rattle.sparse_rows.specs.Rows.{IsBelow, value_in};
-ghost use Rattle.complex_index.specs.Levels.{level};
+ghost use Rattle.complex_index.specs.Names.{level};
 ghost use Rattle.may_steenrod.specs.Cochains.{cochain_in};
-ghost use Rattle.report_text_law.specs.WellFormed.{is_chain};
-ghost use Rattle.certificate_law.specs.Parts.{rank_in};
+ghost use Rattle.report_text_law.specs.Names.{is_chain};
+ghost use Rattle.certificate_law.specs.Names.{rank_in};
 ghost use Rattle.column_check.specs.Listings.{IsBoundOf, IsColumnSum, IsListing, IsSumRowIn};
 
 use crate::listing::Listing;

@@ -1,14 +1,12 @@
 //! The conditions 6, 7 and 8 on a complex and on a map.
 ghost use Rattle.std.specs.Prelude.{◌≡◌, ◌+◌, ◌<◌, ◌^◌, List, length, sum_by, IsTrue};
 ghost use Rattle.fp_field.specs.Served.{served};
-ghost use Rattle.complex_index.specs.Levels.{IsIndexOf};
+ghost use Rattle.complex_index.specs.Names.{IsIndexOf};
 ghost use Rattle.report.specs.declared.complex.ComplexPart.{ComplexPart};
 ghost use Rattle.report.specs.declared.map.MapPart.{MapPart};
-ghost use Rattle.report_law.specs.Parts.{ranks_of};
-ghost use Rattle.certificate_law.specs.Conditions.{Asks};
-ghost use Rattle.certificate_law.specs.Stated.{complex_stated, map_between};
-ghost use Rattle.certificate_walk.specs.Sizes.{complex_lines as complex_lines_of, degree_lines, map_lines as map_lines_of, operation_lines, product_lines};
-ghost use Rattle.certificate_walk.specs.Walks.{IsWalk};
+ghost use Rattle.report_law.specs.Names.{ranks_of};
+ghost use Rattle.certificate_law.specs.Names.{Asks, complex_stated, map_between};
+ghost use Rattle.certificate_walk.specs.Names.{complex_lines as complex_lines_of, degree_lines, map_lines as map_lines_of, operation_lines, product_lines, IsWalk};
 ghost use Rattle.line_difference.specs.Elements.{AreStored};
 ghost use Rattle.column_check.specs.Ready.{HasPassed, HasPassedMap};
 

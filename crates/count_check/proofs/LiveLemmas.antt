@@ -1,13 +1,13 @@
 -- The live Cartan lines, group by group, and lists of the numbers that pass a test.
-use Rattle.std.proofs.Common.{◌≡◌, ℕ, zero, suc, ◌+◌, ◌^◌, ◌<◌, ◌≤◌, refl, sym, ◌∙◌, ap, ap₂, subst, arith, Bool, true, false, cond, List, [], ◌∷◌, ◌++◌, append_assoc, lit<, length, map, flat_map, get_or, take}
+use Rattle.std.proofs.Common.{◌≡◌, ℕ, zero, suc, ◌+◌, ◌^◌, ◌<◌, ◌≤◌, refl, sym, ◌∙◌, ap, ap₂, subst, arith, Bool, true, false, cond, List, [], ◌∷◌, ◌++◌, append_assoc, lit<, length, map, flat_map, get_or, take, append-nil, take_all}
 use Rattle.std.specs.List.{filter}
 use Rattle.std.proofs.lemmas.Grind.{flat_map-append}
-use Rattle.std.proofs.lemmas.List.{append-nil, map-append, take_all, take_more}
+use Rattle.std.proofs.lemmas.List.{map-append, take_more}
 use Rattle.std.proofs.lemmas.List.Elements.{filter-append, filter_more}
 use Rattle.std.proofs.lemmas.Option.{get_or_from_slice_get}
-use Rattle.signed_sum.specs.Lists.{numbers_from}
+use Rattle.signed_sum.specs.Names.{numbers_from}
 use Rattle.report.specs.declared.plan.Line.{Line}
-use Rattle.report_law.specs.Live.{class_numbers, degrees, lines, lines_of_pair}
+use Rattle.report_law.specs.Names.{class_numbers, degrees, lines, lines_of_pair}
 use Rattle.count_check.specs.declared.lines.LineGroup.{LineGroup}
 use Rattle.count_check.specs.Columns.{AreSmall}
 use Rattle.count_check.specs.LineGroups.{IsSmallGroup, group_lines, is_live_number, line_with, lines_from, pair_lines}

@@ -1,14 +1,12 @@
 -- What stands at a place of a list of rows that are equally long.
-use Rattle.std.proofs.Common.{◌≡◌, ℕ, zero, suc, ◌+◌, ◌*◌, ◌/◌, ◌%◌, ◌-◌, ◌<◌, ◌≤◌, refl, sym, ◌∙◌, ap, ap₂, subst, arith, leb, ◌↔◌, IsTrue, List, [], ◌∷◌, ◌++◌, length, map, flat_map, get_or, drop, slice_get, option_map, Some, None}
-use Rattle.std.specs.Prelude.{vec_len}
-use Rattle.std.proofs.lemmas.Bool.{le-leb, leb-true}
-use Rattle.std.proofs.lemmas.List.{at_drop_more, length-append, length-map}
-use Rattle.std.proofs.lemmas.Nat.{div-add-mod', div_below}
+use Rattle.std.proofs.Common.{◌≡◌, ℕ, zero, suc, ◌+◌, ◌*◌, ◌/◌, ◌%◌, ◌-◌, ◌<◌, ◌≤◌, refl, sym, ◌∙◌, ap, ap₂, subst, arith, leb, ◌↔◌, IsTrue, List, [], ◌∷◌, ◌++◌, length, map, flat_map, get_or, drop, slice_get, option_map, Some, None, vec_len, le-leb, leb-true, length-append, div-add-mod'}
+use Rattle.std.proofs.lemmas.List.{at_drop_more, length-map}
+use Rattle.std.proofs.lemmas.Nat.{div_below}
 use Rattle.std.proofs.lemmas.Option.{slice_get-map, slice_get-get_or, slice_get_past}
 use Rattle.std.proofs.Math.Nat.{mod-lt}
-use Rattle.signed_sum.specs.Lists.{numbers_from}
+use Rattle.signed_sum.specs.Names.{numbers_from}
 use Rattle.report.specs.declared.plan.Line.{Line}
-use Rattle.report_law.specs.Parts.{number_pairs}
+use Rattle.report_law.specs.Names.{number_pairs}
 use Rattle.count_check.specs.declared.lines.LineGroup.{LineGroup}
 use Rattle.count_check.specs.LineGroups.{group_lines, line_with}
 

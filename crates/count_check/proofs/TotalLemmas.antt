@@ -2,17 +2,17 @@
 use Rattle.std.proofs.Common.{◌≡◌, ℕ, zero, suc, ◌+◌, ◌^◌, ◌<◌, refl, sym, ◌∙◌, ap, ap₂, subst, arith, List, [], ◌∷◌, ◌++◌, length, map, get_or, take, Some, None}
 use Rattle.std.specs.List.{AllZip}
 use Rattle.std.proofs.lemmas.List.{length-map, map-append, take_more}
-use Rattle.signed_sum.specs.Lists.{numbers_from}
-use Rattle.linear_law.specs.Lists.{Each, IsAscending}
-use Rattle.simplicial_law.specs.ListedSimplices.{of_degree, simplices}
-use Rattle.complex_index.specs.Levels.{IsIndexOf, level}
+use Rattle.signed_sum.specs.Names.{numbers_from}
+use Rattle.linear_law.specs.Names.{Each, IsAscending}
+use Rattle.simplicial_law.specs.Names.{of_degree}
+use Rattle.simplicial_law.specs.ListedSimplices.{simplices}
+use Rattle.complex_index.specs.Names.{IsIndexOf, level}
 use Rattle.report.specs.declared.complex.ComplexPart.{ComplexPart}
 use Rattle.report.specs.declared.complex.DegreePart.{DegreePart}
 use Rattle.report.specs.declared.plan.Sizes.{Sizes}
-use Rattle.report_law.specs.Matrices.{ranks}
-use Rattle.report_law.specs.Terms.{passing_sum, simplex_counts, sizes_of}
+use Rattle.report_law.specs.Names.{ranks, passing_sum, simplex_counts, sizes_of}
 use Rattle.listed_rows.proofs.CountLemmas.{simplices_counted}
-use Rattle.term_total.specs.Counts.{IsPart}
+use Rattle.term_total.specs.Names.{IsPart}
 use Rattle.count_check.specs.Totals.{IsCountable, job_sizes}
 use Rattle.count_check.proofs.PlaceLemmas.{numbers_length}
 

@@ -1,14 +1,13 @@
 -- What is asked of the lines of columns.
 use Rattle.std.specs.Prelude.{ℕ, ◌^◌, ◌<◌, Bool, ◌&&◌, List, [], ◌∷◌, length}
-use Rattle.linear_law.specs.Lists.{Each}
+use Rattle.linear_law.specs.Names.{Each}
 use Rattle.report.specs.declared.columns.Column.{Column}
 use Rattle.report.specs.declared.columns.PairColumn.{PairColumn}
 use Rattle.report.specs.declared.columns.ProductPart.{ProductPart}
 use Rattle.report.specs.declared.complex.ComplexPart.{ComplexPart}
 use Rattle.report.specs.declared.complex.DegreePart.{DegreePart}
-use Rattle.report_law.specs.Live.{has_class}
-use Rattle.certificate_law.specs.Conditions.{IsColumnAt, IsCountLine}
-use Rattle.certificate_law.specs.Stated.{Stated, product_column, with_stands}
+use Rattle.report_law.specs.Names.{has_class}
+use Rattle.certificate_law.specs.Names.{IsColumnAt, IsCountLine, Stated, product_column, with_stands}
 
 -- The line of a column is asked to be that of a matrix with so many columns and rows.
 pub record AsksColumns (p : ℕ) (line : ℕ → Column → Stated) (columns rows : ℕ) : Type 0 where

@@ -1,12 +1,11 @@
 -- The live Cartan lines of two degrees.
 use Rattle.std.specs.Prelude.{ℕ, ◌+◌, ◌^◌, ◌<◌, ◌≤◌, ◌≡◌, Bool, ◌&&◌, List, flat_map, get_or, length, map}
 use Rattle.std.specs.List.{filter}
-use Rattle.signed_sum.specs.Lists.{numbers_from}
-use Rattle.linear_law.specs.Lists.{Each}
+use Rattle.signed_sum.specs.Names.{numbers_from}
+use Rattle.linear_law.specs.Names.{Each}
 use Rattle.report.specs.declared.complex.ComplexPart.{ComplexPart}
 use Rattle.report.specs.declared.plan.Line.{Line}
-use Rattle.report_law.specs.Live.{blocks, cartan_op, class_numbers, degrees, has_class, is_defined, lines, products, target_degree}
-use Rattle.report_law.specs.Parts.{number_pairs}
+use Rattle.report_law.specs.Names.{blocks, cartan_op, class_numbers, degrees, has_class, is_defined, lines, products, target_degree, number_pairs}
 use Rattle.count_check.specs.declared.complexes.Live.{Live}
 use Rattle.count_check.specs.declared.lines.LineGroup.{LineGroup}
 use Rattle.count_check.specs.Columns.{AreSmall}

@@ -1,10 +1,10 @@
 -- What the counted terms are taken of.
 use Rattle.std.specs.Prelude.{ℕ, ◌≤◌, List, length, map}
-use Rattle.linear_law.specs.Lists.{Each, IsAscending}
-use Rattle.complex_index.specs.Levels.{IsIndexOf}
+use Rattle.linear_law.specs.Names.{Each, IsAscending}
+use Rattle.complex_index.specs.Names.{IsIndexOf}
 use Rattle.report.specs.declared.complex.ComplexPart.{ComplexPart}
 use Rattle.report.specs.declared.plan.Sizes.{Sizes}
-use Rattle.report_law.specs.Terms.{sizes_of}
+use Rattle.report_law.specs.Names.{sizes_of}
 use Rattle.count_check.specs.Columns.{AreFew}
 
 -- The levels index the complex, whose facets are ascending, and no more degrees are listed than a complex has.

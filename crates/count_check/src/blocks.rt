@@ -1,13 +1,10 @@
 //! The operation blocks.
 ghost use Rattle.std.specs.Prelude.{◌≡◌, ◌↔◌, ◌<◌, ◌≤◌, ◌+◌, ◌^◌, ℕ, length, get_or, slice_get, sum_by, Some, IfOk, IsTrue};
-ghost use Rattle.linear_law.specs.Lists.{Each};
+ghost use Rattle.linear_law.specs.Names.{Each};
 ghost use Rattle.report.specs.declared.complex.ComplexPart.{ComplexPart};
-ghost use Rattle.report_law.specs.Live.{blocks as blocks_of};
-ghost use Rattle.report_law.specs.Parts.{block_of, is_same_op, op_named, ranks_of};
-ghost use Rattle.certificate_law.specs.Conditions.{Asks};
-ghost use Rattle.certificate_law.specs.Stated.{numbered, operation_stated};
-ghost use Rattle.certificate_walk.specs.Sizes.{operation_lines};
-ghost use Rattle.certificate_walk.specs.Walks.{IsWalk};
+ghost use Rattle.report_law.specs.Names.{blocks as blocks_of, block_of, is_same_op, op_named, ranks_of};
+ghost use Rattle.certificate_law.specs.Names.{Asks, numbered, operation_stated};
+ghost use Rattle.certificate_walk.specs.Names.{operation_lines, IsWalk};
 
 use crate::columns::columns;
 use crate::rank::rank_at;

@@ -1,10 +1,9 @@
 //! The columns of operation blocks and of induced blocks.
 ghost use Rattle.std.specs.Prelude.{◌≡◌, ◌↔◌, ◌<◌, ◌+◌, ◌*◌, ◌^◌, ℕ, length, IfOk, IsTrue, Ok, Err, if◌then◌else◌};
 ghost use Rattle.report.specs.declared.columns.Column.{Column as ColumnPart};
-ghost use Rattle.certificate_law.specs.Conditions.{Asks, IsColumnAt};
-ghost use Rattle.certificate_law.specs.Stated.{Stated, numbered};
+ghost use Rattle.certificate_law.specs.Names.{Asks, IsColumnAt, Stated, numbered};
 ghost use Rattle.certificate_walk.specs.declared.stop.Stop.TheVariants.{Fails};
-ghost use Rattle.certificate_walk.specs.Walks.{IsWalk};
+ghost use Rattle.certificate_walk.specs.Names.{IsWalk};
 ghost use Rattle.count_check.specs.Columns.{AsksColumns, with_primitive};
 
 use certificate_walk::{Stop, ask};

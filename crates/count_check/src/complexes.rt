@@ -1,14 +1,12 @@
 //! A complex.
 ghost use Rattle.std.specs.Prelude.{◌≡◌, ◌↔◌, ◌<◌, ◌≤◌, ◌+◌, ◌^◌, ℕ, List, flat_map, get_or, length, IfOk, IsTrue, OnOk};
-ghost use Rattle.linear_law.specs.Lists.{Each};
+ghost use Rattle.linear_law.specs.Names.{Each};
 ghost use Rattle.simplicial_law.specs.ListedSimplices.{simplices};
 ghost use Rattle.fp_field.specs.Served.{served};
 ghost use Rattle.report.specs.declared.complex.ComplexPart.{ComplexPart as Listed};
-ghost use Rattle.report_law.specs.Parts.{number_pairs};
-ghost use Rattle.certificate_law.specs.Conditions.{Asks};
-ghost use Rattle.certificate_law.specs.Stated.{complex_stated};
-ghost use Rattle.certificate_walk.specs.Sizes.{complex_lines};
-ghost use Rattle.certificate_walk.specs.Walks.{IsWalk};
+ghost use Rattle.report_law.specs.Names.{number_pairs};
+ghost use Rattle.certificate_law.specs.Names.{Asks, complex_stated};
+ghost use Rattle.certificate_walk.specs.Names.{complex_lines, IsWalk};
 ghost use Rattle.count_check.specs.Columns.{AreFew, AreSmall};
 ghost use Rattle.count_check.specs.LineGroups.{HasAll, IsLive, IsSmallGroup, group_lines};
 ghost use Rattle.count_check.specs.Totals.{IsIndexed};

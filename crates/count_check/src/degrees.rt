@@ -1,12 +1,10 @@
 //! The counts of the degrees.
 ghost use Rattle.std.specs.Prelude.{◌≡◌, ◌↔◌, ◌<◌, ◌≤◌, ◌+◌, ◌^◌, ℕ, [], length, map, get_or, sum_by, IfOk, IsTrue};
-ghost use Rattle.complex_index.specs.Levels.{level};
+ghost use Rattle.complex_index.specs.Names.{level};
 ghost use Rattle.report.specs.declared.complex.ComplexPart.{ComplexPart};
-ghost use Rattle.report_law.specs.Parts.{below_in};
-ghost use Rattle.certificate_law.specs.Conditions.{Asks};
-ghost use Rattle.certificate_law.specs.Stated.{degree_stated, numbered};
-ghost use Rattle.certificate_walk.specs.Sizes.{degree_lines as degree_lines_of};
-ghost use Rattle.certificate_walk.specs.Walks.{IsWalk};
+ghost use Rattle.report_law.specs.Names.{below_in};
+ghost use Rattle.certificate_law.specs.Names.{Asks, degree_stated, numbered};
+ghost use Rattle.certificate_walk.specs.Names.{degree_lines as degree_lines_of, IsWalk};
 ghost use Rattle.count_check.specs.Totals.{IsIndexed};
 
 use certificate_walk::{Stop, ask};

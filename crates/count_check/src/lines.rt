@@ -1,15 +1,13 @@
 //! The Cartan lines.
 ghost use Rattle.std.specs.Prelude.{◌≡◌, ◌↔◌, ◌<◌, ◌≤◌, ◌+◌, ◌*◌, ◌++◌, ◌^◌, ℕ, List, flat_map, length, map, slice_get, Some, IfOk, IsTrue, OnOk};
 ghost use Rattle.std.specs.List.{filter};
-ghost use Rattle.signed_sum.specs.Lists.{numbers_from};
-ghost use Rattle.linear_law.specs.Lists.{Each};
+ghost use Rattle.signed_sum.specs.Names.{numbers_from};
+ghost use Rattle.linear_law.specs.Names.{Each};
 ghost use Rattle.fp_field.specs.Served.{served};
 ghost use Rattle.report.specs.declared.complex.ComplexPart.{ComplexPart};
-ghost use Rattle.report_law.specs.Live.{lines as lines_of, lines_of_pair};
-ghost use Rattle.report_law.specs.Parts.{line_of, ranks_of};
-ghost use Rattle.certificate_law.specs.Conditions.{Asks};
-ghost use Rattle.certificate_law.specs.Stated.{cartan_stated, numbered};
-ghost use Rattle.certificate_walk.specs.Walks.{IsWalk};
+ghost use Rattle.report_law.specs.Names.{lines as lines_of, lines_of_pair, line_of, ranks_of};
+ghost use Rattle.certificate_law.specs.Names.{Asks, cartan_stated, numbered};
+ghost use Rattle.certificate_walk.specs.Names.{IsWalk};
 ghost use Rattle.count_check.specs.Columns.{AreSmall};
 ghost use Rattle.count_check.specs.LineGroups.{IsSmallGroup, group_lines, is_live_number, lines_from};
 

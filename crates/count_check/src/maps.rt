@@ -1,14 +1,11 @@
 //! A map.
 ghost use Rattle.std.specs.Prelude.{◌≡◌, ◌↔◌, ◌<◌, ◌≤◌, ◌+◌, ◌^◌, ℕ, List, length, get_or, slice_get, sum_by, Some, IfOk, IsTrue};
-ghost use Rattle.linear_law.specs.Lists.{Each};
+ghost use Rattle.linear_law.specs.Names.{Each};
 ghost use Rattle.report.specs.declared.complex.ComplexPart.{ComplexPart as Listed};
 ghost use Rattle.report.specs.declared.map.MapPart.{MapPart as ListedMap};
-ghost use Rattle.report_law.specs.Live.{induced_degrees as induced_degrees_of};
-ghost use Rattle.report_law.specs.Parts.{ranks_of};
-ghost use Rattle.certificate_law.specs.Conditions.{Asks};
-ghost use Rattle.certificate_law.specs.Stated.{induced_stated, map_between, numbered};
-ghost use Rattle.certificate_walk.specs.Sizes.{induced_lines, map_lines};
-ghost use Rattle.certificate_walk.specs.Walks.{IsWalk};
+ghost use Rattle.report_law.specs.Names.{induced_degrees as induced_degrees_of, ranks_of};
+ghost use Rattle.certificate_law.specs.Names.{Asks, induced_stated, map_between, numbered};
+ghost use Rattle.certificate_walk.specs.Names.{induced_lines, map_lines, IsWalk};
 ghost use Rattle.count_check.specs.Columns.{AreFew, is_induced};
 
 use crate::columns::columns;

@@ -1,13 +1,10 @@
 //! The products and their columns.
 ghost use Rattle.std.specs.Prelude.{◌≡◌, ◌↔◌, ◌<◌, ◌≤◌, ◌+◌, ◌*◌, ◌^◌, ℕ, length, get_or, slice_get, sum_by, Some, IfOk, IsTrue};
-ghost use Rattle.linear_law.specs.Lists.{Each};
+ghost use Rattle.linear_law.specs.Names.{Each};
 ghost use Rattle.report.specs.declared.complex.ComplexPart.{ComplexPart};
-ghost use Rattle.report_law.specs.Live.{products as products_of};
-ghost use Rattle.report_law.specs.Parts.{number_pairs, numbers_of, product_of, ranks_of};
-ghost use Rattle.certificate_law.specs.Conditions.{Asks};
-ghost use Rattle.certificate_law.specs.Stated.{numbered, product_column, product_stated, with_stands};
-ghost use Rattle.certificate_walk.specs.Sizes.{product_lines};
-ghost use Rattle.certificate_walk.specs.Walks.{IsWalk};
+ghost use Rattle.report_law.specs.Names.{products as products_of, number_pairs, numbers_of, product_of, ranks_of};
+ghost use Rattle.certificate_law.specs.Names.{Asks, numbered, product_column, product_stated, with_stands};
+ghost use Rattle.certificate_walk.specs.Names.{product_lines, IsWalk};
 ghost use Rattle.count_check.specs.Columns.{AreSmall, with_numbers};
 
 use crate::columns::ask_first;

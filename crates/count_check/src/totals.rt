@@ -1,14 +1,13 @@
 //! The counted terms.
 ghost use Rattle.std.specs.Prelude.{◌≡◌, ◌<◌, ◌+◌, ◌∷◌, ◌^◌, ℕ, List, [], IfOk, IsTrue, OnOk, is_some};
 ghost use Rattle.std.specs.List.{AllZip};
-ghost use Rattle.linear_law.specs.Lists.{Each, IsAscending};
+ghost use Rattle.linear_law.specs.Names.{Each, IsAscending};
 ghost use Rattle.fp_field.specs.Served.{served};
-ghost use Rattle.complex_index.specs.Levels.{IsIndexOf};
+ghost use Rattle.complex_index.specs.Names.{IsIndexOf};
 ghost use Rattle.may_elements.specs.Stored.{stored_at};
-ghost use Rattle.report_law.specs.Terms.{elements, simplex_counts, sizes_of};
-ghost use Rattle.certificate_law.specs.Conditions.{Asks};
-ghost use Rattle.certificate_law.specs.Stated.{finish};
-ghost use Rattle.certificate_walk.specs.Walks.{IsWalk};
+ghost use Rattle.report_law.specs.Names.{elements, simplex_counts, sizes_of};
+ghost use Rattle.certificate_law.specs.Names.{Asks, finish};
+ghost use Rattle.certificate_walk.specs.Names.{IsWalk};
 ghost use Rattle.count_check.specs.Totals.{IsCountable, job_sizes};
 
 use crate::rank::ranks;

@@ -2,15 +2,12 @@
 use Rattle.std.proofs.Common.{◌≡◌, ◌⊎◌, ℕ, zero, suc, ◌+◌, ◌-◌, ◌<◌, ◌≤◌, inl, inr, refl, sym, ap, ap₂, subst, arith, List, [], ◌∷◌, map, length, get_or}
 use Rattle.std.specs.List.Sorted.{IsStrictlySortedBy}
 use Rattle.std.proofs.lemmas.Bool.{cases_eq, cases_lt}
-use Rattle.linear_law.specs.Lists.{Among, Each, IsAscending}
-use Rattle.linear_law.proofs.ListLemmas.{among_map, each_among, each_itself, each_map, each_of_map, each_zip}
-use Rattle.simplicial_law.specs.Cochains.{faces}
-use Rattle.simplicial_law.specs.ListedSimplices.{simplex_cmp}
-use Rattle.simplicial_law.specs.Simplices.{IsSimplex}
-use Rattle.simplicial_law.proofs.ListedSimplices.{sorted_in_order}
-use Rattle.simplicial_law.proofs.Sublists.{of_map}
-use Rattle.complex_index.specs.Levels.{IsIndexOf, level}
-use Rattle.report_law.specs.Reports.{AreMaximalFacets, IsMaximal, IsWithin}
+use Rattle.linear_law.specs.Names.{Among, Each, IsAscending}
+use Rattle.linear_law.proofs.Names.{among_map, each_among, each_itself, each_map, each_of_map, each_zip}
+use Rattle.simplicial_law.specs.Names.{faces, simplex_cmp, IsSimplex}
+use Rattle.simplicial_law.proofs.Names.{sorted_in_order, of_map}
+use Rattle.complex_index.specs.Names.{IsIndexOf, level}
+use Rattle.report_law.specs.Names.{AreMaximalFacets, IsMaximal, IsWithin}
 use Rattle.facet_list.specs.Covered.{IsFaceIn, IsFree}
 
 -- s with the vertex v more, of which s is a face

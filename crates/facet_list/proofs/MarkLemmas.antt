@@ -5,16 +5,11 @@ use Rattle.std.specs.Result.{IfOk}
 use Rattle.std.specs.BTreeSet.{insert_key}
 use Rattle.std.specs.Cmp.Lexicographic.{nat_list_cmp_total}
 use Rattle.std.proofs.lemmas.Bool.{cases_eq}
-use Rattle.linear_law.specs.Lists.{Among, Each}
-use Rattle.linear_law.specs.Listing.{ListsAll}
-use Rattle.linear_law.proofs.ListLemmas.{among_left, among_map, among_right}
-use Rattle.simplicial_law.specs.Cochains.{faces}
-use Rattle.simplicial_law.specs.ListedSimplices.{simplex_cmp}
-use Rattle.simplicial_law.proofs.ListedSimplices.{exact}
-use Rattle.simplicial_law.proofs.OrderedKeys.{among_inserted, insert_keeps, insert_puts, sorted_inserted}
-use Rattle.simplicial_law.proofs.Sublists.{of_map}
-use Rattle.complex_index.specs.Incidence.{ArePlaces, simplex_at}
-use Rattle.complex_index.specs.Levels.{level}
+use Rattle.linear_law.specs.Names.{Among, Each, ListsAll}
+use Rattle.linear_law.proofs.Names.{among_left, among_map, among_right}
+use Rattle.simplicial_law.specs.Names.{faces, simplex_cmp}
+use Rattle.simplicial_law.proofs.Names.{exact, among_inserted, insert_keeps, insert_puts, sorted_inserted, of_map}
+use Rattle.complex_index.specs.Names.{ArePlaces, simplex_at, level}
 use Rattle.facet_list.specs.Covered.{AddsBelow, AddsFree, AreMarked, Covers, IsFaceIn, IsFree}
 
 -- ---- lists

@@ -1,10 +1,9 @@
 -- Which simplices of a complex are faces of others.
 use Rattle.std.specs.Prelude.{◌≡◌, ◌⊎◌, ℕ, ◌+◌, ◌<◌, Bool, true, false, List, [], length, get_or}
 use Rattle.std.specs.List.Sorted.{IsStrictlySortedBy}
-use Rattle.linear_law.specs.Lists.{Among}
-use Rattle.simplicial_law.specs.Cochains.{faces}
-use Rattle.simplicial_law.specs.ListedSimplices.{simplex_cmp}
-use Rattle.complex_index.specs.Levels.{level}
+use Rattle.linear_law.specs.Names.{Among}
+use Rattle.simplicial_law.specs.Names.{faces, simplex_cmp}
+use Rattle.complex_index.specs.Names.{level}
 
 -- s is a face of one of the simplices
 abbrev pub IsFaceIn : List (List ℕ) → List ℕ → Type 0

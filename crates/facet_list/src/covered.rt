@@ -1,7 +1,7 @@
 //! Which simplices lie in others.
 ghost use Rattle.std.specs.Prelude.{◌<◌, ◌+◌, length, IfOk};
-ghost use Rattle.linear_law.specs.Lists.{Each};
-ghost use Rattle.complex_index.specs.Levels.{IsComplexIndex, level};
+ghost use Rattle.linear_law.specs.Names.{Each};
+ghost use Rattle.complex_index.specs.Names.{IsComplexIndex, level};
 ghost use Rattle.facet_list.specs.Covered.{AreMarked, Covers};
 
 use complex_index::Indexed;

@@ -1,8 +1,8 @@
 //! The facets that lie in no other.
 ghost use Rattle.std.specs.Prelude.{◌≡◌, ◌<◌, ℕ, List, length, IfOk, OnOk};
-ghost use Rattle.linear_law.specs.Lists.{Each, IsAscending};
-ghost use Rattle.complex_index.specs.Levels.{IsComplexIndex, IsIndexOf};
-ghost use Rattle.report_law.specs.Reports.{AreMaximalFacets};
+ghost use Rattle.linear_law.specs.Names.{Each, IsAscending};
+ghost use Rattle.complex_index.specs.Names.{IsComplexIndex, IsIndexOf};
+ghost use Rattle.report_law.specs.Names.{AreMaximalFacets};
 ghost use Rattle.facet_list.specs.Covered.{AddsFree};
 
 use crate::covered::covered;

@@ -1,7 +1,6 @@
 pub mod Zips
 pub mod ClassLemmas
 pub mod ColumnLemmas
-pub mod PlanLemmas
 pub mod JobLemmas
 pub mod TableLemmas
 pub mod PartLemmas

@@ -1,24 +1,19 @@
 -- What is listed of a map between two complexes of a job.
-use Rattle.std.proofs.Common.{◌≡◌, ◌∙◌, ℕ, zero, suc, ◌<◌, Bool, List, [], ◌∷◌, length, get_or, arith, sym, ap, ap₂, subst}
-use Rattle.std.specs.Prelude.{slice_get, Some}
+use Rattle.std.proofs.Common.{◌≡◌, ◌∙◌, ℕ, zero, suc, ◌<◌, Bool, List, [], ◌∷◌, length, get_or, arith, sym, ap, ap₂, subst, slice_get, Some}
 use Rattle.std.specs.List.{AllZip}
-use Rattle.linear_law.specs.Lists.{Each}
+use Rattle.linear_law.specs.Names.{Each}
 use Rattle.complex_file.specs.declared.block.ComplexBlock.{ComplexBlock}
 use Rattle.complex_file.specs.declared.block.MapBlock.{MapBlock}
-use Rattle.complex_file.specs.Jobs.{facets_at}
-use Rattle.complex_file.specs.Maps.{image}
-use Rattle.complex_file.specs.Written.{name_at}
+use Rattle.complex_file.specs.Names.{facets_at, image, name_at}
 use Rattle.complex_index.specs.declared.indexed.Cochain.{Cochain}
-use Rattle.complex_index.specs.Levels.{IsIndexOf}
-use Rattle.cohomology.specs.Classes.{AreCanonicalIn}
+use Rattle.complex_index.specs.Names.{IsIndexOf}
+use Rattle.cohomology.specs.Names.{AreCanonicalIn}
 use Rattle.report.specs.declared.map.InducedPart.{InducedPart}
 use Rattle.report.specs.declared.map.MapPart.{MapPart}
-use Rattle.report_law.specs.Live.{induced_degrees}
-use Rattle.report_law.specs.Matrices.{Classes, ranks}
-use Rattle.report_law.specs.Reports.{AreOrderedSends, IsInducedPart, IsMapPart}
+use Rattle.report_law.specs.Names.{induced_degrees, Classes, ranks, AreOrderedSends, IsInducedPart, IsMapPart}
 use Rattle.job_report.specs.declared.known.Known.{Known}
 use Rattle.job_report.specs.Jobs.{AreAllListed, IsFreeMap, IsKnown}
-use Rattle.class_matrices.specs.Listed.{class_counts, listed_classes}
+use Rattle.class_matrices.specs.Names.{class_counts, listed_classes}
 use Rattle.job_report.specs.Parts.{IsListedInduced}
 use Rattle.class_matrices.proofs.ClassLemmas.{ranks-are}
 use Rattle.job_report.proofs.Zips.{headings, parts, zip-get}

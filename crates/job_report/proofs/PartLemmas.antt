@@ -1,38 +1,31 @@
 -- From the sections of complexes and maps to the report of a job.
-use Rattle.std.proofs.Common.{◌≡◌, ◌∙◌, ℕ, zero, suc, Bool, true, false, List, [], ◌∷◌, length, map, get_or, arith, refl, sym, ap, subst}
-use Rattle.std.specs.Prelude.{IsTrue, ℤ}
+use Rattle.std.proofs.Common.{◌≡◌, ◌∙◌, ℕ, zero, suc, Bool, true, false, List, [], ◌∷◌, length, map, get_or, arith, refl, sym, ap, subst, IsTrue, ℤ}
 use Rattle.std.specs.List.{AllZip}
-use Rattle.signed_sum.specs.Lists.{numbers_from}
+use Rattle.signed_sum.specs.Names.{numbers_from}
 use Rattle.fp_field.specs.Served.{served}
-use Rattle.linear_law.specs.Lists.{Each, IsAscending}
-use Rattle.linear_law.proofs.ListLemmas.{each_right, zip_change}
+use Rattle.linear_law.specs.Names.{Each, IsAscending}
+use Rattle.linear_law.proofs.Names.{each_right, zip_change}
 use Rattle.complex_file.specs.declared.block.ComplexBlock.{ComplexBlock}
 use Rattle.complex_file.specs.declared.block.MapBlock.{MapBlock}
-use Rattle.complex_file.specs.Input.{Spelled}
-use Rattle.complex_file.specs.Jobs.{facets_at}
-use Rattle.complex_file.specs.Maps.{image}
+use Rattle.complex_file.specs.Names.{Spelled, facets_at, image}
 use Rattle.complex_index.specs.declared.indexed.Cochain.{Cochain}
-use Rattle.complex_index.specs.Levels.{IsIndexOf, level}
-use Rattle.cohomology.specs.Classes.{AreCanonicalIn}
+use Rattle.complex_index.specs.Names.{IsIndexOf, level}
+use Rattle.cohomology.specs.Names.{AreCanonicalIn}
 use Rattle.report.specs.declared.complex.ComplexPart.{ComplexPart}
 use Rattle.report.specs.declared.form.Form.{Form}
 use Rattle.report.specs.declared.form.Form.TheVariants.{Basis}
 use Rattle.report.specs.declared.map.MapPart.{MapPart}
 use Rattle.report.specs.declared.plan.Sizes.{Sizes}
-use Rattle.report.specs.Forms.{has_details, has_tables}
-use Rattle.report_law.specs.Live.{blocks, lines, products}
-use Rattle.report_law.specs.Matrices.{AreClasses, Classes, ranks}
-use Rattle.report_law.specs.Parts.{block_of, classes_of, line_of, product_of}
-use Rattle.report_law.specs.Reports.{AreMaximalFacets, AreTables, IsCartanPart, IsComplexPart, IsInducedPart, IsMapPart, IsOperationPart, IsProductPart, IsReportOf}
-use Rattle.report_law.specs.Terms.{AreSizes}
-use Rattle.report_law.proofs.OneSize.{sizes_law}
-use Rattle.term_total.specs.Counts.{IsPart}
+use Rattle.report.specs.Names.{has_details, has_tables}
+use Rattle.report_law.specs.Names.{blocks, lines, products, AreClasses, Classes, ranks, block_of, classes_of, line_of, product_of, AreMaximalFacets, AreTables, IsCartanPart, IsComplexPart, IsInducedPart, IsMapPart, IsOperationPart, IsProductPart, IsReportOf, AreSizes}
+use Rattle.report_law.proofs.Names.{sizes_law}
+use Rattle.term_total.specs.Names.{IsPart}
 use Rattle.job_report.specs.declared.known.Known.{Known}
 use Rattle.job_report.specs.Jobs.{AreAllListed, CanBeIndexed, HasStored, IsDeeper, IsKnown, IsSize}
 use Rattle.job_report.proofs.JobLemmas.{ascending-facets}
-use Rattle.class_matrices.specs.Listed.{class_counts, listed_classes}
+use Rattle.class_matrices.specs.Names.{class_counts, listed_classes}
 use Rattle.job_report.specs.Listed.{level_counts}
-use Rattle.class_matrices.specs.Matrices.{AreStored}
+use Rattle.line_difference.specs.Elements.{AreStored}
 use Rattle.job_report.specs.Parts.{IsListedDegree, IsListedLine, IsListedOperation, IsListedProduct}
 use Rattle.class_matrices.proofs.ListLemmas.{numbers-count}
 use Rattle.class_matrices.proofs.ClassLemmas.{ranks-are}

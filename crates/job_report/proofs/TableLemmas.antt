@@ -1,16 +1,15 @@
 -- From matrices and verdicts by place to the parts of a report.
-use Rattle.std.proofs.Common.{◌≡◌, ◌∙◌, ℕ, ◌+◌, ◌-◌, ◌≤◌, Bool, List, arith, map, length, refl, sym, ap, ap₂, subst}
-use Rattle.std.specs.Prelude.{IsTrue}
+use Rattle.std.proofs.Common.{◌≡◌, ◌∙◌, ℕ, ◌+◌, ◌-◌, ◌≤◌, Bool, List, arith, map, length, refl, sym, ap, ap₂, subst, IsTrue}
 use Rattle.std.specs.List.{AllZip}
 use Rattle.std.proofs.lemmas.List.{length-map}
-use Rattle.linear_law.specs.Lists.{Among, Each}
-use Rattle.linear_law.proofs.ListLemmas.{among_map, length_alike}
-use Rattle.steenrod_law.specs.Operations.{cochain_products, pull_back}
-use Rattle.simplicial_law.specs.Cochains.{Cochain as SimplexCochain}
+use Rattle.linear_law.specs.Names.{Among, Each}
+use Rattle.linear_law.proofs.Names.{among_map, length_alike}
+use Rattle.steenrod_law.specs.Names.{cochain_products, pull_back}
+use Rattle.simplicial_law.specs.Names.{Cochain as SimplexCochain}
 use Rattle.complex_index.specs.declared.indexed.Cochain.{Cochain}
-use Rattle.complex_index.specs.Levels.{IsIndexOf}
+use Rattle.complex_index.specs.Names.{IsIndexOf}
 use Rattle.cohomology.specs.declared.basis.Column.{Column}
-use Rattle.cohomology.specs.Classes.{AreCanonicalIn}
+use Rattle.cohomology.specs.Names.{AreCanonicalIn}
 use Rattle.report.specs.declared.columns.CartanAnswer.{CartanAnswer}
 use Rattle.report.specs.declared.columns.Column.{Column as ListedColumn}
 use Rattle.report.specs.declared.columns.PairColumn.{PairColumn}
@@ -18,9 +17,7 @@ use Rattle.report.specs.declared.plan.Block.{Block}
 use Rattle.report.specs.declared.plan.Line.{Line}
 use Rattle.report.specs.declared.plan.Op.{Op}
 use Rattle.report.specs.declared.plan.Product.{Product}
-use Rattle.report_law.specs.Columns.{IsColumn, rest_of}
-use Rattle.report_law.specs.Matrices.{Classes, IsOperationBlock, IsOperationColumn, classes_in, cochains_in, line_degree}
-use Rattle.report_law.specs.Parts.{number_pairs, numbers_of, op_named, unnumbered}
+use Rattle.report_law.specs.Names.{IsColumn, rest_of, Classes, IsOperationBlock, IsOperationColumn, classes_in, cochains_in, line_degree, number_pairs, numbers_of, op_named, unnumbered}
 use Rattle.op_matrix.specs.Columns.{AreListedAs, listed_columns}
 use Rattle.op_matrix.specs.Tables.{IsOperationMatrix, IsProductMatrix}
 use Rattle.induced_map.specs.Induced.{IsInducedMatrix}
@@ -28,10 +25,9 @@ use Rattle.cartan_check.specs.declared.Verdict.{Verdict}
 use Rattle.cartan_check.specs.Verdicts.{IsVerdictOf, listed_answer}
 use Rattle.class_matrices.specs.declared.matrices.Matrices.{Matrices}
 use Rattle.class_matrices.specs.declared.matrices.ProductMatrix.{ProductMatrix}
-use Rattle.class_matrices.specs.Listed.{class_counts, listed_classes}
-use Rattle.class_matrices.specs.Matrices.{AreMatrices}
+use Rattle.class_matrices.specs.Names.{class_counts, listed_classes, AreMatrices}
 use Rattle.class_matrices.proofs.ListLemmas.{numbers-count}
-use Rattle.class_matrices.proofs.PlanLemmas.{product-low}
+use Rattle.line_difference.proofs.PlanLemmas.{product-low}
 use Rattle.job_report.specs.Listed.{IsInside, IsListedColumn}
 use Rattle.job_report.specs.Parts.{IsInsideVerdict, IsListedInduced, IsListedLine, IsListedOperation, IsListedProduct, IsSameAnswer}
 use Rattle.class_matrices.proofs.ClassLemmas.{as-listed}

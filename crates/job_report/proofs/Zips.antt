@@ -1,37 +1,21 @@
 -- Lists that are made item by item, and parts with their headings.
-use Rattle.std.proofs.Common.{◌≡◌, ◌∙◌, Bool, true, false, cond, ℕ, zero, suc, ◌+◌, ◌<◌, ◌≤◌, List, [], ◌∷◌, ◌++◌, length, map, take, get_or, append_assoc, arith, refl, sym, ap, ap₂, subst}
-use Rattle.std.specs.Prelude.{flat_map, fold}
+use Rattle.std.proofs.Common.{◌≡◌, ◌∙◌, Bool, true, false, cond, ℕ, zero, suc, ◌+◌, ◌<◌, ◌≤◌, List, [], ◌∷◌, ◌++◌, length, map, take, get_or, append_assoc, arith, refl, sym, ap, ap₂, subst, take_all, flat_map, fold, append-nil}
 use Rattle.std.specs.List.{AllZip, filter}
-use Rattle.std.proofs.lemmas.List.{append-nil, length-map, map-append, take_more}
+use Rattle.std.proofs.lemmas.List.{length-map, map-append, take_more}
 use Rattle.std.proofs.lemmas.Grind.{flat_map-append}
 use Rattle.std.proofs.lemmas.List.Sums.{fold-append}
-use Rattle.signed_sum.specs.Lists.{numbers_from}
-use Rattle.linear_law.specs.Lists.{Among, Each}
-use Rattle.linear_law.proofs.ListLemmas.{each_get_or, each_itself, zip_push}
-use Rattle.complex_index.specs.Levels.{IsIndexOf}
-use Rattle.report_law.proofs.Lists.{get_or-map}
-use Rattle.op_matrix.proofs.ListLemmas.{whole}
+use Rattle.signed_sum.specs.Names.{numbers_from}
+use Rattle.linear_law.specs.Names.{Among, Each}
+use Rattle.linear_law.proofs.Names.{each_get_or, each_itself, zip_push}
+use Rattle.complex_index.specs.Names.{IsIndexOf}
+use Rattle.report_law.proofs.Names.{get_or-map}
+use Rattle.class_matrices.proofs.ListLemmas.{numbers-more}
 use Rattle.job_report.specs.Parts.{IsPartFor}
-
--- one number more
-pub numbers-more : (a k : ℕ) → numbers_from a (k + 1) ≡ numbers_from a k ++ (a + k) ∷ []
-numbers-more a k = let e : suc k ≡ k + 1 = omega arith in subst (λ (m : ℕ). numbers_from a m ≡ numbers_from a k ++ (a + k) ∷ []) e (go a k)
-  where
-    go : (b m : ℕ) → numbers_from b (suc m) ≡ numbers_from b m ++ (b + m) ∷ []
-    go b zero = let e : b ≡ b + 0 = omega arith in ap (λ (x : ℕ). x ∷ []) e
-    go b (suc m) = let e : suc b + m ≡ b + suc m = omega arith in ap (λ (xs : List ℕ). b ∷ xs) (go (suc b) m ∙ ap (λ (x : ℕ). numbers_from (suc b) m ++ x ∷ []) e)
 
 pub counted-more : {Y : Type 0} (R : ℕ → Y → Type 0) (k : ℕ) (ys new : List Y) (y : Y) → AllZip R (numbers_from 0 k) ys → R k y → new ≡ ys ++ y ∷ [] → AllZip R (numbers_from 0 (k + 1)) new
 counted-more R k ys new y h r e =
     let z : k ≡ 0 + k = omega arith in
     rw (e, numbers-more 0 k) (subst (λ (m : ℕ). AllZip R (numbers_from 0 k ++ m ∷ []) (ys ++ y ∷ [])) z (zip_push R (numbers_from 0 k) ys k y h r))
-
-mapped-more : {Y : Type 0} (f : ℕ → Y) (a k : ℕ) (ys new : List Y) (y : Y) → ys ≡ map f (numbers_from a k) → y ≡ f (a + k) → new ≡ ys ++ y ∷ [] → new ≡ map f (numbers_from a (k + 1))
-mapped-more f a k ys new y h r e =
-    e ∙ ap₂ (λ (xs : List _) (x : _). xs ++ x ∷ []) h r ∙ sym (ap (map f) (numbers-more a k) ∙ map-append f (numbers_from a k) ((a + k) ∷ []))
-
-pub count-more : {Y : Type 0} (f : ℕ → Y) (k : ℕ) (ys new : List Y) (y : Y) → ys ≡ map f (numbers_from 0 k) → y ≡ f k → new ≡ ys ++ y ∷ [] → new ≡ map f (numbers_from 0 (k + 1))
-count-more f k ys new y h r e = let z : k ≡ 0 + k = omega arith in mapped-more f 0 k ys new y h (r ∙ ap f z) e
 
 pub appended-more : {Y : Type 0} (f : ℕ → Y) (k : ℕ) (old ys new : List Y) → ys ≡ old ++ map f (numbers_from 1 k) → new ≡ ys ++ f (k + 1) ∷ [] → new ≡ old ++ map f (numbers_from 1 (k + 1))
 appended-more f k old ys new h e =
@@ -106,7 +90,7 @@ pub zip-next : {A B : Type 0} (R : A → B → Type 0) (xs : List A) (ys new : L
 zip-next R xs ys new i d y lt h r e = rw (e, take_more xs i d lt) (zip_push R (take i xs) ys (get_or xs i d) y h r)
 
 pub all-items : {A B : Type 0} (R : A → B → Type 0) (xs zs : List A) (ys new : List B) (i : ℕ) → length xs ≤ i → xs ≡ zs → AllZip R (take i xs) ys → new ≡ ys → AllZip R zs new
-all-items R xs zs ys new i l e h q = rw q (subst (λ (us : List _). AllZip R us ys) (whole xs i l ∙ e) h)
+all-items R xs zs ys new i l e h q = rw q (subst (λ (us : List _). AllZip R us ys) (take_all i xs l ∙ e) h)
 
 -- all items, of which their headings are seen
 pub all-headings : {A H B : Type 0} (R : H → B → Type 0) (f : A → H) (xs : List A) (hs : List H) (ys new : List B) (i : ℕ) → length xs ≤ i → map f xs ≡ hs → AllZip R (take i (map f xs)) ys → new ≡ ys → AllZip R hs new

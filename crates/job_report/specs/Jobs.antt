@@ -1,20 +1,18 @@
 -- The complexes and maps of a job, with the index and the basis that stand for each complex.
 use Rattle.std.specs.Prelude.{◌≡◌, ℕ, ◌≤◌, ◌<◌, ◌^◌, List, [], get_or, length, slice_get, None, Some, ℤ}
-use Rattle.linear_law.specs.Lists.{Each, IsAscending}
+use Rattle.linear_law.specs.Names.{Each, IsAscending}
 use Rattle.simplicial_law.specs.ListedSimplices.{simplices}
 use Rattle.complex_file.specs.declared.block.ComplexBlock.{ComplexBlock}
 use Rattle.complex_file.specs.declared.block.MapBlock.{MapBlock}
-use Rattle.complex_file.specs.Jobs.{facets_at}
-use Rattle.complex_file.specs.Maps.{map_fault}
+use Rattle.complex_file.specs.Names.{facets_at, map_fault}
 use Rattle.complex_index.specs.declared.indexed.Cochain.{Cochain}
-use Rattle.complex_index.specs.Levels.{IsIndexOf}
+use Rattle.complex_index.specs.Names.{IsIndexOf}
 use Rattle.report.specs.declared.plan.Sizes.{Sizes}
-use Rattle.report_law.specs.Matrices.{Classes}
-use Rattle.report_law.specs.Terms.{AreSizes}
+use Rattle.report_law.specs.Names.{Classes, AreSizes}
 use Rattle.job_report.specs.declared.known.Known.{Known}
-use Rattle.class_matrices.specs.Listed.{class_counts, listed_classes}
+use Rattle.class_matrices.specs.Names.{class_counts, listed_classes}
 use Rattle.job_report.specs.Listed.{level_counts}
-use Rattle.class_matrices.specs.Matrices.{AreStored}
+use Rattle.line_difference.specs.Elements.{AreStored}
 
 -- ascending facets of 1 to 16 vertices, with fewer than 2^32 simplices in all
 pub record CanBeIndexed (facets : List (List ℕ)) : Type 0 where

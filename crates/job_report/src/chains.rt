@@ -1,8 +1,8 @@
 ghost use Rattle.std.specs.Prelude.{◌≡◌, length, IfOk, IsTrue};
-ghost use Rattle.simplicial_law.specs.Places.{terms_of};
+ghost use Rattle.simplicial_law.specs.Names.{terms_of};
 ghost use Rattle.sparse_rows.specs.Rows.{IsBelow};
-ghost use Rattle.complex_index.specs.Levels.{level};
-ghost use Rattle.cohomology.specs.Classes.{chains_at};
+ghost use Rattle.complex_index.specs.Names.{level};
+ghost use Rattle.cohomology.specs.Names.{chains_at};
 
 use cohomology::Basis;
 use comch_io::Listed;

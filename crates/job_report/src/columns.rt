@@ -1,8 +1,8 @@
 ghost use Rattle.std.specs.Prelude.{◌≡◌, ◌-◌, ◌++◌, IfOk, IsTrue, OnOk, length, map};
 ghost use Rattle.std.specs.List.{AllZip};
-ghost use Rattle.linear_law.specs.Lists.{Each};
-ghost use Rattle.signed_sum.specs.Lists.{numbers_from};
-ghost use Rattle.report_law.specs.Parts.{number_pairs as number_pairs_of, numbers_of, unnumbered};
+ghost use Rattle.linear_law.specs.Names.{Each};
+ghost use Rattle.signed_sum.specs.Names.{numbers_from};
+ghost use Rattle.report_law.specs.Names.{number_pairs as number_pairs_of, numbers_of, unnumbered};
 ghost use Rattle.job_report.specs.Listed.{IsInside, IsListedColumn};
 
 use crate::depth::Depth;

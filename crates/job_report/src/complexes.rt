@@ -1,11 +1,10 @@
 ghost use Rattle.std.specs.Prelude.{◌≡◌, true, false, IfOk, IsTrue, map};
 ghost use Rattle.std.specs.List.{AllZip};
 ghost use Rattle.fp_field.specs.Served.{served};
-ghost use Rattle.linear_law.specs.Lists.{Each};
-ghost use Rattle.report_law.specs.Parts.{classes_of};
-ghost use Rattle.report_law.specs.Reports.{IsComplexPart};
+ghost use Rattle.linear_law.specs.Names.{Each};
+ghost use Rattle.report_law.specs.Names.{classes_of, IsComplexPart};
 ghost use Rattle.job_report.specs.Jobs.{AreAllListed, CanBeIndexed, HasStored, IsKnown};
-ghost use Rattle.class_matrices.specs.Listed.{listed_classes};
+ghost use Rattle.class_matrices.specs.Names.{listed_classes};
 
 use crate::degrees::{degree_parts, ranks_of};
 use crate::depth::Depth;

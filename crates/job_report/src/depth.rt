@@ -1,12 +1,11 @@
 ghost use Rattle.std.specs.Prelude.{◌≡◌, ◌≤◌, ◌+◌, ℕ, List, length, true, IfOk, IsTrue};
 ghost use Rattle.fp_field.specs.Served.{served};
-ghost use Rattle.simplicial_law.specs.Places.{terms_of};
-ghost use Rattle.complex_index.specs.Levels.{IsIndexOf, level};
-ghost use Rattle.report_law.specs.Columns.{ArePrimitives};
-ghost use Rattle.report_law.specs.Live.{cartan_op, is_defined};
-ghost use Rattle.class_matrices.specs.Listed.{class_counts};
-ghost use Rattle.class_matrices.specs.Matrices.{AreMatrices};
-ghost use Rattle.cartan_check.specs.Verdicts.{HasElements, IsVerdictOf, cycle_terms};
+ghost use Rattle.simplicial_law.specs.Names.{terms_of};
+ghost use Rattle.complex_index.specs.Names.{IsIndexOf, level};
+ghost use Rattle.report_law.specs.Names.{ArePrimitives, cartan_op, is_defined};
+ghost use Rattle.class_matrices.specs.Names.{class_counts, AreMatrices};
+ghost use Rattle.line_difference.specs.Elements.{HasElements};
+ghost use Rattle.cartan_check.specs.Verdicts.{IsVerdictOf, cycle_terms};
 ghost use Rattle.job_report.specs.Listed.{IsInside};
 
 use crate::chains::chain_of;

@@ -1,12 +1,11 @@
 ghost use Rattle.std.specs.Prelude.{◌≡◌, ◌≤◌, ◌+◌, ◌-◌, IfOk, IsTrue, length, true};
 ghost use Rattle.std.specs.List.{AllZip};
 ghost use Rattle.fp_field.specs.Served.{served};
-ghost use Rattle.complex_index.specs.Levels.{IsComplexIndex};
-ghost use Rattle.report_law.specs.Live.{blocks as blocks_at, cartan_op as cartan_op_at, is_defined, lines as lines_at, products as products_at};
-ghost use Rattle.report_law.specs.Parts.{op_named};
-ghost use Rattle.class_matrices.specs.Listed.{class_counts};
-ghost use Rattle.class_matrices.specs.Matrices.{AreMatrices, AreStored, IsOperationOf, IsProductOf};
-ghost use Rattle.cartan_check.specs.Verdicts.{HasElements, listed_answer};
+ghost use Rattle.complex_index.specs.Names.{IsComplexIndex};
+ghost use Rattle.report_law.specs.Names.{blocks as blocks_at, cartan_op as cartan_op_at, is_defined, lines as lines_at, products as products_at, op_named};
+ghost use Rattle.class_matrices.specs.Names.{class_counts, AreMatrices, IsOperationOf, IsProductOf};
+ghost use Rattle.line_difference.specs.Elements.{AreStored, HasElements};
+ghost use Rattle.cartan_check.specs.Verdicts.{listed_answer};
 ghost use Rattle.job_report.specs.Parts.{IsInsideVerdict, IsListedLine, IsListedOperation, IsListedProduct, IsSameAnswer};
 
 use crate::columns::{listed_columns, number_pairs, pair_columns};

@@ -1,15 +1,14 @@
 ghost use Rattle.std.specs.Prelude.{◌≡◌, ◌≤◌, ◌^◌, ℕ, Err, IfOk, IsTrue, None, OnOk, Some};
 ghost use Rattle.std.specs.List.{AllZip};
 ghost use Rattle.fp_field.specs.Served.{served};
-ghost use Rattle.linear_law.specs.Lists.{Each};
-ghost use Rattle.cohomology.specs.Cycles.{AreClassesOf};
-ghost use Rattle.complex_file.specs.Views.{content};
-ghost use Rattle.report.specs.Forms.{has_details};
-ghost use Rattle.report_law.specs.Reports.{IsReportOf};
-ghost use Rattle.report_law.specs.Terms.{IsWithinLimit, PassesLimit, passing_sum};
-ghost use Rattle.term_total.specs.Counts.{IsPart};
+ghost use Rattle.linear_law.specs.Names.{Each};
+ghost use Rattle.cohomology.specs.Names.{AreClassesOf};
+ghost use Rattle.complex_file.specs.Names.{content};
+ghost use Rattle.report.specs.Names.{has_details};
+ghost use Rattle.report_law.specs.Names.{IsReportOf, IsWithinLimit, PassesLimit, passing_sum};
+ghost use Rattle.term_total.specs.Names.{IsPart};
 ghost use Rattle.job_report.specs.Jobs.{HasStored, IsKnown};
-ghost use Rattle.class_matrices.specs.Matrices.{AreStored};
+ghost use Rattle.line_difference.specs.Elements.{AreStored};
 
 use crate::MakeRefused;
 use crate::complexes::{basis_parts, complex_parts};

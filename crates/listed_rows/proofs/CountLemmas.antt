@@ -1,15 +1,13 @@
 -- How many simplices a degree has, by the index of a complex.
 use Rattle.std.proofs.Common.{◌≡◌, ℕ, ◌≤◌, arith, subst, List, [], length}
-use Rattle.linear_law.specs.Lists.{Among, Each, IsAscending}
-use Rattle.linear_law.specs.Listing.{ListsAll}
-use Rattle.linear_law.proofs.Counting.{apart_short}
-use Rattle.linear_law.proofs.ListLemmas.{each_map}
-use Rattle.simplicial_law.specs.Simplices.{IsInOrder, IsSimplex}
-use Rattle.simplicial_law.specs.ListedSimplices.{of_degree, simplices}
-use Rattle.simplicial_law.proofs.ListedSimplices.{listed_simplices_law}
+use Rattle.linear_law.specs.Names.{Among, Each, IsAscending, ListsAll}
+use Rattle.linear_law.proofs.Names.{apart_short, each_map}
+use Rattle.simplicial_law.specs.Names.{IsInOrder, IsSimplex, of_degree}
+use Rattle.simplicial_law.specs.ListedSimplices.{simplices}
+use Rattle.simplicial_law.proofs.Names.{listed_simplices_law}
 use Rattle.simplex_set.proofs.Sizes.{among_place}
-use Rattle.complex_index.specs.Levels.{IsIndexOf, level}
-use Rattle.certificate_law.specs.ListedDegrees.{simplex_count}
+use Rattle.complex_index.specs.Names.{IsIndexOf, level}
+use Rattle.certificate_law.specs.Names.{simplex_count}
 use Rattle.certificate_law.proofs.CanonicalData.{in_order_apart}
 use Rattle.certificate_law.proofs.PivotCounts.{simplex_same_or_not}
 

@@ -2,21 +2,13 @@
 use Rattle.std.proofs.Common.{◌≡◌, ℕ, zero, suc, ◌+◌, ◌*◌, ◌<◌, ◌≤◌, ◌≢◌, ◌==◌, true, false, inl, inr, arith, refl, sym, ◌∙◌, ap, ap₂, subst, List, [], ◌∷◌, length, get_or}
 use Rattle.std.proofs.lemmas.Bool.{cases_eq}
 use Rattle.std.proofs.lemmas.Bool.Decides.{eqb_tells}
-use Rattle.linear_law.specs.Lists.{Each}
-use Rattle.linear_law.specs.Listing.{unit_vector}
-use Rattle.linear_law.proofs.CongruenceLemmas.{Congruent_of}
-use Rattle.linear_law.proofs.ListLemmas.{each_get_or, each_map, each_of_map}
-use Rattle.linear_law.proofs.RowCombinations.{unit_one, unit_other}
-use Rattle.simplicial_law.specs.Simplices.{IsSimplex}
-use Rattle.simplicial_law.specs.Cochains.{Chain, coboundary, unit_cochain}
-use Rattle.simplicial_law.specs.CanonicalClasses.{cochain_of}
-use Rattle.simplicial_law.specs.Places.{terms_of}
-use Rattle.simplicial_law.proofs.Bases.{coboundary_zero}
-use Rattle.simplicial_law.proofs.UnitCochains.{unit_away, unit_here}
+use Rattle.linear_law.specs.Names.{Each, unit_vector}
+use Rattle.linear_law.proofs.Names.{Congruent_of, each_get_or, each_map, each_of_map, unit_one, unit_other}
+use Rattle.simplicial_law.specs.Names.{IsSimplex, Chain, coboundary, unit_cochain, cochain_of, terms_of}
+use Rattle.simplicial_law.proofs.Names.{coboundary_zero, unit_away, unit_here}
 use Rattle.sparse_rows.specs.Rows.{IsBelow, value_in}
-use Rattle.complex_index.specs.Chains.{IsCoboundaryOf}
-use Rattle.complex_index.specs.Levels.{IsIndexOf, level}
-use Rattle.certificate_law.specs.ListedDegrees.{IsOn, IsOnBelow}
+use Rattle.complex_index.specs.Names.{IsCoboundaryOf, IsIndexOf, level}
+use Rattle.certificate_law.specs.Names.{IsOn, IsOnBelow}
 use Rattle.listed_rows.specs.ListedChains.{HasValues, IsCoboundaryRow, IsRowOfChain}
 
 module _ (facets : List (List ℕ)) (levels : List (List (List ℕ))) (index : IsIndexOf facets levels) (n : ℕ) where

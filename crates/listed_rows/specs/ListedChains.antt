@@ -1,13 +1,11 @@
 -- Listed chains, and the rows of cochains at the simplices of one degree.
 use Rattle.std.specs.Prelude.{◌≡◌, ℕ, ◌<◌, List, [], length, get_or, Some, None}
 use Rattle.std.specs.declared.option.Option.{Option}
-use Rattle.linear_law.specs.Congruence.{Congruent}
-use Rattle.simplicial_law.specs.Cochains.{Chain, Cochain, coboundary}
-use Rattle.simplicial_law.specs.CanonicalClasses.{cochain_of}
-use Rattle.simplicial_law.specs.Places.{terms_of}
+use Rattle.linear_law.specs.Names.{Congruent}
+use Rattle.simplicial_law.specs.Names.{Chain, Cochain, coboundary, cochain_of, terms_of}
 use Rattle.sparse_rows.specs.Rows.{IsBelow, value_in}
-use Rattle.complex_index.specs.Levels.{IsIndexOf, level}
-use Rattle.certificate_law.specs.ListedDegrees.{IsOn, IsOnBelow}
+use Rattle.complex_index.specs.Names.{IsIndexOf, level}
+use Rattle.certificate_law.specs.Names.{IsOn, IsOnBelow}
 
 -- the row has the values of the cochain z at the simplices `here`, and nothing at other places
 pub record HasValues (p : ℕ) (here : List (List ℕ)) (z : Cochain) (row : List (ℕ × ℕ)) : Type 0 where

@@ -2,10 +2,10 @@
 #![tactic(auto)]
 
 ghost use Rattle.std.specs.Prelude.{◌≡◌, ◌<◌, ℕ, List, [], true, length, get_or, IfOk, IsTrue, MatchOption};
-ghost use Rattle.simplicial_law.specs.Simplices.{IsSimplex};
+ghost use Rattle.simplicial_law.specs.Names.{IsSimplex};
 ghost use Rattle.fp_field.specs.Served.{served};
-ghost use Rattle.complex_index.specs.Levels.{IsComplexIndex, IsIndexOf, level};
-ghost use Rattle.report_text_law.specs.WellFormed.{is_chain};
+ghost use Rattle.complex_index.specs.Names.{IsComplexIndex, IsIndexOf, level};
+ghost use Rattle.report_text_law.specs.Names.{is_chain};
 ghost use Rattle.listed_rows.specs.ListedChains.{IsCoboundaryRowIn, IsRowIn};
 
 use complex_index::{Cochain, Indexed};

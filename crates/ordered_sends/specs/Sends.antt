@@ -2,7 +2,7 @@
 use Rattle.std.specs.Prelude.{◌≢◌, ℕ, List, [], ◌∷◌, fold}
 use Rattle.std.specs.BTreeMap.{insert_entry}
 use Rattle.std.specs.Ordering.{nat_cmp}
-use Rattle.linear_law.specs.Lists.{Each}
+use Rattle.linear_law.specs.Names.{Each}
 use Rattle.complex_file.specs.declared.block.Sent.{Sent}
 
 -- no vertex is sent twice

@@ -2,8 +2,8 @@
 #![tactic(auto)]
 
 ghost use Rattle.std.specs.Prelude.{◌≡◌, ℕ, IfOk, get_or, map as list_map};
-ghost use Rattle.complex_file.specs.Maps.{image};
-ghost use Rattle.report_law.specs.Reports.{AreOrderedSends};
+ghost use Rattle.complex_file.specs.Names.{image};
+ghost use Rattle.report_law.specs.Names.{AreOrderedSends};
 ghost use Rattle.ordered_sends.specs.Sends.{IsOnce, entries_of, pair_of, sent_of};
 
 use comch_io::Listed;

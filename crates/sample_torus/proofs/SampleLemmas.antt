@@ -1,42 +1,33 @@
 -- What the certificate of a torus tells of its sizes and counted terms.
-use Rattle.std.proofs.Common.{◌≡◌, ℕ, ◌<◌, ◌≤◌, ◌^◌, IsTrue, true, refl, sym, ◌∙◌, ap, subst, arith, List, [], ◌∷◌, length, map, get_or, None}
+use Rattle.std.proofs.Common.{◌≡◌, ℕ, ◌<◌, ◌≤◌, ◌^◌, IsTrue, true, refl, sym, ◌∙◌, ap, subst, arith, List, [], ◌∷◌, length, map, get_or, None, Ok, Err, Result, IfOk, ltb-false, inl}
 use Rattle.std.specs.List.{AllZip}
 use Rattle.std.proofs.lemmas.List.{length-map}
 use Rattle.fp_field.specs.Served.{served}
-use Rattle.linear_law.specs.Lists.{Each}
+use Rattle.linear_law.specs.Names.{Each}
 use Rattle.complex_file.specs.declared.block.ComplexBlock.{ComplexBlock}
-use Rattle.complex_file.specs.Input.{Spelled}
+use Rattle.complex_file.specs.Names.{Spelled}
 use Rattle.complex_file.specs.Jobs.{is_job}
 use Rattle.report.specs.declared.complex.ComplexPart.{ComplexPart}
 use Rattle.report.specs.declared.complex.DegreePart.{DegreePart}
 use Rattle.report.specs.declared.form.Form.TheVariants.{Certificate}
 use Rattle.report.specs.declared.job.Report.{Report}
 use Rattle.report.specs.declared.plan.Sizes.{Sizes}
-use Rattle.report_law.specs.Matrices.{ranks}
-use Rattle.report_law.specs.Parts.{classes_of}
-use Rattle.report_law.specs.Reports.{IsComplexPart, IsReportOf}
-use Rattle.report_law.specs.Terms.{AreSizes, IsWithinLimit, addends, passing_sum, sizes_of}
-use Rattle.report_law.proofs.OneSize.{sizes_law}
-use Rattle.certificate_law.specs.Certifies.{Certifies, FailsFirst}
-use Rattle.certificate_law.specs.Laws.{line_said}
-use Rattle.certificate_law.specs.Stated.{stated}
+use Rattle.report_law.specs.Names.{ranks, classes_of, IsComplexPart, IsReportOf, AreSizes, IsWithinLimit, addends, passing_sum, sizes_of}
+use Rattle.report_law.proofs.Names.{sizes_law}
+use Rattle.certificate_law.specs.Names.{Certifies, FailsFirst, line_said, stated}
 use Rattle.certificate_law.proofs.Failures.{first_failure_law}
 use Rattle.certificate_law.proofs.StatedLines.{stated_lines_law}
 use Rattle.certificate_law.proofs.JobLaw.{complete_law}
 use Rattle.certificate_law.proofs.Limits.{more_allowed}
 use Rattle.certificate_law.proofs.WrittenJobs.{IsSound, few_classes, few_degrees, writable}
-use Rattle.std.proofs.Common.{Ok, Err, Result, IfOk}
 use Rattle.std.specs.declared.alloc.AllocError.{AllocError}
-use Rattle.term_total.specs.Charges.{sum_of}
+use Rattle.term_total.specs.Names.{sum_of, IsPart}
 use Rattle.sample_torus.specs.declared.sizes.Sample.{Sample}
 use Rattle.sample_torus.specs.Samples.{CanBeSized, IsSample}
-use Rattle.signed_sum.specs.Lists.{numbers_from}
-use Rattle.std.proofs.lemmas.Bool.{ltb-false}
-use Rattle.std.proofs.Common.{inl}
-use Rattle.linear_law.proofs.TriangularBases.{each_of_index}
-use Rattle.simplicial_law.specs.Cochains.{Chain}
-use Rattle.simplicial_law.specs.ListedSimplices.{of_degree, simplices}
-use Rattle.term_total.specs.Counts.{IsPart}
+use Rattle.signed_sum.specs.Names.{numbers_from}
+use Rattle.linear_law.proofs.Names.{each_of_index}
+use Rattle.simplicial_law.specs.Names.{Chain, of_degree}
+use Rattle.simplicial_law.specs.ListedSimplices.{simplices}
 use Rattle.certificate_law.proofs.Building.{at_index}
 use Rattle.certificate_law.proofs.CertifiedBases.{classes_at, no_degree}
 use Rattle.certificate_law.proofs.FewLines.{each_of_at, few_lines_law, numbers_long}

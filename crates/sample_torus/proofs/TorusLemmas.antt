@@ -1,21 +1,20 @@
 -- A torus of the sample family is a job.
-use Rattle.std.proofs.Common.{◌≡◌, ℕ, zero, suc, ◌+◌, ◌-◌, ◌*◌, ◌%◌, ◌<◌, ◌≤◌, ◌==◌, ◌&&◌, ◌⊎◌, inl, inr, true, false, IsTrue, refl, sym, ◌∙◌, ap, ap₂, arith, List, [], ◌∷◌, ◌++◌, length, None, append_assoc}
-use Rattle.std.specs.Prelude.{codes, flat_map, fold, is_none, nat_le, nat_lt}
+use Rattle.std.proofs.Common.{◌≡◌, ℕ, zero, suc, ◌+◌, ◌-◌, ◌*◌, ◌%◌, ◌<◌, ◌≤◌, ◌==◌, ◌&&◌, ◌⊎◌, inl, inr, true, false, IsTrue, refl, sym, ◌∙◌, ap, ap₂, arith, List, [], ◌∷◌, ◌++◌, length, None, append_assoc, codes, flat_map, fold, is_none, nat_le, nat_lt, le-leb, le-ltb, ne_eqb, length-append}
 use Rattle.std.specs.List.{list_all}
 use Rattle.std.specs.BTreeSet.{insert_key}
 use Rattle.std.proofs.Math.Nat.{mod-eq-sub-mod, mod-eq_of_lt}
-use Rattle.std.proofs.lemmas.Bool.{and_from, cases_lt, le-leb, le-ltb, ne_eqb}
-use Rattle.std.proofs.lemmas.List.{length-append}
+use Rattle.std.proofs.lemmas.Bool.{and_from, cases_lt}
 use Rattle.std.proofs.lemmas.List.Folds.{list_all-append}
 use Rattle.std.specs.Ordering.{match_ordering, nat_cmp}
 use Rattle.std.specs.declared.cmp.Ordering.{Ordering}
 use Rattle.std.specs.declared.cmp.Ordering.TheVariants.{Less, Equal, Greater}
-use Rattle.linear_law.specs.Lists.{Each}
-use Rattle.linear_law.proofs.ListLemmas.{each_append}
-use Rattle.signed_sum.specs.Lists.{numbers_from}
+use Rattle.linear_law.specs.Names.{Each}
+use Rattle.linear_law.proofs.Names.{each_append}
+use Rattle.signed_sum.specs.Names.{numbers_from}
 use Rattle.fp_field.specs.Served.{served}
-use Rattle.simplicial_law.specs.ListedSimplices.{simplex_cmp, simplices, sublists, with_facet}
-use Rattle.complex_file.specs.Complexes.{ascending, complex_fault, facet_fault, first_facet_fault, has_repeat, is_complex, is_facet, or_later}
+use Rattle.simplicial_law.specs.Names.{simplex_cmp, sublists}
+use Rattle.simplicial_law.specs.ListedSimplices.{simplices, with_facet}
+use Rattle.complex_file.specs.Names.{ascending, complex_fault, facet_fault, first_facet_fault, has_repeat, is_complex, is_facet, or_later}
 use Rattle.std.proofs.lemmas.Grind.{flat_map-append}
 use Rattle.complex_file.specs.declared.block.ComplexBlock.{ComplexBlock}
 use Rattle.complex_file.specs.declared.block.MapBlock.{MapBlock}

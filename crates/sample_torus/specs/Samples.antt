@@ -1,10 +1,10 @@
 -- What a sample shows.
 use Rattle.std.specs.Prelude.{◌≡◌, ℕ, ◌≤◌, ◌<◌, ◌^◌, List, [], ◌∷◌, None, length}
-use Rattle.linear_law.specs.Lists.{Each, IsAscending}
+use Rattle.linear_law.specs.Names.{Each, IsAscending}
 use Rattle.simplicial_law.specs.ListedSimplices.{simplices}
 use Rattle.report.specs.declared.complex.ComplexPart.{ComplexPart}
-use Rattle.report_law.specs.Terms.{AreSizes, addends, passing_sum}
-use Rattle.term_total.specs.Charges.{sum_of}
+use Rattle.report_law.specs.Names.{AreSizes, addends, passing_sum}
+use Rattle.term_total.specs.Names.{sum_of}
 use Rattle.count_check.specs.Columns.{AreFew}
 use Rattle.sample_torus.specs.declared.sizes.Sample.{Sample}
 

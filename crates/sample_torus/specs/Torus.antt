@@ -1,8 +1,7 @@
 -- The sample family: tori whose vertices stand on a circle.
 use Rattle.std.specs.Prelude.{ℕ, ◌+◌, ◌%◌, List, [], ◌∷◌, codes, flat_map}
-use Rattle.signed_sum.specs.Lists.{numbers_from}
-use Rattle.complex_file.specs.Complexes.{ascending}
-use Rattle.complex_file.specs.Input.{Spelled}
+use Rattle.signed_sum.specs.Names.{numbers_from}
+use Rattle.complex_file.specs.Names.{ascending, Spelled}
 
 -- the triangles i, i + 1, i + 3 and i, i + 2, i + 3 modulo m
 abbrev pub triangles_at : ℕ → ℕ → List (List ℕ)

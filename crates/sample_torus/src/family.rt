@@ -1,7 +1,6 @@
 ghost use Rattle.std.specs.Prelude.{◌≡◌, ◌≤◌, ◌++◌, ◌%◌, IfOk, IsTrue};
 ghost use Rattle.fp_field.specs.Served.{served};
-ghost use Rattle.complex_file.specs.Complexes.{ascending};
-ghost use Rattle.complex_file.specs.Views.{content};
+ghost use Rattle.complex_file.specs.Names.{ascending, content};
 ghost use Rattle.sample_torus.specs.Torus.{torus_facets, torus_job, triangles_at};
 
 use comch_io::Listed;

@@ -1,5 +1,5 @@
-use Rattle.linear_law.proofs.ListLemmas.{each_zip}
-use Rattle.certificate_law.specs.Stated.{degree_stated, numbered}
+use Rattle.linear_law.proofs.Names.{each_zip}
+use Rattle.certificate_law.specs.Names.{degree_stated, numbered}
 use Rattle.class_check.proofs.WalkLemmas.{degrees_asked}
 use Rattle.class_check.proofs.class_fault.Goals as goal
 

@@ -1,5 +1,5 @@
 use Rattle.std.proofs.Common.{◌≡◌, ◌∙◌, ◌%◌, [], ap, sym, arith, get_or}
-use Rattle.complex_index.specs.Levels.{level}
+use Rattle.complex_index.specs.Names.{level}
 use Rattle.listed_rows.proofs.ChainLemmas.{next_place, next_value}
 use Rattle.listed_rows.proofs.row_of.Goals as goal
 

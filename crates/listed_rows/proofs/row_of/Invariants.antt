@@ -1,5 +1,5 @@
 use Rattle.std.proofs.Common.{take}
-use Rattle.complex_index.specs.Levels.{level}
+use Rattle.complex_index.specs.Names.{level}
 use Rattle.listed_rows.specs.ListedChains.{IsRowOfChain}
 use Rattle.listed_rows.proofs.row_of.Given as goal
 

@@ -1,11 +1,9 @@
 use Rattle.std.proofs.Common.{ℕ, ◌+◌, ◌++◌, sym, ap, arith, refl, subst, List, [], ◌∷◌, length, sum_by, Ok, Err}
 use Rattle.report.specs.declared.complex.ComplexPart.{ComplexPart}
 use Rattle.report.specs.declared.map.MapPart.{MapPart}
-use Rattle.certificate_law.specs.Conditions.{Asks}
-use Rattle.certificate_law.specs.Stated.{behind, complex_stated, finish, map_stated, stated}
-use Rattle.certificate_walk.specs.Sizes.{complex_lines, map_lines}
-use Rattle.certificate_walk.specs.Walks.{IsWalk}
-use Rattle.certificate_walk.proofs.WalkLemmas.{walk_both, walk_stops}
+use Rattle.certificate_law.specs.Names.{Asks, behind, complex_stated, finish, map_stated, stated}
+use Rattle.certificate_walk.specs.Names.{complex_lines, map_lines, IsWalk}
+use Rattle.certificate_walk.proofs.Names.{walk_both, walk_stops}
 use Rattle.block_check.proofs.BlockLemmas.{maps_walk, stated_length, stated_walk}
 use Rattle.block_check.proofs.FacetLemmas.{walked_passed}
 use Rattle.block_check.proofs.blocks.block_fault.Goals as goal

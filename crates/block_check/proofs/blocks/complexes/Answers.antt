@@ -1,12 +1,8 @@
 use Rattle.std.proofs.Common.{◌≡◌, ℕ, ◌+◌, ◌++◌, sym, ◌∙◌, ap, ap₂, [], ◌∷◌, Ok, subst, sum_by, take}
 use Rattle.std.proofs.lemmas.List.{map_more}
-use Rattle.certificate_law.specs.Conditions.{Asks}
-use Rattle.certificate_law.specs.Parts.{itself}
-use Rattle.certificate_law.specs.Stated.{behind, complex_stated}
-use Rattle.certificate_walk.specs.Sizes.{complex_lines}
-use Rattle.certificate_walk.specs.Walks.{IsWalk}
-use Rattle.certificate_walk.proofs.SizeLemmas.{rest_less}
-use Rattle.certificate_walk.proofs.WalkLemmas.{behind_end, behind_more, behind_stop}
+use Rattle.certificate_law.specs.Names.{Asks, itself, behind, complex_stated}
+use Rattle.certificate_walk.specs.Names.{complex_lines, IsWalk}
+use Rattle.certificate_walk.proofs.Names.{rest_less, behind_end, behind_more, behind_stop}
 use Rattle.block_check.proofs.BlockLemmas.{complexes_length}
 use Rattle.block_check.proofs.FacetLemmas.{walked_passed}
 use Rattle.block_check.proofs.blocks.complexes.Goals as goal

@@ -1,9 +1,7 @@
 use Rattle.std.proofs.Common.{◌≡◌, ℕ, ◌+◌, [], drop, map, sum_by, take}
-use Rattle.certificate_law.specs.Conditions.{Asks}
-use Rattle.certificate_law.specs.Parts.{itself}
-use Rattle.certificate_law.specs.Stated.{behind, complex_stated}
-use Rattle.certificate_walk.specs.Sizes.{complex_lines}
-use Rattle.certificate_walk.proofs.WalkLemmas.{Leads}
+use Rattle.certificate_law.specs.Names.{Asks, itself, behind, complex_stated}
+use Rattle.certificate_walk.specs.Names.{complex_lines}
+use Rattle.certificate_walk.proofs.Names.{Leads}
 use Rattle.block_check.proofs.blocks.complexes.Given as goal
 
 abbrev pub invariant-loop-place : goal.invariant-loop-place

@@ -1,7 +1,6 @@
 use Rattle.std.proofs.Common.{◌≡◌, ℕ, ◌+◌, List, [], ◌∷◌, drop, take}
-use Rattle.certificate_law.specs.Conditions.{Asks}
-use Rattle.certificate_law.specs.Stated.{behind, facet_stands}
-use Rattle.certificate_walk.proofs.WalkLemmas.{Leads}
+use Rattle.certificate_law.specs.Names.{Asks, behind, facet_stands}
+use Rattle.certificate_walk.proofs.Names.{Leads}
 use Rattle.block_check.proofs.facets.facets.Given as goal
 
 abbrev pub invariant-loop-place : goal.invariant-loop-place

@@ -1,8 +1,7 @@
 use Rattle.std.proofs.Common.{◌≡◌, ℕ, ◌+◌, [], drop, sum_by, take}
-use Rattle.certificate_law.specs.Conditions.{Asks}
-use Rattle.certificate_law.specs.Stated.{behind, map_stated}
-use Rattle.certificate_walk.specs.Sizes.{map_lines}
-use Rattle.certificate_walk.proofs.WalkLemmas.{Leads}
+use Rattle.certificate_law.specs.Names.{Asks, behind, map_stated}
+use Rattle.certificate_walk.specs.Names.{map_lines}
+use Rattle.certificate_walk.proofs.Names.{Leads}
 use Rattle.block_check.proofs.maps.maps.Given as goal
 
 abbrev pub invariant-loop-place : goal.invariant-loop-place

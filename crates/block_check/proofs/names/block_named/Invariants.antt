@@ -1,6 +1,6 @@
 use Rattle.std.proofs.Common.{◌≡◌, List, map}
 use Rattle.report.specs.declared.complex.ComplexPart.{ComplexPart}
-use Rattle.certificate_law.specs.Parts.{itself}
+use Rattle.certificate_law.specs.Names.{itself}
 use Rattle.block_check.proofs.NameLemmas.{IsBehind}
 use Rattle.block_check.proofs.names.block_named.Given as goal
 

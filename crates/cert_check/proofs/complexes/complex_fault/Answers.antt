@@ -1,8 +1,7 @@
 use Rattle.std.proofs.Common.{◌≡◌, ℕ, ◌+◌, lit≤, sym, ◌∙◌, ap, subst, arith, [], length, Ok}
-use Rattle.certificate_law.specs.Conditions.{Asks}
-use Rattle.certificate_law.specs.Stated.{complex_stated}
-use Rattle.certificate_walk.specs.Walks.{IsWalk}
-use Rattle.certificate_walk.proofs.SizeLemmas.{complex_length}
+use Rattle.certificate_law.specs.Names.{Asks, complex_stated}
+use Rattle.certificate_walk.specs.Names.{IsWalk}
+use Rattle.certificate_walk.proofs.Names.{complex_length}
 use Rattle.cert_check.proofs.FreeLemmas.{complex_free}
 use Rattle.cert_check.proofs.PartLemmas.{low_degrees}
 use Rattle.cert_check.proofs.complexes.complex_fault.Goals as goal

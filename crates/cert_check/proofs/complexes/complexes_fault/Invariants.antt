@@ -1,8 +1,7 @@
 use Rattle.std.proofs.Common.{◌≡◌, ◌+◌, [], drop, sum_by, take}
-use Rattle.certificate_law.specs.Conditions.{Asks}
-use Rattle.certificate_law.specs.Stated.{behind, complex_stated}
-use Rattle.certificate_walk.specs.Sizes.{complex_lines}
-use Rattle.certificate_walk.proofs.WalkLemmas.{Leads}
+use Rattle.certificate_law.specs.Names.{Asks, behind, complex_stated}
+use Rattle.certificate_walk.specs.Names.{complex_lines}
+use Rattle.certificate_walk.proofs.Names.{Leads}
 use Rattle.cert_check.proofs.complexes.complexes_fault.Given as goal
 
 abbrev pub invariant-loop-place : goal.invariant-loop-place

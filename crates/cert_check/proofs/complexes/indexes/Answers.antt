@@ -1,9 +1,9 @@
-use Rattle.std.proofs.Common.{ℕ, ◌+◌, ◌∙◌, List, [], ◌∷◌, ◌++◌, sym, ap, subst, take}
+use Rattle.std.proofs.Common.{ℕ, ◌+◌, ◌∙◌, List, [], ◌∷◌, ◌++◌, sym, ap, subst, take, take_all}
 use Rattle.std.specs.List.{AllZip}
-use Rattle.std.proofs.lemmas.List.{take_all, take_more}
-use Rattle.linear_law.proofs.ListLemmas.{zip_push}
+use Rattle.std.proofs.lemmas.List.{take_more}
+use Rattle.linear_law.proofs.Names.{zip_push}
 use Rattle.complex_file.specs.declared.block.ComplexBlock.{ComplexBlock}
-use Rattle.complex_index.specs.Levels.{IsIndexOf}
+use Rattle.complex_index.specs.Names.{IsIndexOf}
 use Rattle.cert_check.proofs.complexes.indexes.Goals as goal
 
 pub loop-block-preserved : goal.loop-block-preserved

@@ -1,6 +1,6 @@
 use Rattle.std.proofs.Common.{take}
 use Rattle.std.specs.List.{AllZip}
-use Rattle.complex_index.specs.Levels.{IsIndexOf}
+use Rattle.complex_index.specs.Names.{IsIndexOf}
 use Rattle.cert_check.proofs.complexes.indexes.Given as goal
 
 abbrev pub invariant-loop-block : goal.invariant-loop-block

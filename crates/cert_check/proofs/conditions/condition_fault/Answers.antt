@@ -1,14 +1,12 @@
 use Rattle.std.proofs.Common.{◌≡◌, ℕ, ◌+◌, ◌++◌, lit<, sym, ap, subst, refl, arith, List, [], ◌∷◌, Ok, Err, sum_by}
 use Rattle.std.specs.List.{AllZip}
-use Rattle.linear_law.specs.Lists.{Each}
+use Rattle.linear_law.specs.Names.{Each}
 use Rattle.report.specs.declared.complex.ComplexPart.{ComplexPart}
 use Rattle.report.specs.declared.map.MapPart.{MapPart}
-use Rattle.report_law.specs.Parts.{ranks_of}
-use Rattle.certificate_law.specs.Conditions.{Asks}
-use Rattle.certificate_law.specs.Stated.{behind, complex_stated, finish, map_stated, stated}
-use Rattle.certificate_walk.specs.Sizes.{complex_lines, map_lines}
-use Rattle.certificate_walk.specs.Walks.{IsWalk}
-use Rattle.certificate_walk.proofs.WalkLemmas.{walk_both, walk_passed, walk_stops}
+use Rattle.report_law.specs.Names.{ranks_of}
+use Rattle.certificate_law.specs.Names.{Asks, behind, complex_stated, finish, map_stated, stated}
+use Rattle.certificate_walk.specs.Names.{complex_lines, map_lines, IsWalk}
+use Rattle.certificate_walk.proofs.Names.{walk_both, walk_passed, walk_stops}
 use Rattle.line_difference.specs.Elements.{AreStored}
 use Rattle.block_check.proofs.BlockLemmas.{complexes_length, maps_length, stated_length}
 use Rattle.count_check.specs.Totals.{IsCountable}

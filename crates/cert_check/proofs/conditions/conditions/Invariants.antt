@@ -1,5 +1,5 @@
 use Rattle.std.proofs.Common.{◌≡◌, ℕ, ◌<◌, ◌≤◌, []}
-use Rattle.certificate_law.specs.Certifies.{Holds}
+use Rattle.certificate_law.specs.Names.{Holds}
 use Rattle.cert_check.specs.Ready.{AreAllStored}
 use Rattle.cert_check.proofs.conditions.conditions.Given as goal
 

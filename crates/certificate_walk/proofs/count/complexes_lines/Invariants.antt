@@ -1,5 +1,5 @@
 use Rattle.std.proofs.Common.{◌≡◌, sum_by, take}
-use Rattle.certificate_walk.specs.Sizes.{complex_lines}
+use Rattle.certificate_walk.specs.Names.{complex_lines}
 use Rattle.certificate_walk.proofs.count.complexes_lines.Given as goal
 
 abbrev pub invariant-loop-part : goal.invariant-loop-part

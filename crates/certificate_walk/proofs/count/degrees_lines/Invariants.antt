@@ -1,5 +1,5 @@
 use Rattle.std.proofs.Common.{◌≡◌, sum_by, take}
-use Rattle.certificate_walk.specs.Sizes.{degree_lines}
+use Rattle.certificate_walk.specs.Names.{degree_lines}
 use Rattle.certificate_walk.proofs.count.degrees_lines.Given as goal
 
 abbrev pub invariant-loop-degree : goal.invariant-loop-degree

@@ -1,5 +1,5 @@
 use Rattle.std.proofs.Common.{◌≡◌, sum_by, take}
-use Rattle.certificate_walk.specs.Sizes.{operation_lines}
+use Rattle.certificate_walk.specs.Names.{operation_lines}
 use Rattle.certificate_walk.proofs.count.operations_lines.Given as goal
 
 abbrev pub invariant-loop-operation : goal.invariant-loop-operation

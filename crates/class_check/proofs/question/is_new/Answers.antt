@@ -1,5 +1,4 @@
-use Rattle.std.proofs.Common.{◌≡◌, ◌<◌, arith, ◌∙◌, true, false, not, inr, refl, sym, ap, subst, length, get_or}
-use Rattle.std.specs.Prelude.{MatchOption, slice_set}
+use Rattle.std.proofs.Common.{◌≡◌, ◌<◌, arith, ◌∙◌, true, false, not, inr, refl, sym, ap, subst, length, get_or, MatchOption, slice_set}
 use Rattle.std.proofs.lemmas.List.{get_or_default}
 use Rattle.sparse_rows.specs.Rows.{IsBelow, IsRow}
 use Rattle.class_check.specs.Questions.{IsLeadTaken}

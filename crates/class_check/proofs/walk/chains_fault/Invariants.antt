@@ -1,5 +1,5 @@
 use Rattle.std.proofs.Common.{◌≡◌, ◌+◌, [], length}
-use Rattle.complex_index.specs.Levels.{IsIndexOf, level}
+use Rattle.complex_index.specs.Names.{IsIndexOf, level}
 use Rattle.report.specs.declared.complex.ComplexPart.{ComplexPart}
 use Rattle.class_check.specs.Questions.{AreLeads, AreReady, chain_lines, others_of}
 use Rattle.class_check.proofs.WalkLemmas.{IsWalkedTo}

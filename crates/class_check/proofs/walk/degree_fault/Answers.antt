@@ -1,9 +1,8 @@
 use Rattle.std.proofs.Common.{◌+◌, ap, sym, subst, Ok}
-use Rattle.complex_index.specs.Levels.{level}
-use Rattle.certificate_law.specs.Conditions.{Asks}
-use Rattle.certificate_law.specs.Stated.{degree_stated}
-use Rattle.certificate_walk.specs.Walks.{IsWalk}
-use Rattle.certificate_walk.proofs.WalkLemmas.{walk_passed}
+use Rattle.complex_index.specs.Names.{level}
+use Rattle.certificate_law.specs.Names.{Asks, degree_stated}
+use Rattle.certificate_walk.specs.Names.{IsWalk}
+use Rattle.certificate_walk.proofs.Names.{walk_passed}
 use Rattle.class_check.specs.declared.question.Question.{Question}
 use Rattle.class_check.specs.Questions.{AreReady, condition_of}
 use Rattle.class_check.proofs.LeadLemmas.{no_leads}

@@ -1,6 +1,5 @@
 use Rattle.std.proofs.Common.{◌↔◌, ◌==◌, IsTrue, sym, subst}
-use Rattle.certificate_law.specs.Conditions.{Asks}
-use Rattle.certificate_law.specs.Stated.{complex_ends}
+use Rattle.certificate_law.specs.Names.{Asks, complex_ends}
 use Rattle.class_check.specs.declared.question.Question.{Question}
 use Rattle.class_check.specs.Questions.{condition_of}
 use Rattle.class_check.proofs.WalkLemmas.{ends_told}

@@ -1,7 +1,6 @@
 use Rattle.std.proofs.Common.{◌^◌, lit<, refl}
-use Rattle.certificate_law.specs.Conditions.{Asks}
-use Rattle.certificate_law.specs.Stated.{cartan_stated, numbered}
-use Rattle.certificate_walk.proofs.WalkLemmas.{walk_passed}
+use Rattle.certificate_law.specs.Names.{Asks, cartan_stated, numbered}
+use Rattle.certificate_walk.proofs.Names.{walk_passed}
 use Rattle.column_check.specs.Ready.{IsCartanReady}
 use Rattle.column_check.proofs.WalkLemmas.{loop-end, loop-item, loop-more, loop-room, loop-stop}
 use Rattle.column_check.proofs.cartans.cartans_fault.Goals as goal

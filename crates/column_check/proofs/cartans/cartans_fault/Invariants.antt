@@ -1,7 +1,6 @@
 use Rattle.std.proofs.Common.{drop}
-use Rattle.certificate_law.specs.Conditions.{Asks}
-use Rattle.certificate_law.specs.Stated.{cartan_stated, numbered}
-use Rattle.certificate_walk.proofs.WalkLemmas.{Leads}
+use Rattle.certificate_law.specs.Names.{Asks, cartan_stated, numbered}
+use Rattle.certificate_walk.proofs.Names.{Leads}
 use Rattle.column_check.proofs.cartans.cartans_fault.Given as goal
 
 abbrev pub invariant-loop-part : goal.invariant-loop-part

@@ -1,7 +1,6 @@
 use Rattle.std.proofs.Common.{◌∷◌, []}
-use Rattle.certificate_law.specs.Conditions.{Asks}
-use Rattle.certificate_law.specs.Stated.{answer_stated, cartan_stands}
-use Rattle.certificate_walk.proofs.WalkLemmas.{walk_first}
+use Rattle.certificate_law.specs.Names.{Asks, answer_stated, cartan_stands}
+use Rattle.certificate_walk.proofs.Names.{walk_first}
 use Rattle.column_check.proofs.WalkLemmas.{answer-free}
 use Rattle.column_check.proofs.cartans.line_fault.Goals as goal
 

@@ -1,11 +1,9 @@
 use Rattle.std.proofs.Common.{◌≡◌, ◌^◌, ℕ, List, get_or, lit<, subst}
 use Rattle.complex_file.specs.declared.block.Sent.{Sent}
-use Rattle.complex_file.specs.Maps.{image}
-use Rattle.certificate_law.specs.Conditions.{Asks}
-use Rattle.certificate_law.specs.Stated.{induced_stated, numbered}
-use Rattle.certificate_walk.specs.Sizes.{induced_lines}
-use Rattle.certificate_walk.proofs.SizeLemmas.{induced_length}
-use Rattle.certificate_walk.proofs.WalkLemmas.{walk_passed}
+use Rattle.complex_file.specs.Names.{image}
+use Rattle.certificate_law.specs.Names.{Asks, induced_stated, numbered}
+use Rattle.certificate_walk.specs.Names.{induced_lines}
+use Rattle.certificate_walk.proofs.Names.{induced_length, walk_passed}
 use Rattle.column_check.specs.Ready.{IsInducedReady}
 use Rattle.column_check.proofs.WalkLemmas.{loop-end, loop-item, loop-more, loop-room, loop-stop}
 use Rattle.column_check.proofs.induced.blocks_fault.Goals as goal

@@ -1,7 +1,7 @@
 use Rattle.std.proofs.Common.{◌∙◌, ◌<◌, ◌≤◌, ℕ, List, arith, length, lit<, map, subst, sym}
 use Rattle.std.proofs.lemmas.List.{length-map}
-use Rattle.linear_law.specs.Lists.{Each}
-use Rattle.simplicial_law.specs.Cochains.{Chain}
+use Rattle.linear_law.specs.Names.{Each}
+use Rattle.simplicial_law.specs.Names.{Chain}
 use Rattle.report.specs.declared.complex.DegreePart.{DegreePart}
 use Rattle.column_check.specs.Listings.{IsListedOn}
 use Rattle.column_check.proofs.ListingLemmas.{class-at, rows-all, rows-more}

@@ -1,7 +1,6 @@
-use Rattle.std.proofs.Common.{Bool, ℕ, IsTrue, List, subst}
-use Rattle.std.specs.Prelude.{◌↔◌}
+use Rattle.std.proofs.Common.{Bool, ℕ, IsTrue, List, subst, ◌↔◌}
 use Rattle.std.proofs.lemmas.Result.{IfOk-weaker}
-use Rattle.simplicial_law.specs.Cochains.{Chain}
+use Rattle.simplicial_law.specs.Names.{Chain}
 use Rattle.may_steenrod.specs.Cochains.{cochain_in}
 use Rattle.column_check.specs.Listings.{IsColumnSum}
 use Rattle.column_check.proofs.ColumnLemmas.{operation-tells}

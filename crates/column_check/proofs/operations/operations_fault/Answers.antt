@@ -1,9 +1,7 @@
 use Rattle.std.proofs.Common.{◌^◌, lit<}
-use Rattle.certificate_law.specs.Conditions.{Asks}
-use Rattle.certificate_law.specs.Stated.{numbered, operation_stated}
-use Rattle.certificate_walk.specs.Sizes.{operation_lines}
-use Rattle.certificate_walk.proofs.SizeLemmas.{operation_length}
-use Rattle.certificate_walk.proofs.WalkLemmas.{walk_passed}
+use Rattle.certificate_law.specs.Names.{Asks, numbered, operation_stated}
+use Rattle.certificate_walk.specs.Names.{operation_lines}
+use Rattle.certificate_walk.proofs.Names.{operation_length, walk_passed}
 use Rattle.column_check.specs.Ready.{IsOperationReady}
 use Rattle.column_check.proofs.WalkLemmas.{loop-end, loop-item, loop-more, loop-room, loop-stop}
 use Rattle.column_check.proofs.operations.operations_fault.Goals as goal

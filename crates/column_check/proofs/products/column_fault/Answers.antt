@@ -1,7 +1,6 @@
 use Rattle.std.proofs.Common.{◌∷◌, []}
-use Rattle.certificate_law.specs.Conditions.{Asks}
-use Rattle.certificate_law.specs.Stated.{product_column, with_stands}
-use Rattle.certificate_walk.proofs.WalkLemmas.{walk_first}
+use Rattle.certificate_law.specs.Names.{Asks, product_column, with_stands}
+use Rattle.certificate_walk.proofs.Names.{walk_first}
 use Rattle.column_check.proofs.products.column_fault.Goals as goal
 
 pub returns : goal.returns

@@ -1,7 +1,6 @@
 use Rattle.std.proofs.Common.{drop}
-use Rattle.certificate_law.specs.Conditions.{Asks}
-use Rattle.certificate_law.specs.Stated.{numbered, product_stated}
-use Rattle.certificate_walk.proofs.WalkLemmas.{Leads}
+use Rattle.certificate_law.specs.Names.{Asks, numbered, product_stated}
+use Rattle.certificate_walk.proofs.Names.{Leads}
 use Rattle.column_check.proofs.products.products_fault.Given as goal
 
 abbrev pub invariant-loop-part : goal.invariant-loop-part

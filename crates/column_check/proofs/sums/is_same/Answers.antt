@@ -1,5 +1,5 @@
 use Rattle.std.proofs.Common.{◌∙◌, ◌%◌, ℕ, ap}
-use Rattle.linear_law.specs.Congruence.{negated}
+use Rattle.linear_law.specs.Names.{negated}
 use Rattle.column_check.proofs.SumLemmas.{same-tells}
 use Rattle.column_check.proofs.sums.is_same.Goals as goal
 

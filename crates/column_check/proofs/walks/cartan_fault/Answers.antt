@@ -1,11 +1,9 @@
 use Rattle.std.proofs.Common.{◌≡◌, ◌+◌, ◌<◌, ◌≤◌, ◌^◌, ℕ, ap, arith, length, lit<, subst, sum_by, sym, Ok, Err}
-use Rattle.linear_law.specs.Lists.{Each}
+use Rattle.linear_law.specs.Names.{Each}
 use Rattle.report.specs.declared.complex.ComplexPart.{ComplexPart}
-use Rattle.certificate_law.specs.Conditions.{Asks}
-use Rattle.certificate_law.specs.Stated.{cartan_stated, complex_stated, numbered}
-use Rattle.certificate_walk.specs.Sizes.{degree_lines, operation_lines, product_lines}
-use Rattle.certificate_walk.specs.Walks.{IsWalk}
-use Rattle.certificate_walk.proofs.WalkLemmas.{walk_passed}
+use Rattle.certificate_law.specs.Names.{Asks, cartan_stated, complex_stated, numbered}
+use Rattle.certificate_walk.specs.Names.{degree_lines, operation_lines, product_lines, IsWalk}
+use Rattle.certificate_walk.proofs.Names.{walk_passed}
 use Rattle.column_check.specs.Ready.{IsCartanReady}
 use Rattle.column_check.proofs.ReadyLemmas.{cartans-ready}
 use Rattle.column_check.proofs.SectionLemmas.{cartan-end, cartan-stops, cartans-room}

@@ -1,11 +1,9 @@
 use Rattle.std.proofs.Common.{◌≡◌, ◌+◌, ◌*◌, ◌<◌, ◌≤◌, ◌^◌, ℕ, ap, arith, length, lit<, subst, sum_by, sym, Ok, Err}
-use Rattle.linear_law.specs.Lists.{Each}
+use Rattle.linear_law.specs.Names.{Each}
 use Rattle.report.specs.declared.complex.ComplexPart.{ComplexPart}
-use Rattle.certificate_law.specs.Conditions.{Asks}
-use Rattle.certificate_law.specs.Stated.{complex_stated, numbered, operation_stated, product_stated}
-use Rattle.certificate_walk.specs.Sizes.{degree_lines}
-use Rattle.certificate_walk.specs.Walks.{IsWalk}
-use Rattle.certificate_walk.proofs.WalkLemmas.{walk_passed}
+use Rattle.certificate_law.specs.Names.{Asks, complex_stated, numbered, operation_stated, product_stated}
+use Rattle.certificate_walk.specs.Names.{degree_lines, IsWalk}
+use Rattle.certificate_walk.proofs.Names.{walk_passed}
 use Rattle.column_check.specs.Ready.{IsOperationReady, IsProductReady}
 use Rattle.column_check.proofs.ReadyLemmas.{operations-ready, products-ready}
 use Rattle.column_check.proofs.SectionLemmas.{column-end, column-operations, column-products, end-room, operations-room, products-room}

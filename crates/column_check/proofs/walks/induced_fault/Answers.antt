@@ -1,10 +1,9 @@
 use Rattle.std.proofs.Common.{◌≡◌, ◌+◌, ◌<◌, ◌^◌, ℕ, [], ap, arith, length, lit<, subst, sym, Ok, Err}
-use Rattle.linear_law.specs.Lists.{Each}
+use Rattle.linear_law.specs.Names.{Each}
 use Rattle.report.specs.declared.complex.ComplexPart.{ComplexPart}
-use Rattle.certificate_law.specs.Conditions.{Asks}
-use Rattle.certificate_law.specs.Stated.{induced_stated, map_between, numbered}
-use Rattle.certificate_walk.specs.Walks.{IsWalk}
-use Rattle.certificate_walk.proofs.WalkLemmas.{walk_passed}
+use Rattle.certificate_law.specs.Names.{Asks, induced_stated, map_between, numbered}
+use Rattle.certificate_walk.specs.Names.{IsWalk}
+use Rattle.certificate_walk.proofs.Names.{walk_passed}
 use Rattle.column_check.specs.Ready.{IsInducedReady}
 use Rattle.column_check.proofs.ReadyLemmas.{blocks-ready}
 use Rattle.column_check.proofs.SectionLemmas.{map-end, map-room, map-stops}

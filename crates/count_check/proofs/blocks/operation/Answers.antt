@@ -1,10 +1,9 @@
 use Rattle.std.proofs.Common.{◌∙◌, ap, subst, List, [], ◌∷◌, get_or}
 use Rattle.report.specs.declared.columns.Column.{Column}
-use Rattle.report_law.specs.Parts.{block_of}
-use Rattle.certificate_law.specs.Conditions.{Asks}
-use Rattle.certificate_law.specs.Stated.{numbered, operation_column, operation_opens, operation_stated}
-use Rattle.certificate_walk.specs.Walks.{IsWalk}
-use Rattle.certificate_walk.proofs.WalkLemmas.{walk_both, walk_passed, walk_stops, walk_tested}
+use Rattle.report_law.specs.Names.{block_of}
+use Rattle.certificate_law.specs.Names.{Asks, numbered, operation_column, operation_opens, operation_stated}
+use Rattle.certificate_walk.specs.Names.{IsWalk}
+use Rattle.certificate_walk.proofs.Names.{walk_both, walk_passed, walk_stops, walk_tested}
 use Rattle.count_check.specs.Columns.{with_primitive}
 use Rattle.count_check.proofs.SectionLemmas.{is_live, operation_asks, rank_is}
 use Rattle.count_check.proofs.blocks.operation.Goals as goal

@@ -1,11 +1,9 @@
 use Rattle.std.proofs.Common.{◌≡◌, ℕ, ◌+◌, drop, sum_by}
 use Rattle.report.specs.declared.complex.ComplexPart.{ComplexPart}
-use Rattle.report_law.specs.Live.{blocks}
-use Rattle.report_law.specs.Parts.{ranks_of}
-use Rattle.certificate_law.specs.Stated.{numbered, operation_stated}
-use Rattle.certificate_law.specs.Conditions.{Asks}
-use Rattle.certificate_walk.proofs.WalkLemmas.{Leads}
-use Rattle.certificate_walk.specs.Sizes.{operation_lines}
+use Rattle.report_law.specs.Names.{blocks, ranks_of}
+use Rattle.certificate_law.specs.Names.{numbered, operation_stated, Asks}
+use Rattle.certificate_walk.proofs.Names.{Leads}
+use Rattle.certificate_walk.specs.Names.{operation_lines}
 use Rattle.count_check.proofs.blocks.operations.Given as goal
 
 abbrev pub invariant-loop-place : goal.invariant-loop-place

@@ -1,8 +1,7 @@
 use Rattle.std.proofs.Common.{◌≡◌, ℕ, ◌+◌, ◌*◌, drop}
 use Rattle.report.specs.declared.columns.Column.{Column}
-use Rattle.certificate_law.specs.Stated.{Stated, numbered}
-use Rattle.certificate_law.specs.Conditions.{Asks}
-use Rattle.certificate_walk.proofs.WalkLemmas.{Leads}
+use Rattle.certificate_law.specs.Names.{Stated, numbered, Asks}
+use Rattle.certificate_walk.proofs.Names.{Leads}
 use Rattle.count_check.specs.Columns.{AsksColumns, with_primitive}
 use Rattle.count_check.proofs.columns.columns.Given as goal
 

@@ -1,6 +1,6 @@
 use Rattle.std.proofs.Common.{◌++◌, ◌∙◌, ap, subst, sym, arith, refl, flat_map, length, get_or}
-use Rattle.linear_law.specs.Lists.{Each}
-use Rattle.linear_law.proofs.ListLemmas.{each_push}
+use Rattle.linear_law.specs.Names.{Each}
+use Rattle.linear_law.proofs.Names.{each_push}
 use Rattle.count_check.specs.declared.lines.LineGroup.{LineGroup}
 use Rattle.count_check.specs.LineGroups.{IsSmallGroup, group_lines, pair_lines}
 use Rattle.count_check.proofs.LiveLemmas.{Grows, all_taken, grown, grown_small}

@@ -1,9 +1,8 @@
 use Rattle.std.proofs.Common.{subst, arith, [], ◌∷◌}
-use Rattle.report_law.specs.Parts.{line_of}
-use Rattle.certificate_law.specs.Conditions.{Asks}
-use Rattle.certificate_law.specs.Stated.{answer_stated, cartan_stands, cartan_stated, numbered}
-use Rattle.certificate_walk.specs.Walks.{IsWalk}
-use Rattle.certificate_walk.proofs.WalkLemmas.{numbered_end, numbered_more, numbered_stop, walk_first, walk_passed}
+use Rattle.report_law.specs.Names.{line_of}
+use Rattle.certificate_law.specs.Names.{Asks, answer_stated, cartan_stands, cartan_stated, numbered}
+use Rattle.certificate_walk.specs.Names.{IsWalk}
+use Rattle.certificate_walk.proofs.Names.{numbered_end, numbered_more, numbered_stop, walk_first, walk_passed}
 use Rattle.count_check.proofs.SectionLemmas.{asked, asks_nothing, is_live}
 use Rattle.count_check.proofs.lines.cartans.Goals as goal
 

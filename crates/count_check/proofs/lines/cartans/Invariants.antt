@@ -1,10 +1,8 @@
 use Rattle.std.proofs.Common.{◌≡◌, ℕ, ◌+◌, ◌*◌, drop, flat_map}
 use Rattle.report.specs.declared.complex.ComplexPart.{ComplexPart}
-use Rattle.report_law.specs.Live.{lines}
-use Rattle.report_law.specs.Parts.{ranks_of}
-use Rattle.certificate_law.specs.Stated.{cartan_stated, numbered}
-use Rattle.certificate_law.specs.Conditions.{Asks}
-use Rattle.certificate_walk.proofs.WalkLemmas.{Leads}
+use Rattle.report_law.specs.Names.{lines, ranks_of}
+use Rattle.certificate_law.specs.Names.{cartan_stated, numbered, Asks}
+use Rattle.certificate_walk.proofs.Names.{Leads}
 use Rattle.count_check.specs.LineGroups.{group_lines}
 use Rattle.count_check.proofs.lines.cartans.Given as goal
 

@@ -1,6 +1,6 @@
 use Rattle.std.proofs.Common.{◌≡◌, flat_map, take}
-use Rattle.linear_law.specs.Lists.{Each}
-use Rattle.report_law.specs.Live.{degrees}
+use Rattle.linear_law.specs.Names.{Each}
+use Rattle.report_law.specs.Names.{degrees}
 use Rattle.count_check.specs.LineGroups.{IsSmallGroup, group_lines, lines_from}
 use Rattle.count_check.proofs.lines.line_groups.Given as goal
 

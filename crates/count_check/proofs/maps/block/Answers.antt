@@ -1,9 +1,8 @@
 use Rattle.std.proofs.Common.{◌∙◌, ap, subst, List, [], ◌∷◌, get_or}
 use Rattle.report.specs.declared.columns.Column.{Column}
-use Rattle.certificate_law.specs.Conditions.{Asks}
-use Rattle.certificate_law.specs.Stated.{numbered, induced_column, induced_opens, induced_stated}
-use Rattle.certificate_walk.specs.Walks.{IsWalk}
-use Rattle.certificate_walk.proofs.WalkLemmas.{walk_both, walk_passed, walk_stops, walk_tested}
+use Rattle.certificate_law.specs.Names.{Asks, numbered, induced_column, induced_opens, induced_stated}
+use Rattle.certificate_walk.specs.Names.{IsWalk}
+use Rattle.certificate_walk.proofs.Names.{walk_both, walk_passed, walk_stops, walk_tested}
 use Rattle.count_check.specs.Columns.{with_primitive}
 use Rattle.count_check.proofs.SectionLemmas.{is_live, induced_asks, rank_is}
 use Rattle.count_check.proofs.maps.block.Goals as goal

@@ -1,12 +1,10 @@
 use Rattle.std.proofs.Common.{◌≡◌, ℕ, ◌+◌, drop, sum_by}
 use Rattle.report.specs.declared.complex.ComplexPart.{ComplexPart}
 use Rattle.report.specs.declared.map.MapPart.{MapPart}
-use Rattle.report_law.specs.Live.{induced_degrees}
-use Rattle.report_law.specs.Parts.{ranks_of}
-use Rattle.certificate_law.specs.Stated.{induced_stated, numbered}
-use Rattle.certificate_law.specs.Conditions.{Asks}
-use Rattle.certificate_walk.proofs.WalkLemmas.{Leads}
-use Rattle.certificate_walk.specs.Sizes.{induced_lines}
+use Rattle.report_law.specs.Names.{induced_degrees, ranks_of}
+use Rattle.certificate_law.specs.Names.{induced_stated, numbered, Asks}
+use Rattle.certificate_walk.proofs.Names.{Leads}
+use Rattle.certificate_walk.specs.Names.{induced_lines}
 use Rattle.count_check.proofs.maps.blocks.Given as goal
 
 abbrev pub invariant-loop-place : goal.invariant-loop-place

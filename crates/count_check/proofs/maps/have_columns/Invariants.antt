@@ -1,5 +1,5 @@
 use Rattle.std.proofs.Common.{◌≤◌, get_or, length, take}
-use Rattle.linear_law.specs.Lists.{Each}
+use Rattle.linear_law.specs.Names.{Each}
 use Rattle.report.specs.declared.map.InducedPart.{InducedPart}
 use Rattle.count_check.proofs.maps.have_columns.Given as goal
 

@@ -1,8 +1,7 @@
 use Rattle.std.proofs.Common.{ℕ, ◌+◌, sym, ◌∙◌, ap₂, [], ◌∷◌, Ok, Err}
-use Rattle.report_law.specs.Live.{induced_degrees}
-use Rattle.certificate_law.specs.Conditions.{Asks}
-use Rattle.certificate_law.specs.Stated.{induced_stated, map_between, map_ends}
-use Rattle.certificate_walk.proofs.WalkLemmas.{walk_both, walk_passed, walk_stops, walk_tested}
+use Rattle.report_law.specs.Names.{induced_degrees}
+use Rattle.certificate_law.specs.Names.{Asks, induced_stated, map_between, map_ends}
+use Rattle.certificate_walk.proofs.Names.{walk_both, walk_passed, walk_stops, walk_tested}
 use Rattle.count_check.proofs.ComplexWalks.{induced_in, map_opened, map_whole, ranks_in, room_map, walk_slice}
 use Rattle.count_check.proofs.maps.map_count_fault.Goals as goal
 

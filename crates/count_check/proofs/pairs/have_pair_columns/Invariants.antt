@@ -1,7 +1,7 @@
 use Rattle.std.proofs.Common.{◌≤◌, get_or, length, take}
-use Rattle.linear_law.specs.Lists.{Each}
+use Rattle.linear_law.specs.Names.{Each}
 use Rattle.report.specs.declared.columns.ProductPart.{ProductPart}
-use Rattle.report_law.specs.Parts.{number_pairs}
+use Rattle.report_law.specs.Names.{number_pairs}
 use Rattle.count_check.proofs.pairs.have_pair_columns.Given as goal
 
 abbrev pub invariant-loop-product : goal.invariant-loop-product

@@ -1,9 +1,8 @@
 use Rattle.std.proofs.Common.{◌≡◌, ℕ, ◌+◌, ◌*◌, drop}
 use Rattle.report.specs.declared.complex.ComplexPart.{ComplexPart}
-use Rattle.report_law.specs.Parts.{ranks_of}
-use Rattle.certificate_law.specs.Stated.{numbered}
-use Rattle.certificate_law.specs.Conditions.{Asks}
-use Rattle.certificate_walk.proofs.WalkLemmas.{Leads}
+use Rattle.report_law.specs.Names.{ranks_of}
+use Rattle.certificate_law.specs.Names.{numbered, Asks}
+use Rattle.certificate_walk.proofs.Names.{Leads}
 use Rattle.count_check.specs.Columns.{with_numbers}
 use Rattle.count_check.proofs.pairs.pair_columns.Given as goal
 

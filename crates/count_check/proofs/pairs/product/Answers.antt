@@ -1,9 +1,8 @@
 use Rattle.std.proofs.Common.{subst, [], ◌∷◌}
-use Rattle.report_law.specs.Parts.{product_of}
-use Rattle.certificate_law.specs.Conditions.{Asks}
-use Rattle.certificate_law.specs.Stated.{numbered, product_opens, product_stated}
-use Rattle.certificate_walk.specs.Walks.{IsWalk}
-use Rattle.certificate_walk.proofs.WalkLemmas.{walk_both, walk_passed, walk_stops, walk_tested}
+use Rattle.report_law.specs.Names.{product_of}
+use Rattle.certificate_law.specs.Names.{Asks, numbered, product_opens, product_stated}
+use Rattle.certificate_walk.specs.Names.{IsWalk}
+use Rattle.certificate_walk.proofs.Names.{walk_both, walk_passed, walk_stops, walk_tested}
 use Rattle.count_check.specs.Columns.{with_numbers}
 use Rattle.count_check.proofs.SectionLemmas.{is_live}
 use Rattle.count_check.proofs.pairs.product.Goals as goal

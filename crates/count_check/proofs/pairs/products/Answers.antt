@@ -1,8 +1,6 @@
-use Rattle.certificate_law.specs.Conditions.{Asks}
-use Rattle.certificate_law.specs.Stated.{numbered, product_stated}
-use Rattle.certificate_walk.specs.Sizes.{product_lines}
-use Rattle.certificate_walk.proofs.WalkLemmas.{numbered_end, numbered_more, numbered_stop, walk_passed}
-use Rattle.certificate_walk.proofs.SizeLemmas.{rest_less}
+use Rattle.certificate_law.specs.Names.{Asks, numbered, product_stated}
+use Rattle.certificate_walk.specs.Names.{product_lines}
+use Rattle.certificate_walk.proofs.Names.{numbered_end, numbered_more, numbered_stop, walk_passed, rest_less}
 use Rattle.count_check.proofs.pairs.products.Goals as goal
 
 pub returns-in_err-at : goal.returns-in_err-at

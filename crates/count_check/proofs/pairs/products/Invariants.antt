@@ -1,11 +1,9 @@
 use Rattle.std.proofs.Common.{◌≡◌, ℕ, ◌+◌, drop, sum_by}
 use Rattle.report.specs.declared.complex.ComplexPart.{ComplexPart}
-use Rattle.report_law.specs.Live.{products}
-use Rattle.report_law.specs.Parts.{ranks_of}
-use Rattle.certificate_law.specs.Stated.{numbered, product_stated}
-use Rattle.certificate_law.specs.Conditions.{Asks}
-use Rattle.certificate_walk.proofs.WalkLemmas.{Leads}
-use Rattle.certificate_walk.specs.Sizes.{product_lines}
+use Rattle.report_law.specs.Names.{products, ranks_of}
+use Rattle.certificate_law.specs.Names.{numbered, product_stated, Asks}
+use Rattle.certificate_walk.proofs.Names.{Leads}
+use Rattle.certificate_walk.specs.Names.{product_lines}
 use Rattle.count_check.proofs.pairs.products.Given as goal
 
 abbrev pub invariant-loop-place : goal.invariant-loop-place

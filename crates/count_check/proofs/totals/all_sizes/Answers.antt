@@ -1,6 +1,5 @@
-use Rattle.std.proofs.Common.{◌∙◌, ap, arith}
-use Rattle.std.proofs.lemmas.List.{take_all}
-use Rattle.linear_law.proofs.ListLemmas.{length_alike}
+use Rattle.std.proofs.Common.{◌∙◌, ap, arith, take_all}
+use Rattle.linear_law.proofs.Names.{length_alike}
 use Rattle.count_check.specs.Totals.{IsCountable, job_sizes}
 use Rattle.count_check.proofs.TotalLemmas.{sizes_more, zip_get}
 use Rattle.count_check.proofs.totals.all_sizes.Goals as goal

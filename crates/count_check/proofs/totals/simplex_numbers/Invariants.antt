@@ -1,6 +1,6 @@
 use Rattle.std.proofs.Common.{◌≡◌, length, map, take}
-use Rattle.signed_sum.specs.Lists.{numbers_from}
-use Rattle.complex_index.specs.Levels.{level}
+use Rattle.signed_sum.specs.Names.{numbers_from}
+use Rattle.complex_index.specs.Names.{level}
 use Rattle.count_check.proofs.totals.simplex_numbers.Given as goal
 
 abbrev pub invariant-loop-n : goal.invariant-loop-n

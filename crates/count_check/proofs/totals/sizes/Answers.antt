@@ -1,6 +1,6 @@
 use Rattle.std.proofs.Common.{◌∙◌, ap, ap₂, length, map}
 use Rattle.report.specs.declared.complex.DegreePart.{DegreePart}
-use Rattle.report_law.specs.Terms.{simplex_counts}
+use Rattle.report_law.specs.Names.{simplex_counts}
 use Rattle.count_check.proofs.TotalLemmas.{ranks_are}
 use Rattle.count_check.proofs.totals.sizes.Goals as goal
 

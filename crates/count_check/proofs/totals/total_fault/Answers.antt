@@ -1,7 +1,7 @@
 use Rattle.std.proofs.Common.{◌∙◌, subst, sym, refl, lit<, []}
-use Rattle.linear_law.specs.Lists.{Each}
-use Rattle.certificate_law.specs.Stated.{finish}
-use Rattle.term_total.specs.Counts.{IsPart}
+use Rattle.linear_law.specs.Names.{Each}
+use Rattle.certificate_law.specs.Names.{finish}
+use Rattle.term_total.specs.Names.{IsPart}
 use Rattle.count_check.proofs.TotalLemmas.{none_passes, parts_of}
 use Rattle.count_check.proofs.totals.total_fault.Goals as goal
 

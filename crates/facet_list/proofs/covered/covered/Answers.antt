@@ -1,8 +1,7 @@
 use Rattle.std.proofs.Common.{ℕ, ◌+◌, ◌-◌, ◌<◌, ◌≡◌, arith, sym, ◌∙◌, subst, Bool, List, [], length, get_or, take}
 use Rattle.std.proofs.lemmas.List.{with_items_is}
-use Rattle.linear_law.proofs.ListLemmas.{each_map}
-use Rattle.complex_index.specs.Incidence.{ArePlaces}
-use Rattle.complex_index.specs.Levels.{level}
+use Rattle.linear_law.proofs.Names.{each_map}
+use Rattle.complex_index.specs.Names.{ArePlaces, level}
 use Rattle.facet_list.specs.Covered.{AreMarked, Covers}
 use Rattle.facet_list.proofs.MarkLemmas.{more_covered}
 use Rattle.facet_list.proofs.covered.covered.Goals as goal

@@ -1,5 +1,5 @@
 use Rattle.std.proofs.Common.{◌+◌, take}
-use Rattle.complex_index.specs.Levels.{level}
+use Rattle.complex_index.specs.Names.{level}
 use Rattle.facet_list.specs.Covered.{Covers}
 use Rattle.facet_list.proofs.covered.covered.Given as goal
 

@@ -1,5 +1,5 @@
 use Rattle.std.proofs.Common.{ℕ, ◌<◌, get_or, length, refl}
-use Rattle.linear_law.proofs.ListLemmas.{each_get_or}
+use Rattle.linear_law.proofs.Names.{each_get_or}
 use Rattle.facet_list.proofs.MarkLemmas.{one_marked}
 use Rattle.facet_list.proofs.covered.mark.Goals as goal
 

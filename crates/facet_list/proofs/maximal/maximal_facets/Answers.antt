@@ -1,7 +1,7 @@
 use Rattle.std.proofs.Common.{ℕ, ◌<◌, List, length, arith}
-use Rattle.linear_law.specs.Lists.{Each, IsAscending}
-use Rattle.complex_index.specs.Levels.{IsIndexOf}
-use Rattle.report_law.specs.Reports.{AreMaximalFacets}
+use Rattle.linear_law.specs.Names.{Each, IsAscending}
+use Rattle.complex_index.specs.Names.{IsIndexOf}
+use Rattle.report_law.specs.Names.{AreMaximalFacets}
 use Rattle.facet_list.proofs.FreeFacets.{are_maximal}
 use Rattle.facet_list.proofs.MarkLemmas.{more_free, with_listed}
 use Rattle.facet_list.proofs.maximal.maximal_facets.Goals as goal

@@ -1,6 +1,6 @@
 use Rattle.std.proofs.Common.{◌≡◌, take}
-use Rattle.simplicial_law.specs.Places.{terms_of}
-use Rattle.complex_index.specs.Levels.{level}
+use Rattle.simplicial_law.specs.Names.{terms_of}
+use Rattle.complex_index.specs.Names.{level}
 use Rattle.job_report.proofs.chains.chain_of.Given as goal
 
 abbrev pub invariant-loop-place : goal.invariant-loop-place

@@ -1,8 +1,7 @@
-use Rattle.std.proofs.Common.{◌∙◌, ◌≤◌, List, ap, arith, length, lit<}
+use Rattle.std.proofs.Common.{◌∙◌, ◌≤◌, List, ap, arith, length, lit<, take_all}
 use Rattle.complex_index.specs.declared.indexed.Cochain.{Cochain}
-use Rattle.complex_index.specs.Levels.{level}
-use Rattle.cohomology.specs.Classes.{chains_at}
-use Rattle.op_matrix.proofs.ListLemmas.{whole}
+use Rattle.complex_index.specs.Names.{level}
+use Rattle.cohomology.specs.Names.{chains_at}
 use Rattle.job_report.proofs.ClassLemmas.{chains-more, class-inside}
 use Rattle.job_report.proofs.chains.class_chains.Goals as goal
 
@@ -18,4 +17,4 @@ pub returns : goal.returns
 returns g c =
     let zs : List (Cochain g.row.P) = g.B.Basis.classes c.args.basis.now c.args.n in
     let all : length zs ≤ c.loop-i.i = omega arith in
-    c.from.ensures ∙ c.loop-i.invariant ∙ ap (chains_at {p = g.row.P} (level c.args.index.now c.args.n)) (whole zs c.loop-i.i all)
+    c.from.ensures ∙ c.loop-i.invariant ∙ ap (chains_at {p = g.row.P} (level c.args.index.now c.args.n)) (take_all c.loop-i.i zs all)

@@ -1,6 +1,6 @@
 use Rattle.std.proofs.Common.{◌≡◌, take}
-use Rattle.complex_index.specs.Levels.{level}
-use Rattle.cohomology.specs.Classes.{chains_at}
+use Rattle.complex_index.specs.Names.{level}
+use Rattle.cohomology.specs.Names.{chains_at}
 use Rattle.job_report.proofs.chains.class_chains.Given as goal
 
 abbrev pub invariant-loop-i : goal.invariant-loop-i

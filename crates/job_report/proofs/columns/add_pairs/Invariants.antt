@@ -1,5 +1,5 @@
 use Rattle.std.proofs.Common.{◌≡◌, ◌++◌, map}
-use Rattle.signed_sum.specs.Lists.{numbers_from}
+use Rattle.signed_sum.specs.Names.{numbers_from}
 use Rattle.job_report.proofs.columns.add_pairs.Given as goal
 
 abbrev pub invariant-loop-j : goal.invariant-loop-j

@@ -1,5 +1,4 @@
-use Rattle.std.proofs.Common.{◌-◌, lit<}
-use Rattle.std.specs.Prelude.{IsTrue}
+use Rattle.std.proofs.Common.{◌-◌, lit<, IsTrue}
 use Rattle.cohomology.specs.declared.basis.Column.{Column}
 use Rattle.job_report.specs.Listed.{IsInside, IsListedColumn}
 use Rattle.job_report.proofs.Zips.{each-item, zip-more}

@@ -1,5 +1,5 @@
 use Rattle.std.proofs.Common.{map}
-use Rattle.signed_sum.specs.Lists.{numbers_from}
+use Rattle.signed_sum.specs.Names.{numbers_from}
 use Rattle.job_report.proofs.Zips.{rows-more}
 use Rattle.job_report.proofs.columns.number_pairs.Goals as goal
 

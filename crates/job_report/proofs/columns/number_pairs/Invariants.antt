@@ -1,6 +1,5 @@
-use Rattle.std.proofs.Common.{◌≡◌, map}
-use Rattle.std.specs.Prelude.{flat_map}
-use Rattle.signed_sum.specs.Lists.{numbers_from}
+use Rattle.std.proofs.Common.{◌≡◌, map, flat_map}
+use Rattle.signed_sum.specs.Names.{numbers_from}
 use Rattle.job_report.proofs.columns.number_pairs.Given as goal
 
 abbrev pub invariant-loop-i : goal.invariant-loop-i

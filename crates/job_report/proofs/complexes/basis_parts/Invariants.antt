@@ -1,6 +1,6 @@
 use Rattle.std.proofs.Common.{false, length, take}
 use Rattle.std.specs.List.{AllZip}
-use Rattle.report_law.specs.Reports.{IsComplexPart}
+use Rattle.report_law.specs.Names.{IsComplexPart}
 use Rattle.job_report.proofs.complexes.basis_parts.Given as goal
 
 abbrev pub invariant-loop-block : goal.invariant-loop-block

@@ -1,8 +1,8 @@
 use Rattle.std.proofs.Common.{◌∙◌, ℕ, List, ap, arith, length, lit<, subst, sym}
 use Rattle.std.specs.List.{AllZip}
 use Rattle.report.specs.declared.complex.ComplexPart.{ComplexPart}
-use Rattle.report_law.specs.Live.{blocks, lines, products}
-use Rattle.class_matrices.specs.Matrices.{AreMatrices}
+use Rattle.report_law.specs.Names.{blocks, lines, products}
+use Rattle.class_matrices.specs.Names.{AreMatrices}
 use Rattle.job_report.specs.Parts.{IsListedLine, IsListedOperation, IsListedProduct}
 use Rattle.class_matrices.proofs.ListLemmas.{numbers-count}
 use Rattle.job_report.proofs.PartLemmas.{classes-are, part-is, stored-for}

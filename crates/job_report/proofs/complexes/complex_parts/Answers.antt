@@ -2,14 +2,13 @@ use Rattle.std.proofs.Common.{◌≡◌, ◌≤◌, ℕ, arith, get_or, length, 
 use Rattle.std.proofs.lemmas.Slice.Zip.{zip_end, zip_turn}
 use Rattle.std.specs.Iterator.Adapters.{zip_first, zip_second}
 use Rattle.std.specs.Slice.Iter.{iter_rest}
-use Rattle.linear_law.proofs.ListLemmas.{each_get_or, length_alike, length_push}
+use Rattle.linear_law.proofs.Names.{each_get_or, length_alike, length_push}
 use Rattle.complex_file.specs.declared.block.ComplexBlock.{ComplexBlock}
 use Rattle.report.specs.declared.complex.ComplexPart.{ComplexPart}
-use Rattle.report_law.specs.Parts.{classes_of}
-use Rattle.report_law.specs.Reports.{IsComplexPart}
+use Rattle.report_law.specs.Names.{classes_of, IsComplexPart}
 use Rattle.job_report.specs.declared.known.Known.{Known}
 use Rattle.job_report.specs.Jobs.{CanBeIndexed, HasStored, IsKnown}
-use Rattle.class_matrices.specs.Listed.{listed_classes}
+use Rattle.class_matrices.specs.Names.{listed_classes}
 use Rattle.job_report.proofs.PartLemmas.{all-listed}
 use Rattle.job_report.proofs.Zips.{all-items, zip-get, zip-turn-plain}
 use Rattle.job_report.proofs.complexes.complex_parts.Goals as goal

@@ -1,10 +1,9 @@
 use Rattle.std.proofs.Common.{◌≡◌, true, length, take}
 use Rattle.std.specs.List.{AllZip}
 use Rattle.report.specs.declared.complex.ComplexPart.{ComplexPart}
-use Rattle.report_law.specs.Parts.{classes_of}
-use Rattle.report_law.specs.Reports.{IsComplexPart}
+use Rattle.report_law.specs.Names.{classes_of, IsComplexPart}
 use Rattle.job_report.specs.declared.known.Known.{Known}
-use Rattle.class_matrices.specs.Listed.{listed_classes}
+use Rattle.class_matrices.specs.Names.{listed_classes}
 use Rattle.job_report.proofs.complexes.complex_parts.Given as goal
 
 abbrev pub invariant-loop-block : goal.invariant-loop-block

@@ -1,6 +1,6 @@
 use Rattle.std.proofs.Common.{◌≡◌, ℕ, List, arith, length, subst, sym}
 use Rattle.std.specs.List.{AllZip}
-use Rattle.signed_sum.specs.Lists.{numbers_from}
+use Rattle.signed_sum.specs.Names.{numbers_from}
 use Rattle.report.specs.declared.complex.DegreePart.{DegreePart}
 use Rattle.job_report.specs.Parts.{IsListedDegree}
 use Rattle.job_report.proofs.Zips.{counted-more}

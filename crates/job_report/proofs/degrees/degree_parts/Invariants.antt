@@ -1,5 +1,5 @@
 use Rattle.std.specs.List.{AllZip}
-use Rattle.signed_sum.specs.Lists.{numbers_from}
+use Rattle.signed_sum.specs.Names.{numbers_from}
 use Rattle.job_report.specs.Parts.{IsListedDegree}
 use Rattle.job_report.proofs.degrees.degree_parts.Given as goal
 

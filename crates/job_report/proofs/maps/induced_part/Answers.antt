@@ -1,7 +1,6 @@
-use Rattle.std.proofs.Common.{◌-◌, ℕ, List, get_or, lit<, subst, sym}
-use Rattle.std.specs.Prelude.{IsTrue}
+use Rattle.std.proofs.Common.{◌-◌, ℕ, List, get_or, lit<, subst, sym, IsTrue}
 use Rattle.std.specs.List.{AllZip}
-use Rattle.linear_law.specs.Lists.{Each}
+use Rattle.linear_law.specs.Names.{Each}
 use Rattle.cohomology.specs.declared.basis.Column.{Column}
 use Rattle.job_report.specs.Listed.{IsInside, IsListedColumn}
 use Rattle.job_report.proofs.TableLemmas.{induced-inside, listed-induced}

@@ -1,5 +1,5 @@
 use Rattle.std.proofs.Common.{◌∙◌, ℕ, List, ap, ap₂, arith, get_or, length}
-use Rattle.report_law.specs.Live.{induced_degrees}
+use Rattle.report_law.specs.Names.{induced_degrees}
 use Rattle.job_report.specs.Parts.{IsListedInduced}
 use Rattle.class_matrices.proofs.ListLemmas.{numbers-count}
 use Rattle.job_report.proofs.Zips.{all-items, zip-next}

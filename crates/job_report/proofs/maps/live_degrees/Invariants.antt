@@ -1,7 +1,7 @@
 use Rattle.std.proofs.Common.{◌≡◌, ◌&&◌}
 use Rattle.std.specs.List.{filter}
-use Rattle.signed_sum.specs.Lists.{numbers_from}
-use Rattle.report_law.specs.Live.{has_class}
+use Rattle.signed_sum.specs.Names.{numbers_from}
+use Rattle.report_law.specs.Names.{has_class}
 use Rattle.job_report.proofs.maps.live_degrees.Given as goal
 
 abbrev pub invariant-loop-q : goal.invariant-loop-q

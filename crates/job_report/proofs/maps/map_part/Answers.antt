@@ -1,11 +1,10 @@
 use Rattle.std.proofs.Common.{◌∙◌, ℕ, List, ap, arith, get_or, subst, sym}
-use Rattle.linear_law.proofs.ListLemmas.{length_alike}
-use Rattle.simplicial_law.proofs.ListedSimplices.{get_or_any}
+use Rattle.linear_law.proofs.Names.{length_alike}
+use Rattle.simplicial_law.proofs.Names.{get_or_any}
 use Rattle.complex_file.specs.declared.block.ComplexBlock.{ComplexBlock}
 use Rattle.complex_file.specs.declared.block.Sent.{Sent}
-use Rattle.complex_file.specs.Jobs.{facets_at}
-use Rattle.complex_file.specs.Maps.{image}
-use Rattle.report_law.specs.Reports.{AreOrderedSends}
+use Rattle.complex_file.specs.Names.{facets_at, image}
+use Rattle.report_law.specs.Names.{AreOrderedSends}
 use Rattle.job_report.specs.Jobs.{IsKnown}
 use Rattle.ordered_sends.specs.Sends.{IsOnce}
 use Rattle.job_report.proofs.JobLemmas.{map-in}

@@ -1,7 +1,6 @@
 use Rattle.std.proofs.Common.{List, [], take}
 use Rattle.std.specs.List.{AllZip}
-use Rattle.report_law.specs.Matrices.{Classes}
-use Rattle.report_law.specs.Reports.{IsMapPart}
+use Rattle.report_law.specs.Names.{Classes, IsMapPart}
 use Rattle.job_report.specs.Jobs.{AreAllListed}
 use Rattle.job_report.proofs.maps.map_parts.Given as goal
 

@@ -1,6 +1,6 @@
 use Rattle.std.proofs.Common.{ℕ, List, lit<, subst, sym}
 use Rattle.std.specs.List.{AllZip}
-use Rattle.linear_law.specs.Lists.{Each}
+use Rattle.linear_law.specs.Names.{Each}
 use Rattle.cohomology.specs.declared.basis.Column.{Column}
 use Rattle.job_report.specs.Listed.{IsListedColumn}
 use Rattle.job_report.proofs.TableLemmas.{inside, listed-operation, operations-inside}

@@ -1,10 +1,9 @@
 use Rattle.std.proofs.Common.{◌∙◌, ℕ, List, ap, lit<, map, subst, sym}
-use Rattle.linear_law.specs.Lists.{Among, Each}
+use Rattle.linear_law.specs.Names.{Among, Each}
 use Rattle.class_matrices.specs.declared.matrices.ProductMatrix.{ProductMatrix}
-use Rattle.class_matrices.specs.Matrices.{IsProductOf}
+use Rattle.class_matrices.specs.Names.{IsProductOf, class_counts}
 use Rattle.class_matrices.proofs.ListLemmas.{item-among}
-use Rattle.report_law.specs.Live.{products}
-use Rattle.class_matrices.specs.Listed.{class_counts}
+use Rattle.report_law.specs.Names.{products}
 use Rattle.job_report.specs.Parts.{IsListedProduct}
 use Rattle.job_report.proofs.TableLemmas.{product-sum}
 use Rattle.job_report.proofs.Zips.{all-headings, each-item, heading-more}

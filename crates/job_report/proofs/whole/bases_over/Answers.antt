@@ -1,11 +1,11 @@
 use Rattle.std.proofs.Common.{ℕ, List, false, subst, sym}
 use Rattle.std.specs.List.{AllZip}
-use Rattle.linear_law.specs.Lists.{Each}
+use Rattle.linear_law.specs.Names.{Each}
 use Rattle.complex_file.specs.declared.block.ComplexBlock.{ComplexBlock}
-use Rattle.complex_file.specs.Views.{content}
+use Rattle.complex_file.specs.Names.{content}
 use Rattle.report.specs.declared.form.Form.TheVariants.{Basis}
 use Rattle.report.specs.declared.map.MapPart.{MapPart}
-use Rattle.report_law.specs.Reports.{IsComplexPart, IsReportOf}
+use Rattle.report_law.specs.Names.{IsComplexPart, IsReportOf}
 use Rattle.job_report.specs.declared.known.Known.{Known}
 use Rattle.job_report.specs.Jobs.{CanBeIndexed, IsKnown}
 use Rattle.job_report.proofs.JobLemmas.{is-served, job-fits}

@@ -1,4 +1,4 @@
-use Rattle.job_report.proofs.PlanLemmas.{each-stored}
+use Rattle.line_difference.proofs.PlanLemmas.{each-stored}
 use Rattle.job_report.proofs.whole.charged.Goals as goal
 
 pub returns-in-Ok-clause-stored : goal.returns-in-Ok-clause-stored

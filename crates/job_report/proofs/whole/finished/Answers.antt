@@ -1,7 +1,6 @@
 use Rattle.std.proofs.Common.{List, lit<, subst, sym}
 use Rattle.std.specs.List.{AllZip}
-use Rattle.cohomology.specs.Cycles.{AreClassesOf}
-use Rattle.cohomology.specs.Data.{IsCohomologyOf}
+use Rattle.cohomology.specs.Names.{AreClassesOf, IsCohomologyOf}
 use Rattle.job_report.specs.declared.known.Known.{Known}
 use Rattle.job_report.specs.Jobs.{IsKnown}
 use Rattle.job_report.proofs.JobLemmas.{is-served}

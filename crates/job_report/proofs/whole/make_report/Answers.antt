@@ -1,5 +1,5 @@
 use Rattle.std.proofs.Common.{rules}
-use Rattle.report_law.proofs.Maps.{job-prime}
+use Rattle.report_law.proofs.Names.{job-prime}
 use Rattle.job_report.proofs.whole.make_report.Goals as goal
 
 pub unreachable-requires : goal.unreachable-requires

@@ -1,11 +1,10 @@
 use Rattle.std.proofs.Common.{ℕ, List, [], lit<, map, subst, sym, true}
 use Rattle.std.specs.List.{AllZip}
-use Rattle.linear_law.specs.Lists.{Each, IsAscending}
+use Rattle.linear_law.specs.Names.{Each, IsAscending}
 use Rattle.complex_file.specs.declared.block.ComplexBlock.{ComplexBlock}
 use Rattle.complex_file.specs.declared.block.MapBlock.{MapBlock}
-use Rattle.complex_file.specs.Views.{content}
-use Rattle.report_law.specs.Parts.{classes_of}
-use Rattle.report_law.specs.Reports.{IsComplexPart, IsMapPart}
+use Rattle.complex_file.specs.Names.{content}
+use Rattle.report_law.specs.Names.{classes_of, IsComplexPart, IsMapPart}
 use Rattle.job_report.specs.Jobs.{CanBeIndexed, HasStored, IsFreeMap, IsKnown}
 use Rattle.job_report.proofs.JobLemmas.{ascending-facets, free-maps, is-served, job-fits}
 use Rattle.job_report.proofs.PartLemmas.{whole-report}

@@ -1,5 +1,5 @@
 use Rattle.std.proofs.Common.{◌≡◌, take}
-use Rattle.complex_file.specs.Complexes.{ascending}
+use Rattle.complex_file.specs.Names.{ascending}
 use Rattle.sample_torus.proofs.family.triangle.Given as goal
 
 abbrev pub invariant-loop-v : goal.invariant-loop-v

@@ -1,6 +1,5 @@
-use Rattle.std.proofs.Common.{◌≡◌}
-use Rattle.std.specs.Prelude.{flat_map}
-use Rattle.signed_sum.specs.Lists.{numbers_from}
+use Rattle.std.proofs.Common.{◌≡◌, flat_map}
+use Rattle.signed_sum.specs.Names.{numbers_from}
 use Rattle.sample_torus.specs.Torus.{triangles_at}
 use Rattle.sample_torus.proofs.family.triangles.Given as goal
 

@@ -1,7 +1,7 @@
 use Rattle.std.proofs.Common.{◌∙◌, List, ap, ap₂, length, map, subst, sym}
 use Rattle.report.specs.declared.complex.DegreePart.{DegreePart}
-use Rattle.report_law.specs.Terms.{simplex_counts}
-use Rattle.term_total.specs.Counts.{IsPart}
+use Rattle.report_law.specs.Names.{simplex_counts}
+use Rattle.term_total.specs.Names.{IsPart}
 use Rattle.sample_torus.proofs.SampleLemmas.{is_part, ranks_same}
 use Rattle.sample_torus.proofs.sizes.sizes_of.Goals as goal
 

@@ -1,11 +1,10 @@
-use Rattle.std.proofs.Common.{◌∙◌, ◌-◌, ◌≤◌, ◌<◌, ℕ, ap, arith, length, lit<, map, subst, sym}
-use Rattle.simplicial_law.specs.Places.{terms_of}
+use Rattle.std.proofs.Common.{◌∙◌, ◌-◌, ◌≤◌, ◌<◌, ℕ, ap, arith, length, lit<, map, subst, sym, take_all}
+use Rattle.simplicial_law.specs.Names.{terms_of}
 use Rattle.sparse_rows.specs.Rows.{IsBelow}
-use Rattle.complex_index.specs.Levels.{level}
+use Rattle.complex_index.specs.Names.{level}
 use Rattle.cohomology.specs.declared.data.Coboundary.{Coboundary}
-use Rattle.cohomology.specs.Data.{coboundaries_in}
-use Rattle.report_law.specs.Columns.{ArePrimitives}
-use Rattle.op_matrix.proofs.ListLemmas.{whole}
+use Rattle.cohomology.specs.Names.{coboundaries_in}
+use Rattle.report_law.specs.Names.{ArePrimitives}
 use Rattle.job_report.proofs.ColumnLemmas.{primitive-placed, primitives-are, primitives-more}
 use Rattle.job_report.proofs.depth.CohomologyDepth.primitives.Goals as goal
 
@@ -35,5 +34,5 @@ returns g c = λ t facets is.
     let bs = coboundaries_in {p = p} c.args.self.now n in
     let done : length bs ≤ c.loop-t.t = omega arith in
     subst (ArePrimitives facets n p)
-    (sym (c.from.ensures ∙ c.loop-t.invariant ∙ ap (map (λ (b : Coboundary p). terms_of (level c.args.index.now (n - 1)) b.primitive.row)) (whole bs c.loop-t.t done)))
+    (sym (c.from.ensures ∙ c.loop-t.invariant ∙ ap (map (λ (b : Coboundary p). terms_of (level c.args.index.now (n - 1)) b.primitive.row)) (take_all c.loop-t.t bs done)))
     (primitives-are facets c.args.index.now p is n bs (c.requires.coboundaries n))

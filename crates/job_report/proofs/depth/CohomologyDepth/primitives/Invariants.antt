@@ -1,7 +1,7 @@
 use Rattle.std.proofs.Common.{◌≡◌, ◌-◌, map, take}
-use Rattle.simplicial_law.specs.Places.{terms_of}
-use Rattle.complex_index.specs.Levels.{level}
-use Rattle.cohomology.specs.Data.{coboundaries_in}
+use Rattle.simplicial_law.specs.Names.{terms_of}
+use Rattle.complex_index.specs.Names.{level}
+use Rattle.cohomology.specs.Names.{coboundaries_in}
 use Rattle.job_report.proofs.depth.CohomologyDepth.primitives.Given as goal
 
 abbrev pub invariant-loop-t : goal.invariant-loop-t
