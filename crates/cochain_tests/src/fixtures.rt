@@ -1,13 +1,13 @@
 //! Complexes, maps, cochains and May elements for the tests.
 ghost use Rattle.std.specs.Prelude.{◌≡◌, ◌≤◌, ◌<◌, length, IfOk, IsSome, IsTrue};
-ghost use Rattle.linear_law.specs.Lists.{Each};
+ghost use Rattle.linear_law.specs.Names.{Each};
 ghost use Rattle.fp_field.specs.Served.{served};
 ghost use Rattle.sparse_rows.specs.Rows.{IsBelow};
-ghost use Rattle.complex_index.specs.Levels.{level};
+ghost use Rattle.complex_index.specs.Names.{level};
 ghost use Rattle.may_elements.specs.Stored.{stored_at};
-ghost use Rattle.term_total.specs.Counts.{IsPart};
+ghost use Rattle.term_total.specs.Names.{IsPart};
 ghost use Rattle.job_report.specs.Jobs.{CanBeIndexed};
-ghost use Rattle.class_matrices.specs.Matrices.{AreStored};
+ghost use Rattle.line_difference.specs.Elements.{AreStored};
 
 use comch_io::Listed;
 use complex_file::{ComplexBlock, Job, read_job};
@@ -21,9 +21,9 @@ use std::alloc::{AllocError, Global};
 use std::test::Fail;
 use term_total::total;
 
-// The job with these blocks, in which a semicolon stands for the end of a line, and a comma begins a facet.
-fn job_of(alloc: Global, blocks: &str) -> Result<Job, Fail> {
-    let job = format!(in alloc; "comch 1;prime 2;{blocks}")?;
+/// The job with these blocks, in which a semicolon stands for the end of a line, and a comma begins a facet.
+pub fn job_of(alloc: Global, prime: u32, blocks: &str) -> Result<Job, Fail> {
+    let job = format!(in alloc; "comch 1;prime {prime};{blocks}")?;
     let lines = job.replace(alloc, ",", ";facet ")?;
     let text = lines.replace(alloc, ";", "\n")?;
     Ok(read_job(alloc, text.as_bytes()).ok().ok_or("no job")?)
@@ -40,7 +40,7 @@ fn index_at(alloc: Global, complexes: &[ComplexBlock], at: usize) -> Result<Inde
 
 /// The index of the first of these complexes.
 pub fn index_of(alloc: Global, blocks: &str) -> Result<Indexed, Fail> {
-    let job = job_of(alloc, blocks)?;
+    let job = job_of(alloc, 2, blocks)?;
     let complexes = job.complexes.as_slice();
     if complexes.is_empty() {
         return Err("no complex".into());

@@ -1,8 +1,8 @@
 //! What is found of a complex, as text.
 ghost use Rattle.std.specs.Prelude.{◌≡◌, ◌≤◌, length, IfOk, IsTrue};
 ghost use Rattle.fp_field.specs.Served.{served};
-ghost use Rattle.class_matrices.specs.Listed.{class_counts};
-ghost use Rattle.class_matrices.specs.Matrices.{AreStored};
+ghost use Rattle.class_matrices.specs.Names.{class_counts};
+ghost use Rattle.line_difference.specs.Elements.{AreStored};
 
 use crate::fixtures::{elements, index_of};
 use cartan_check::{Verdict, cartan};
@@ -10,7 +10,7 @@ use cohomology::{Basis, Classes, Cohomology, Column};
 use complex_index::{Cochain, Indexed};
 use may_elements::MayTable;
 use op_matrix::{matrix, ring};
-use report::Op;
+use report::{InducedPart, MapPart, Op};
 use std::alloc::{AllocError, Global};
 use std::test::Fail;
 use term_total::{blocks, lines, products};
@@ -59,6 +59,30 @@ pub fn columns<const P: u32>(alloc: Global, columns: &[Column<P>]) -> Result<Str
     for column in columns {
         let values = values(alloc, column)?;
         text = format!(in alloc; "{text} is{values}")?;
+    }
+    Ok(text)
+}
+
+// A block of a map, with its values behind the word `is` for each column.
+fn induced_block(alloc: Global, block: &InducedPart) -> Result<String, AllocError> {
+    let mut text = format!(in alloc; "induced {}", block.q)?;
+    for column in block.columns.as_slice() {
+        text = format!(in alloc; "{text} is")?;
+        for value in column.values.as_slice() {
+            text = format!(in alloc; "{text} {value}")?;
+        }
+    }
+    format!(in alloc; "{text};")
+}
+
+/// The blocks of maps.
+pub fn induced_blocks(alloc: Global, maps: &[MapPart]) -> Result<String, AllocError> {
+    let mut text = String::new(alloc);
+    for map in maps {
+        for block in map.induced.as_slice() {
+            let block = induced_block(alloc, block)?;
+            text = format!(in alloc; "{text}{block}")?;
+        }
     }
     Ok(text)
 }

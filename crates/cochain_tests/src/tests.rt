@@ -1,14 +1,18 @@
-use crate::fixtures::{cochain, element, index_of};
-use crate::spelled::{chain, columns, reports};
+use crate::fixtures::{cochain, element, index_of, job_of};
+use crate::spelled::{chain, columns, induced_blocks, reports};
 use crate::texts::{
-    CIRCLE, CIRCLE_REPORT, DISC, MOORE, MOORE_REPORT, PLANE, PLANE_REPORT, TORUS, TORUS_REPORT,
-    TWO_POINTS, TWO_POINTS_REPORT,
+    CIRCLE, CIRCLE_REPORT, CONSTANT_MAP, DISC, MOORE, MOORE_REPORT, PLANE, PLANE_REPORT, TORUS,
+    TORUS_REPORT, TWO_POINTS, TWO_POINTS_REPORT,
 };
-use cohomology::{Classes, Cohomology, CoordinatesRefused};
+use cartan_check::{Verdict, verdict_of_column};
+use cohomology::{Basis, Classes, Cohomology, CoordinatesRefused};
+use complex_index::{MapOn, pull};
+use job_report::make_report;
+use line_difference::operation;
 use may_elements::MayTable;
 use may_steenrod::{bp_op, cup, d_op, p_op, sq};
-use op_matrix::{matrix, operation, ring};
-use report::{Block, Op, Product};
+use op_matrix::{matrix, ring};
+use report::{Block, Form, Op, Product};
 use std::test::Fail;
 
 #[test]
@@ -211,5 +215,50 @@ fn an_edge_of_a_disc_is_not_closed(rt: HostRuntime) -> Result<(), Fail> {
         _ => assert!(rt; false),
     }
     assert!(rt; deep.primitive(alloc, &disc, &edge)?.is_none());
+    Ok(())
+}
+
+#[test]
+fn a_class_is_no_coboundary(rt: HostRuntime) -> Result<(), Fail> {
+    let alloc = rt.alloc();
+    let circle = index_of(alloc, CIRCLE)?;
+    let deep = Cohomology::<3>::of(alloc, &circle)?;
+    let edges = cochain::<3>(alloc, &circle, 1, &[(2, &[0, 1]), (2, &[1, 2])])?;
+    let column = deep.column(alloc, &edges)?;
+    match verdict_of_column(alloc, &deep, 1, column)? {
+        Verdict::No { value, cycle } => {
+            assert_eq!(rt; value.value(), 1);
+            let cycle = cycle.ok_or("no cycle")?;
+            assert_eq!(rt;
+                chain(alloc, &circle, &cycle)?.as_str(),
+                " 1:0.1 2:0.2 1:1.2"
+            );
+        }
+        Verdict::Yes { .. } => assert!(rt; false),
+    }
+    Ok(())
+}
+
+#[test]
+fn a_constant_map_pulls_back_to_zero(rt: HostRuntime) -> Result<(), Fail> {
+    let alloc = rt.alloc();
+    let circle = index_of(alloc, CIRCLE)?;
+    let map = MapOn::of(alloc, &[(0, 0), (1, 0), (2, 0)])?;
+    let edge = cochain::<3>(alloc, &circle, 1, &[(1, &[1, 2])])?;
+    assert!(rt; pull(alloc, &map, &circle, &circle, &edge)?.row.is_zero());
+    Ok(())
+}
+
+#[test]
+fn a_constant_map_induces_zero(rt: HostRuntime) -> Result<(), Fail> {
+    let alloc = rt.alloc();
+    let job = job_of(alloc, 3, CONSTANT_MAP)?;
+    for form in [Form::Short, Form::Certificate] {
+        let report = make_report(alloc, &job, form, 1_000).ok().ok_or("refused")?;
+        assert_eq!(rt;
+            induced_blocks(alloc, report.maps.as_slice())?.as_str(),
+            "induced 0 is 1;induced 1 is 0;"
+        );
+    }
     Ok(())
 }

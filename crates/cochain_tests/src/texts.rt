@@ -17,6 +17,9 @@ pub const MOORE: &str = "complex moore\
 
 pub const TWO_POINTS: &str = "complex two,0,1;end;";
 
+pub const CONSTANT_MAP: &str = "complex circle,0 1,0 2,1 2;end;\
+    map constant circle circle;send 0 0;send 1 0;send 2 0;end;";
+
 pub const CIRCLE_REPORT: &str = "\
     degree 0 rank 1;class 1:0 1:1 1:2;degree 1 rank 1;class 1:1.2;product 0 0 is 1;product 0 1 is 1;\
     product 1 0 is 1;operation P 0 from 0 to 0 is 1;operation P 0 from 1 to 1 is 1;cartan 0 1 0 1 0 yes;\

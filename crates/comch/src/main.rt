@@ -4,6 +4,7 @@
 use comch_app::run;
 use comch_io::{StdSink, StdSource};
 use std::env;
+use std::io::ErrorKind;
 use std::process::ExitCode;
 
 fn main(rt: HostRuntime) -> ExitCode {
@@ -13,6 +14,8 @@ fn main(rt: HostRuntime) -> ExitCode {
             Ok(words) => words,
             Err(_) => return ExitCode::from(5),
         },
+        // Words that are not UTF-8 are not taken, as no words are not.
+        Err(error) if error.kind() == ErrorKind::InvalidData => Vec::new(alloc),
         Err(_) => return ExitCode::from(5),
     };
     let mut source = StdSource::new(rt.stdin());

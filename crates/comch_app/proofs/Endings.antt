@@ -1,10 +1,9 @@
 -- How a run ends, by the text that was to be written.
-use Rattle.std.proofs.Common.{◌≡◌, List, ℕ, inl, inr, refl, subst, Some, None, Ok, Err, IfSome, length, ◌<◌}
-use Rattle.std.specs.Prelude.{Bool, Result, nat_lt, true, false, if◌then◌else◌}
+use Rattle.std.proofs.Common.{◌≡◌, ◌+◌, ◌<◌, List, [], ◌++◌, ℕ, inl, inr, refl, sym, subst, arith, Some, None, Ok, Err, IfOk, length, length-append, append-nil, Result, unwrap_or, lt-ltb}
 use Rattle.std.specs.declared.option.Option.{Option}
-use Rattle.std.specs.Io.KnownBytes.{Appends}
-use Rattle.std.proofs.lemmas.Bool.{ltb-true}
-use Rattle.comch_io.specs.Reading.{ReadsAs, read_answer}
+use Rattle.std.specs.Io.KnownBytes.{Appends, IsAtEnd}
+use Rattle.comch_io.specs.Causes.{Rose}
+use Rattle.comch_io.specs.Reading.{Gave, ReadGave}
 use Rattle.comch_io.specs.declared.read_end.ReadEnd.{ReadEnd}
 use Rattle.comch_io.specs.declared.read_end.ReadEnd.TheVariants as end
 use Rattle.complex_file.specs.Input.{input_of}
@@ -12,19 +11,10 @@ use Rattle.complex_file.specs.declared.kind.InputKind.TheVariants.{TooLong}
 use Rattle.complex_file.specs.declared.kind.InputKind.{InputKind}
 use Rattle.report.specs.declared.form.Form.{Form}
 use Rattle.report.specs.declared.form.Form.TheVariants.{Basis}
-use Rattle.comch_app.specs.Answers.{Ends, MayAnswers, RefusesWords, ReportAnswers, WritesRefusal}
-use Rattle.comch_app.specs.Refusals.{refusal}
-use Rattle.comch_app.specs.Checks.{CheckAnswers}
-use Rattle.comch_app.specs.Samples.{SampleAnswers}
-use Rattle.comch_app.specs.Steps.{AskedAnswers, SaysIt, WantedAnswers, most_bytes}
-use Rattle.comch_app.specs.declared.answer.Asked.{Asked}
+use Rattle.comch_app.specs.Names.{AtFault, Ends, EndsRead, MayAnswers, RefusesWords, ReportAnswers, WritesRefusal, refusal, CheckAnswers, SampleAnswers, AnswersRead, AskedAnswers, IsMade, SaysIt, StopCause, WantedAnswers, most_bytes, Stop, Asked, Request, May, Sample, Wanted, Status, BadWords, InputRefused, OutOfMemory, ReadFault, WriteFault}
+use Rattle.comch_app.specs.declared.answer.Stop.TheVariants as stop
 use Rattle.comch_app.specs.declared.answer.Asked.TheVariants as asked
-use Rattle.comch_app.specs.declared.request.Request.{Request}
-use Rattle.comch_app.specs.declared.request.Request.TheVariants.{May, Sample}
-use Rattle.comch_app.specs.declared.answer.Wanted.{Wanted}
 use Rattle.comch_app.specs.declared.answer.Wanted.TheVariants as wanted
-use Rattle.comch_app.specs.declared.status.Status.{Status}
-use Rattle.comch_app.specs.declared.status.Status.TheVariants.{BadWords, InputRefused, OutOfMemory, ReadFault, WriteFault}
 
 -- a text that was written whole
 whole : (answers : Status → List ℕ → Type 0) (s : Status) (text : List ℕ) (old new : Option (List ℕ)) → (answers WriteFault text → ⊥) → answers s text → Appends old new text → Ends answers old new s
@@ -36,18 +26,16 @@ said_ends : (answers : Status → List ℕ → Type 0) (s : Status) (text : List
 said_ends answers s text old new r never a (inl h) = rw h.0 (whole answers s text old new never a h.1)
 said_ends answers s text old new r never a (inr h) = rw h.0 (s, text, a, h.1)
 
--- what holds for all values holds for the one that there may be
-pub for_each : {X : Type 0} (o : Option X) (P : X → Type 0) → ((x : X) → P x) → IfSome o P
-for_each None P f = tt
-for_each (Some x) P f = f x
-
 never_report : (form : Form) (limit : Option ℕ) (bytes text : List ℕ) → ReportAnswers form limit bytes WriteFault text → ⊥
 never_report form limit bytes text (job, spelled, a) = a
 
-pub asked_ends : (a : Asked) (bytes : List ℕ) (s : Status) (text : List ℕ) (old new : Option (List ℕ)) (r : Status) → AskedAnswers a bytes s text → SaysIt s text old new r → Ends (AskedAnswers a bytes) old new r
-asked_ends (asked.OfJob wanted.Bases) bytes s text old new r a says = said_ends (ReportAnswers Basis None bytes) s text old new r (never_report Basis None bytes text) a says
-asked_ends (asked.OfJob (wanted.Report form limit)) bytes s text old new r a says = said_ends (ReportAnswers form (Some limit) bytes) s text old new r (never_report form (Some limit) bytes text) a says
-asked_ends asked.Verdict bytes s text old new r a says = said_ends (CheckAnswers bytes) s text old new r (λ h. h) a says
+never_asked : (a : Asked) (bytes text : List ℕ) → AskedAnswers a bytes WriteFault text → ⊥
+never_asked (asked.OfJob wanted.Bases) bytes text h = never_report Basis None bytes text h
+never_asked (asked.OfJob (wanted.Report form limit)) bytes text h = never_report form (Some limit) bytes text h
+never_asked asked.Verdict bytes text h = h
+
+asked_ends : (a : Asked) (failed : Type 0) (bytes : List ℕ) (s : Status) (text : List ℕ) (old new : Option (List ℕ)) (r : Status) → AtFault failed (AskedAnswers a bytes) s text → SaysIt s text old new r → Ends (AtFault failed (AskedAnswers a bytes)) old new r
+asked_ends a failed bytes s text old new r h says = said_ends (AtFault failed (AskedAnswers a bytes)) s text old new r (never_asked a bytes text) h says
 
 memory_asked : (a : Asked) (bytes : List ℕ) → AskedAnswers a bytes OutOfMemory (refusal OutOfMemory)
 memory_asked (asked.OfJob wanted.Bases) bytes = refl
@@ -59,11 +47,37 @@ read_asked (asked.OfJob wanted.Bases) bytes = refl
 read_asked (asked.OfJob (wanted.Report form limit)) bytes = refl
 read_asked asked.Verdict bytes = refl
 
-pub memory_ends : (a : Asked) (o old new : Option (List ℕ)) (r : Status) → SaysIt OutOfMemory (refusal OutOfMemory) old new r → IfSome o (λ bytes. Ends (AskedAnswers a bytes) old new r)
-memory_ends a o old new r says = for_each o _ (λ bytes. asked_ends a bytes OutOfMemory (refusal OutOfMemory) old new r (memory_asked a bytes) says)
+-- an answer that the work itself gave is no failed read
+made_answer : (failed : Type 0) (answers : Status → List ℕ → Type 0) (s : Status) (text : List ℕ) → IsMade s text → answers s text → AtFault failed answers s text
+made_answer failed answers ReadFault text m a = absurd m
+made_answer failed answers _ text m a = a
 
-pub read_ends : (a : Asked) (o old new : Option (List ℕ)) (r : Status) → SaysIt ReadFault (refusal ReadFault) old new r → IfSome o (λ bytes. Ends (AskedAnswers a bytes) old new r)
-read_ends a o old new r says = for_each o _ (λ bytes. asked_ends a bytes ReadFault (refusal ReadFault) old new r (read_asked a bytes) says)
+pub made_ends : (a : Asked) (left left_now : Option (List ℕ)) (given given_now faults faults_now : ℕ) (s : Status) (text written : List ℕ) (old new : Option (List ℕ)) (r : Status)
+    → AnswersRead a left left_now given given_now (Ok (s, text)) → IsMade s text → written ≡ text → SaysIt s written old new r → EndsRead (AskedAnswers a) left left_now given given_now faults faults_now old new r
+made_ends a left left_now given given_now faults faults_now s text written old new r h made same says = record {
+  read = h.read;
+  gave = h.gave;
+  ends = asked_ends a (Rose faults faults_now) (h.read ++ unwrap_or left_now []) s text old new r (made_answer (Rose faults faults_now) (AskedAnswers a (h.read ++ unwrap_or left_now [])) s text made h.answer)
+      (subst (λ (t : List ℕ). SaysIt s t old new r) same says);
+}
+
+pub memory_ends : (a : Asked) (left left_now : Option (List ℕ)) (given given_now faults faults_now : ℕ) (read : List ℕ) (old new : Option (List ℕ)) (r : Status) → Gave left left_now given given_now read
+    → SaysIt OutOfMemory (refusal OutOfMemory) old new r → EndsRead (AskedAnswers a) left left_now given given_now faults faults_now old new r
+memory_ends a left left_now given given_now faults faults_now read old new r gave says =
+    let bytes : List ℕ = read ++ unwrap_or left_now [] in
+    record { read = read; gave = gave; ends = asked_ends a (Rose faults faults_now) bytes OutOfMemory (refusal OutOfMemory) old new r (memory_asked a bytes) says }
+
+pub read_ends : (a : Asked) (left left_now : Option (List ℕ)) (given given_now faults faults_now : ℕ) (read : List ℕ) (e : Stop) (old new : Option (List ℕ)) (r : Status) → Gave left left_now given given_now read
+    → e ≡ stop.Read → StopCause {X = Status × List ℕ} faults faults_now (Err e) → SaysIt ReadFault (refusal ReadFault) old new r → EndsRead (AskedAnswers a) left left_now given given_now faults faults_now old new r
+read_ends a left left_now given given_now faults faults_now read e old new r gave is cause says =
+    let bytes : List ℕ = read ++ unwrap_or left_now [] in
+    let failed : StopCause {X = Status × List ℕ} faults faults_now (Err stop.Read) = subst (λ (x : Stop). StopCause {X = Status × List ℕ} faults faults_now (Err x)) is cause in
+    record { read = read; gave = gave; ends = asked_ends a (Rose faults faults_now) bytes ReadFault (refusal ReadFault) old new r (read_asked a bytes, failed.1) says }
+
+-- nothing was read
+pub none_given : (left : Option (List ℕ)) (given : ℕ) → Gave left left given given []
+none_given None given = (tt, omega arith)
+none_given (Some bytes) given = (refl, omega arith)
 
 -- a failed read has its line
 pub read_refuses : (old new : Option (List ℕ)) (r : Status) → SaysIt ReadFault (refusal ReadFault) old new r → WritesRefusal old new r
@@ -104,36 +118,48 @@ memory_ends_words old new r says = said_ends RefusesWords OutOfMemory (refusal O
 pub words_end : (old new : Option (List ℕ)) (r : Status) → SaysIt BadWords (refusal BadWords) old new r → Ends RefusesWords old new r
 words_end old new r says = said_ends RefusesWords BadWords (refusal BadWords) old new r (λ h. h) refl says
 
--- an input that is too long is refused as such
-by_test : {X Y : Type 0} (long : Bool) (xs : List ℕ) (e : X) (y : Result Y X) → (if long then Err end.TooLong else Ok xs) ≡ Err end.TooLong → (if long then Err e else y) ≡ Err e
-by_test true xs e y h = refl
-by_test false xs e y h = cc
+-- ---- what was read
 
-refused_as_long : (bytes : List ℕ) → read_answer 1048576 bytes ≡ Err end.TooLong → input_of bytes ≡ Err (record { kind = TooLong; line = 0 })
-unfolding input_of
-refused_as_long bytes h = by_test (nat_lt 1048576 (length bytes)) bytes _ _ h
+-- nothing is left behind all that was read
+pub all_read : (o : Option (List ℕ)) (bytes : List ℕ) → IsAtEnd o → bytes ++ unwrap_or o [] ≡ bytes
+all_read None bytes h = append-nil bytes
+all_read (Some xs) bytes h = rw h (append-nil bytes)
 
-pub refused_wanted : (w : Wanted) (bytes : List ℕ) (kind : InputKind) (line : ℕ) (text : List ℕ) → input_of bytes ≡ Err (record { kind = kind; line = line }) → text ≡ refusal (InputRefused kind line)
+pub whole_answers : (a : Asked) (left left_now : Option (List ℕ)) (given given_now : ℕ) (bytes : List ℕ) (result : Result (Status × List ℕ) Stop) → Gave left left_now given given_now bytes → IsAtEnd left_now
+    → IfOk result (λ p. AskedAnswers a bytes p.0 p.1) → AnswersRead a left left_now given given_now result
+whole_answers a left left_now given given_now bytes result gave end h = record {
+  read = bytes;
+  gave = gave;
+  answer = subst (λ (xs : List ℕ). IfOk result (λ p. AskedAnswers a xs p.0 p.1)) (sym (all_read left_now bytes end)) h;
+}
+
+refused_wanted : (w : Wanted) (bytes : List ℕ) (kind : InputKind) (line : ℕ) (text : List ℕ) → input_of bytes ≡ Err (record { kind = kind; line = line }) → text ≡ refusal (InputRefused kind line)
     → WantedAnswers w bytes (InputRefused kind line) text
 refused_wanted wanted.Bases bytes kind line text e text_is = (e, text_is)
 refused_wanted (wanted.Report form limit) bytes kind line text e text_is = (e, text_is)
 
 -- so many bytes are more than may be read
-too_many : (most : ℕ) (bytes : List ℕ) → read_answer most bytes ≡ Err end.TooLong → most < length bytes
-too_many most bytes h = ltb-true most (length bytes) (by_length (nat_lt most (length bytes)) h)
-  where
-    by_length : (long : Bool) → (if long then Err end.TooLong else Ok bytes) ≡ Err end.TooLong → long ≡ true
-    by_length true e = refl
-    by_length false e = absurd cc
+refused_as_long : (bytes : List ℕ) → 1048576 < length bytes → input_of bytes ≡ Err (record { kind = TooLong; line = 0 })
+unfolding input_of
+refused_as_long bytes h = rw (lt-ltb 1048576 (length bytes) h) refl
 
-long_asked : (a : Asked) (bytes text : List ℕ) → read_answer (most_bytes a) bytes ≡ Err end.TooLong → text ≡ refusal (InputRefused TooLong 0) → AskedAnswers a bytes (InputRefused TooLong 0) text
+long_asked : (a : Asked) (bytes text : List ℕ) → most_bytes a < length bytes → text ≡ refusal (InputRefused TooLong 0) → AskedAnswers a bytes (InputRefused TooLong 0) text
 long_asked (asked.OfJob w) bytes text long text_is = refused_wanted w bytes TooLong 0 text (refused_as_long bytes long) text_is
-long_asked asked.Verdict bytes text long text_is = (too_many 33554432 bytes long, refl, refl, text_is)
+long_asked asked.Verdict bytes text long text_is = (long, refl, refl, text_is)
 
-pub long_answers : (a : Asked) (o : Option (List ℕ)) (e : ReadEnd) (s : Status) (text : List ℕ) (most : ℕ) → most ≡ most_bytes a → e ≡ end.TooLong → IfSome o (λ xs. ReadsAs (Err e) (read_answer most xs))
-    → s ≡ InputRefused TooLong 0 → text ≡ refusal (InputRefused TooLong 0) → IfSome o (λ bytes. AskedAnswers a bytes s text)
-long_answers a None e s text most most_is long h same text_is = tt
-long_answers a (Some bytes) e s text most most_is long h same text_is =
-    let answer : ReadsAs (Err end.TooLong) (read_answer (most_bytes a) bytes) =
-    subst (λ (n : ℕ). ReadsAs (Err end.TooLong) (read_answer n bytes)) most_is (subst (λ (x : ReadEnd). ReadsAs (Err x) (read_answer most bytes)) long h) in
-    rw same (long_asked a bytes text answer text_is)
+pub long_answers : (a : Asked) (left left_now : Option (List ℕ)) (given given_now most : ℕ) (e : ReadEnd) (s : Status) (text : List ℕ) → most ≡ most_bytes a → e ≡ end.TooLong
+    → ReadGave most left left_now given given_now (Err e) → s ≡ InputRefused TooLong 0 → text ≡ refusal (InputRefused TooLong 0) → AnswersRead a left left_now given given_now (Ok (s, text))
+long_answers a left left_now given given_now most e s text most_is long gave same text_is =
+    let h : ReadGave most left left_now given given_now (Err end.TooLong) = subst (λ (x : ReadEnd). ReadGave most left left_now given given_now (Err x)) long gave in
+    record {
+      read = h.0;
+      gave = h.2;
+      answer = rw same (long_asked a (h.0 ++ unwrap_or left_now []) text (omega (arith, most_is, h.1, length-append h.0 (unwrap_or left_now []))) text_is);
+    }
+
+-- what the bytes were that a source gave which tells what it has left
+pub told_ends : (answers : List ℕ → Status → List ℕ → Type 0) (bytes : List ℕ) (left_now : Option (List ℕ)) (given given_now faults faults_now : ℕ) (old new : Option (List ℕ)) (r : Status)
+    → EndsRead answers (Some bytes) left_now given given_now faults faults_now old new r → Ends (AtFault (Rose faults faults_now) (answers bytes)) old new r
+told_ends answers bytes None given given_now faults faults_now old new r h = absurd h.gave.0
+told_ends answers bytes (Some rest) given given_now faults faults_now old new r h =
+    subst (λ (xs : List ℕ). Ends (AtFault (Rose faults faults_now) (answers xs)) old new r) (sym h.gave.0) h.ends

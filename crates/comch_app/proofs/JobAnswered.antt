@@ -2,22 +2,17 @@
 use Rattle.std.proofs.Common.{◌≡◌, ℕ, List, Some, None, Ok, Err, Result, IfOk, true, ap, subst, sym}
 use Rattle.std.specs.declared.alloc.AllocError.{AllocError}
 use Rattle.std.specs.declared.option.Option.{Option}
-use Rattle.complex_file.specs.Input.{Spelled, input_of}
+use Rattle.complex_file.specs.Names.{Spelled}
+use Rattle.complex_file.specs.Input.{input_of}
 use Rattle.complex_file.specs.Jobs.{is_job}
 use Rattle.report.specs.declared.form.Form.{Form}
 use Rattle.report.specs.declared.form.Form.TheVariants.{Basis}
 use Rattle.report.specs.declared.job.Report.{Report}
-use Rattle.report_law.proofs.HeadlineProof.{headline_law}
-use Rattle.report_law.specs.Reports.{IsReportOf}
-use Rattle.report_law.specs.Terms.{PassesLimit}
+use Rattle.report_law.proofs.Names.{headline_law}
+use Rattle.report_law.specs.Names.{IsReportOf, PassesLimit}
 use Rattle.report_text_law.specs.Text.{text_of}
-use Rattle.comch_app.specs.Answers.{IsReportText, JobAnswers, ReportAnswers}
-use Rattle.comch_app.specs.Refusals.{refusal}
-use Rattle.comch_app.specs.Steps.{IsMade, WantedAnswers, WantedOf}
-use Rattle.comch_app.specs.declared.answer.Wanted.{Wanted}
+use Rattle.comch_app.specs.Names.{IsReportText, JobAnswers, ReportAnswers, refusal, IsMade, WantedAnswers, WantedOf, Wanted, Status, Done, TooManyTerms}
 use Rattle.comch_app.specs.declared.answer.Wanted.TheVariants as wanted
-use Rattle.comch_app.specs.declared.status.Status.{Status}
-use Rattle.comch_app.specs.declared.status.Status.TheVariants.{Done, TooManyTerms}
 
 -- the text of a report that was made
 pub is_report_text : (form : Form) (job : Spelled) (r : Report) (text : List ℕ) → is_job job.prime job.complexes job.maps ≡ true → IsReportOf form job r → text ≡ text_of form r → IsReportText form job text

@@ -1,12 +1,9 @@
 -- The answers of `sample`.
 use Rattle.std.proofs.Common.{◌≡◌, ◌+◌, ◌^◌, ℕ, List, ◌++◌, [], ◌∷◌, Ok, Err, Result, IfOk, ap, subst, sym, ◌∙◌, append_assoc}
 use Rattle.std.specs.declared.alloc.AllocError.{AllocError}
-use Rattle.report_law.specs.Terms.{PassesLimit}
+use Rattle.report_law.specs.Names.{PassesLimit}
 use Rattle.sample_torus.specs.Torus.{torus_job}
-use Rattle.comch_app.specs.Refusals.{refusal}
-use Rattle.comch_app.specs.Samples.{SampleAnswers}
-use Rattle.comch_app.specs.declared.status.Status.{Status}
-use Rattle.comch_app.specs.declared.status.Status.TheVariants.{TooManyTerms}
+use Rattle.comch_app.specs.Names.{refusal, SampleAnswers, Status, TooManyTerms}
 
 -- a text that grows by five parts
 pub five_parts : (a b c d e start one two three four five : List ℕ) → start ≡ [] → one ≡ start ++ a → two ≡ one ++ b → three ≡ two ++ c → four ≡ three ++ d → five ≡ four ++ e → five ≡ a ++ (b ++ (c ++ (d ++ e)))

@@ -1,33 +1,26 @@
 -- What the answer of `check` shows, and that it never says no to what `certify` writes.
-use Rattle.std.proofs.Common.{◌≡◌, ℕ, zero, suc, ◌+◌, ◌<◌, ◌≤◌, ◌^◌, Bool, true, false, refl, sym, ◌∙◌, ap, subst, arith, List, [], ◌∷◌, length, Some, None, IfSome}
-use Rattle.std.specs.Prelude.{nat_lt, if◌then◌else◌}
+use Rattle.std.proofs.Common.{◌≡◌, ℕ, zero, suc, ◌+◌, ◌<◌, ◌≤◌, ◌^◌, Bool, true, false, refl, sym, ◌∙◌, ap, subst, arith, List, [], ◌∷◌, length, Some, None, IfSome, nat_lt, if◌then◌else◌, le-ltb, ltb-false, length-append}
 use Rattle.std.specs.declared.option.Option.{Option}
-use Rattle.std.proofs.lemmas.Bool.{le-ltb, ltb-false}
-use Rattle.std.proofs.lemmas.List.{length-append, length-map}
+use Rattle.std.proofs.lemmas.List.{length-map}
 use Rattle.complex_file.proofs.JobLemmas.{spelled_job}
 use Rattle.report.specs.declared.form.Form.TheVariants.{Certificate}
 use Rattle.report.specs.declared.job.Report.{Report}
 use Rattle.report_text_law.proofs.Refusals.{one_report}
-use Rattle.report_law.specs.Terms.{IsWithinLimit, addends, first_past, printed_count}
+use Rattle.report_law.specs.Names.{IsWithinLimit, addends, first_past, printed_count}
 use Rattle.report_text_law.specs.declared.line.Line.{Line}
-use Rattle.report_text_law.specs.Certificates.{Spells}
+use Rattle.report_text_law.specs.Names.{Spells, certificate_lines, ended, joined, printed, shown, words}
 use Rattle.report_text_law.specs.declared.line.Line.TheVariants.{Below as below_line, CartanNo as cartan_no, CartanYes as cartan_yes, Class as class_line, Column as column_line, Complex as complex_line, Cycle as cycle_line, Degree as degree_line, Done as done_line, End as end_line, Facet as facet_line, Heading as heading_line, Induced as induced_line, Map as map_line, Operation as operation_line, Pair as pair_line, Prime as prime_line, Product as product_line, Send as send_line, With as with_line}
-use Rattle.report_text_law.specs.Lines.{certificate_lines}
-use Rattle.report_text_law.specs.Spelling.{ended, joined, printed, shown, words}
 use Rattle.report_text_law.specs.Text.{text_of}
-use Rattle.certificate_law.specs.Certifies.{Certifies, FailsFirst}
-use Rattle.certificate_law.specs.Laws.{line_said}
-use Rattle.certificate_law.specs.Stated.{stated}
+use Rattle.certificate_law.specs.Names.{Certifies, FailsFirst, line_said, stated}
 use Rattle.certificate_law.proofs.CertifiedParts.{certified_law}
 use Rattle.certificate_law.proofs.Failures.{first_failure_law}
 use Rattle.certificate_law.proofs.JobLaw.{complete_law}
 use Rattle.certificate_law.proofs.Limits.{more_allowed}
 use Rattle.certificate_law.proofs.StatedLines.{stated_lines_law}
 use Rattle.certificate_law.proofs.WrittenJobs.{well_formed_law}
-use Rattle.comch_app.specs.Answers.{Ends}
-use Rattle.comch_app.specs.Checks.{CheckAnswers, IsCertified, IsNo, IsRefuted, IsShown}
-use Rattle.comch_app.specs.declared.status.Status.{Status}
-use Rattle.comch_app.specs.declared.status.Status.TheVariants.{Done, No, BadWords, InputRefused, TooManyTerms, OutOfMemory, ReadFault, WriteFault}
+use Rattle.comch_io.specs.Causes.{Rose}
+use Rattle.comch_app.specs.Names.{AtFault, Ends, EndsRead, CheckAnswers, IsCertified, IsNo, IsRefuted, IsShown, Status, Done, No, BadWords, InputRefused, TooManyTerms, OutOfMemory, ReadFault, WriteFault}
+use Rattle.comch_app.proofs.Endings.{told_ends}
 
 -- ---- how many lines a text has
 
@@ -103,16 +96,17 @@ never_no text (suc before) line h (r, spells, fails) =
     let same = one_report w.0 r w.1.well_formed spells.well_formed (sym w.1.same ∙ spells.same) in
     first_failure_law.none r (suc before) line (subst Certifies same w.2) fails
 
-ends_no : (r : Status) (bytes : List ℕ) (old new : Option (List ℕ)) → Ends (CheckAnswers bytes) old new r → IsCertified bytes → IsNo r → ⊥
-ends_no Done bytes old new e h is_no = is_no
-ends_no (No condition line) bytes old new (text, a, appends) h is_no = never_no bytes condition line h a.1
-ends_no BadWords bytes old new e h is_no = is_no
-ends_no (InputRefused kind line) bytes old new e h is_no = is_no
-ends_no (TooManyTerms count limit) bytes old new e h is_no = is_no
-ends_no OutOfMemory bytes old new e h is_no = is_no
-ends_no ReadFault bytes old new e h is_no = is_no
-ends_no WriteFault bytes old new e h is_no = is_no
+ends_no : (r : Status) (failed : Type 0) (bytes : List ℕ) (old new : Option (List ℕ)) → Ends (AtFault failed (CheckAnswers bytes)) old new r → IsCertified bytes → IsNo r → ⊥
+ends_no Done failed bytes old new e h is_no = is_no
+ends_no (No condition line) failed bytes old new (text, a, appends) h is_no = never_no bytes condition line h a.1
+ends_no BadWords failed bytes old new e h is_no = is_no
+ends_no (InputRefused kind line) failed bytes old new e h is_no = is_no
+ends_no (TooManyTerms count limit) failed bytes old new e h is_no = is_no
+ends_no OutOfMemory failed bytes old new e h is_no = is_no
+ends_no ReadFault failed bytes old new e h is_no = is_no
+ends_no WriteFault failed bytes old new e h is_no = is_no
 
-pub complete_of : (o old new : Option (List ℕ)) (r : Status) → IfSome o (λ bytes. Ends (CheckAnswers bytes) old new r) → IfSome o (λ bytes. IsCertified bytes → IsNo r → ⊥)
-complete_of None old new r h = tt
-complete_of (Some bytes) old new r h = ends_no r bytes old new h
+pub complete_of : (left left_now : Option (List ℕ)) (given given_now faults faults_now : ℕ) (old new : Option (List ℕ)) (r : Status) → EndsRead CheckAnswers left left_now given given_now faults faults_now old new r
+    → IfSome left (λ bytes. IsCertified bytes → IsNo r → ⊥)
+complete_of None left_now given given_now faults faults_now old new r h = tt
+complete_of (Some bytes) left_now given given_now faults faults_now old new r h = ends_no r (Rose faults faults_now) bytes old new (told_ends CheckAnswers bytes left_now given given_now faults faults_now old new r h)

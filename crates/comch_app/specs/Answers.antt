@@ -1,20 +1,19 @@
 -- What the program answers to words and bytes.
-use Rattle.std.specs.Prelude.{◌≡◌, ◌≤◌, ◌<◌, ◌^◌, ℕ, ℤ, List, Some, Ok, Err, IfSome}
+use Rattle.std.specs.Prelude.{◌≡◌, ◌≤◌, ◌<◌, ◌^◌, ℕ, ℤ, List, [], ◌++◌, Some, Ok, Err, IfSome, unwrap_or}
 use Rattle.std.specs.declared.option.Option.{Option}
 use Rattle.std.specs.Io.KnownBytes.{Appends}
-use Rattle.comch_io.specs.Reading.{AppendsPrefix}
-use Rattle.complex_file.specs.Input.{Spelled, input_of}
+use Rattle.comch_io.specs.Causes.{Rose}
+use Rattle.comch_io.specs.Reading.{AppendsPrefix, Gave}
+use Rattle.complex_file.specs.Names.{Spelled}
+use Rattle.complex_file.specs.Input.{input_of}
 use Rattle.report.specs.declared.form.Form.{Form}
 use Rattle.report.specs.declared.job.Report.{Report}
-use Rattle.report_law.specs.Headline.{Headline}
-use Rattle.report_law.specs.Reports.{IsReportOf}
-use Rattle.report_law.specs.Terms.{IsWithinLimit, PassesLimit}
+use Rattle.report_law.specs.Names.{Headline, IsReportOf, IsWithinLimit, PassesLimit}
 use Rattle.report_text_law.specs.Text.{text_of}
 use Rattle.std.specs.Cmp.Lexicographic.{slice_cmp}
 use Rattle.std.specs.Ordering.{nat_cmp}
 use Rattle.operad_law.specs.FormalSums.{IsFormalSum, IsSameSum}
-use Rattle.table_reduction_law.specs.Counts.{candidate_count}
-use Rattle.table_reduction_law.specs.MayElements.{may_element}
+use Rattle.table_reduction_law.specs.Names.{candidate_count, may_element}
 use Rattle.may_elements.specs.Counted.{cut_off}
 use Rattle.comch_app.specs.Elements.{element_text}
 use Rattle.comch_app.specs.declared.status.Status.{Status}
@@ -71,6 +70,18 @@ RefusesWords _ text = ⊥
 abbrev pub Ends : (Status → List ℕ → Type 0) → Option (List ℕ) → Option (List ℕ) → Status → Type 0
 Ends answers old new WriteFault = (status : Status) × (text : List ℕ) × answers status text × AppendsPrefix old new text
 Ends answers old new status = (text : List ℕ) × answers status text × Appends old new text
+
+-- A failed read is answered only where one failed.
+abbrev pub AtFault : Type 0 → (Status → List ℕ → Type 0) → Status → List ℕ → Type 0
+AtFault failed answers ReadFault text = answers ReadFault text × failed
+AtFault failed answers status text = answers status text
+
+-- A run ends with an answer to bytes that were read: those that the source gave, and behind them those that it tells to be
+-- left. At a source that tells, they are all that it had left before.
+pub record EndsRead (answers : List ℕ → Status → List ℕ → Type 0) (left left_now : Option (List ℕ)) (given given_now faults faults_now : ℕ) (old new : Option (List ℕ)) (status : Status) : Type 0 where
+  pub read : List ℕ
+  pub gave : Gave left left_now given given_now read
+  pub ends : Ends (AtFault (Rose faults faults_now) (answers (read ++ unwrap_or left_now []))) old new status
 
 -- a run that refuses wrote its one line and nothing else, whatever was read
 abbrev pub WritesRefusal : Option (List ℕ) → Option (List ℕ) → Status → Type 0

@@ -1,14 +1,12 @@
 -- What `check` answers to a text.
 use Rattle.std.specs.Prelude.{◌≡◌, ◌≤◌, ◌<◌, ◌^◌, ℕ, zero, suc, List, Some, length, codes}
-use Rattle.linear_law.specs.Lists.{Each}
+use Rattle.linear_law.specs.Names.{Each}
 use Rattle.complex_file.specs.declared.kind.InputKind.TheVariants.{TooLong}
 use Rattle.report.specs.declared.form.Form.TheVariants.{Certificate}
 use Rattle.report.specs.declared.job.Report.{Report}
-use Rattle.report_law.specs.Headline.{ComplexPromise}
-use Rattle.report_text_law.specs.Certificates.{IsRefused, Spells}
-use Rattle.certificate_law.specs.Certifies.{Certifies, FailsFirst}
-use Rattle.certificate_law.specs.Laws.{MapShown}
-use Rattle.certificate_law.specs.Parts.{itself}
+use Rattle.report_law.specs.Names.{ComplexPromise}
+use Rattle.report_text_law.specs.Names.{IsRefused, Spells}
+use Rattle.certificate_law.specs.Names.{Certifies, FailsFirst, MapShown, itself}
 use Rattle.comch_app.specs.declared.status.Status.{Status}
 use Rattle.comch_app.specs.declared.status.Status.TheVariants.{Done, No, InputRefused, OutOfMemory, ReadFault}
 use Rattle.comch_app.specs.Answers.{ReportAnswers}

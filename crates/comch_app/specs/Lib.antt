@@ -7,3 +7,4 @@ pub mod Answers
 pub mod Checks
 pub mod Samples
 pub mod Steps
+pub mod Names

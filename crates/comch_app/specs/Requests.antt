@@ -4,7 +4,7 @@ use Rattle.std.specs.declared.option.Option.{Option}
 use Rattle.std.specs.Str.{bytes_eq}
 use Rattle.clap.specs.Words.{Text}
 use Rattle.fp_field.specs.Served.{served}
-use Rattle.complex_file.specs.Text.{is_not_empty, number_after}
+use Rattle.complex_file.specs.Names.{is_not_empty, number_after}
 use Rattle.comch_app.specs.declared.request.Request.{Request}
 use Rattle.comch_app.specs.declared.request.Request.TheVariants.{Basis, Report, Certify, Check, May, Sample}
 use Rattle.comch_app.specs.CommandLine.{Given, given}

@@ -3,7 +3,7 @@ use Rattle.std.specs.Prelude.{◌≡◌, ℕ, ◌+◌, ◌^◌, List, [], ◌∷
 use Rattle.sample_torus.specs.declared.sizes.Sample.{Sample}
 use Rattle.sample_torus.specs.Samples.{IsSample}
 use Rattle.sample_torus.specs.Torus.{torus_facets, torus_job}
-use Rattle.report_law.specs.Terms.{PassesLimit}
+use Rattle.report_law.specs.Names.{PassesLimit}
 use Rattle.comch_app.specs.declared.status.Status.{Status}
 use Rattle.comch_app.specs.declared.status.Status.TheVariants.{Done, TooManyTerms, OutOfMemory}
 use Rattle.comch_app.specs.Elements.{spaced_number}

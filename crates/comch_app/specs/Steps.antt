@@ -1,9 +1,9 @@
 -- What the steps of a run give: forms for the contracts of private functions.
-use Rattle.std.specs.Prelude.{◌≡◌, ◌⊎◌, ℕ, ◌≤◌, ◌^◌, List, Some, None, Err, Result}
+use Rattle.std.specs.Prelude.{◌≡◌, ◌⊎◌, ℕ, ◌≤◌, ◌^◌, List, [], ◌++◌, Some, None, Err, Result, IfOk, unwrap_or}
 use Rattle.std.specs.declared.option.Option.{Option}
 use Rattle.std.specs.Io.KnownBytes.{Appends, IsAtEnd}
 use Rattle.comch_io.specs.Causes.{Rose}
-use Rattle.comch_io.specs.Reading.{AppendsPrefix}
+use Rattle.comch_io.specs.Reading.{AppendsPrefix, Gave}
 use Rattle.comch_app.specs.declared.status.Status.{Status}
 use Rattle.comch_app.specs.declared.status.Status.TheVariants.{Done, No, InputRefused, TooManyTerms, WriteFault}
 use Rattle.comch_app.specs.declared.answer.Stop.{Stop}
@@ -12,7 +12,7 @@ use Rattle.comch_app.specs.declared.answer.Asked.{Asked}
 use Rattle.comch_app.specs.declared.answer.Asked.TheVariants as asked
 use Rattle.comch_app.specs.declared.answer.Wanted.{Wanted}
 use Rattle.comch_app.specs.declared.answer.Wanted.TheVariants as wanted
-use Rattle.complex_file.specs.Input.{Spelled}
+use Rattle.complex_file.specs.Names.{Spelled}
 use Rattle.report.specs.declared.form.Form.TheVariants.{Basis}
 use Rattle.comch_app.specs.Answers.{JobAnswers, ReportAnswers}
 use Rattle.comch_app.specs.Checks.{CheckAnswers}
@@ -69,3 +69,9 @@ WantedAnswers (wanted.Report form limit) = ReportAnswers form (Some limit)
 abbrev pub AskedAnswers : Asked → List ℕ → Status → List ℕ → Type 0
 AskedAnswers (asked.OfJob wanted) = WantedAnswers wanted
 AskedAnswers asked.Verdict = CheckAnswers
+
+-- What may be answered to bytes that were read: those that the source gave, and behind them those that it tells to be left.
+pub record AnswersRead (a : Asked) (left left_now : Option (List ℕ)) (given given_now : ℕ) (result : Result (Status × List ℕ) Stop) : Type 0 where
+  pub read : List ℕ
+  pub gave : Gave left left_now given given_now read
+  pub answer : IfOk result (λ p. AskedAnswers a (read ++ unwrap_or left_now []) p.0 p.1)

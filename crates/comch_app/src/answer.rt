@@ -1,7 +1,6 @@
-ghost use Rattle.std.specs.Prelude.{◌≡◌, ◌≤◌, ◌^◌, IfOk, IfSome, None, Some};
-ghost use Rattle.complex_file.specs.Views.{content};
-ghost use Rattle.comch_app.specs.Answers.{IsReportText, JobAnswers};
-ghost use Rattle.comch_app.specs.Steps.{AskedAnswers, IsAskable, IsMade, IsReadWhole, IsWithinMost, StopCause, WantedAnswers, WantedOf, most_bytes};
+ghost use Rattle.std.specs.Prelude.{◌≡◌, ◌≤◌, ◌^◌, IfOk, None, Some};
+ghost use Rattle.complex_file.specs.Names.{content};
+ghost use Rattle.comch_app.specs.Names.{IsReportText, JobAnswers, AnswersRead, AskedAnswers, IsAskable, IsMade, IsReadWhole, IsWithinMost, StopCause, WantedAnswers, WantedOf, most_bytes};
 
 use crate::Status;
 use crate::refusal::{input_refused, too_many_terms};
@@ -134,7 +133,7 @@ pub fn answer<S: Source>(
     asked: Asked,
 ) -> Result<(Status, Bytes), Stop>
     requires { IsAskable asked }
-    ensures answer { IfSome (S.left source.old) (λ bytes. IfOk result (λ p. AskedAnswers asked bytes p.0 p.1)) }
+    ensures answer { AnswersRead asked (S.left source.old) (S.left source.new) (S.given source.old) (S.given source.new) result }
     ensures made { IfOk result (λ p. IsMade p.0 p.1) }
     ensures whole { IfOk result (λ p. IsReadWhole (S.left source.new) p.0) }
     ensures cause { StopCause (S.faults source.old) (S.faults source.new) result }

@@ -1,10 +1,8 @@
 ghost use Rattle.std.specs.Prelude.{◌≡◌, ◌++◌, ◌≤◌, flat_map, take, IfOk, IsTrue, OnOk};
 ghost use Rattle.fp_field.specs.Served.{served};
 ghost use Rattle.operad_law.specs.FormalSums.{IsSameSum};
-ghost use Rattle.table_reduction_law.specs.MayElements.{may_element};
-ghost use Rattle.comch_app.specs.Answers.{IsElementText, MayAnswers};
-ghost use Rattle.comch_app.specs.Elements.{element_heading, element_text, spaced_number, term_line};
-ghost use Rattle.comch_app.specs.Steps.{IsMade};
+ghost use Rattle.table_reduction_law.specs.Names.{may_element};
+ghost use Rattle.comch_app.specs.Names.{IsElementText, MayAnswers, element_heading, element_text, spaced_number, term_line, IsMade};
 
 use crate::Status;
 use crate::refusal::{add_number, too_many_terms};

@@ -1,6 +1,6 @@
 ghost use Rattle.std.specs.Prelude.{◌≡◌, ◌++◌, IfOk};
 ghost use Rattle.std.specs.Fmt.{decimal};
-ghost use Rattle.comch_app.specs.Refusals.{refusal};
+ghost use Rattle.comch_app.specs.Names.{refusal};
 
 use crate::Status;
 use comch_io::Bytes;

@@ -1,8 +1,6 @@
 ghost use Rattle.std.specs.Prelude.{◌≡◌, ◌≤◌, ◌∷◌, ◌++◌, [], codes, flat_map, IfOk, IsTrue, OnOk};
 ghost use Rattle.fp_field.specs.Served.{served};
-ghost use Rattle.comch_app.specs.Elements.{spaced_number};
-ghost use Rattle.comch_app.specs.Samples.{SampleAnswers, number_line, sample_text};
-ghost use Rattle.comch_app.specs.Steps.{IsMade};
+ghost use Rattle.comch_app.specs.Names.{spaced_number, SampleAnswers, number_line, sample_text, IsMade};
 
 use crate::Status;
 use crate::refusal::{add_number, too_many_terms};

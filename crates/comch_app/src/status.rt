@@ -1,5 +1,5 @@
 ghost use Rattle.std.specs.Prelude.{◌≡◌};
-ghost use Rattle.comch_app.specs.Codes.{code_of};
+ghost use Rattle.comch_app.specs.Names.{code_of};
 
 use complex_file::InputKind;
 

@@ -2,12 +2,7 @@ ghost use Rattle.std.specs.Prelude.{◌≡◌, ◌≢◌, ℕ, ◌<◌, ◌≤�
 ghost use Rattle.std.specs.Io.KnownBytes.{IsAtEnd};
 ghost use Rattle.comch_io.specs.Causes.{Rose};
 ghost use Rattle.fp_field.specs.Served.{served};
-ghost use Rattle.comch_app.specs.declared.request.Request.TheVariants.{Basis, Certify, Check, May, Report, Sample};
-ghost use Rattle.comch_app.specs.Answers.{Ends, MayAnswers, RefusesWords, ReportAnswers, WritesRefusal};
-ghost use Rattle.comch_app.specs.Checks.{CheckAnswers, IsCertified, IsNo};
-ghost use Rattle.comch_app.specs.Samples.{SampleAnswers};
-ghost use Rattle.comch_app.specs.Requests.{ReadsInput, request_of};
-ghost use Rattle.comch_app.specs.Steps.{AskedAnswers, IsAskable, SaidCause, SaysIt};
+ghost use Rattle.comch_app.specs.Names.{Basis, Certify, Check, May, Report, Sample, Ends, EndsRead, MayAnswers, RefusesWords, ReportAnswers, WritesRefusal, CheckAnswers, IsCertified, IsNo, SampleAnswers, ReadsInput, request_of, AskedAnswers, IsAskable, SaidCause, SaysIt};
 
 use crate::Status;
 use crate::answer::{Asked, Stop, Wanted, answer};
@@ -38,8 +33,8 @@ fn reading_run<S: Source, K: Sink>(
     asked: Asked,
 ) -> Status
     requires { IsAskable asked }
-    ensures answers { IfSome (S.left source.old) (λ bytes.
-        Ends (AskedAnswers asked bytes) (K.written sink.old) (K.written sink.new) result) }
+    ensures answers { EndsRead (AskedAnswers asked) (S.left source.old) (S.left source.new) (S.given source.old) (S.given source.new)
+        (S.faults source.old) (S.faults source.new) (K.written sink.old) (K.written sink.new) result }
     ensures words { result ≢ Status.BadWords }
     ensures refusal { WritesRefusal (K.written sink.old) (K.written sink.new) result }
     ensures whole { result ≡ Status.Done → IsAtEnd (S.left source.new) }
@@ -91,7 +86,7 @@ fn sample_run<K: Sink>(alloc: Global, sink: &mut K, number: u32, prime: u32) -> 
     }
 }
 
-/// Does what the words ask for, with what the source has left, and writes the answer.
+/// Does what the words ask for, with what the source gives, and writes the answer.
 ///
 /// The whole text is made before its first byte is written. Want of memory has its own status, and
 /// no memory is taken after a failed read.
@@ -107,21 +102,21 @@ pub fn run<S: Source, K: Sink>(
         × (source.new ≡ source.old) }
     ensures words { result ≡ Status.BadWords → request_of (map string_bytes words.now) ≡ None }
 
-    // What `basis`, `report` and `certify` answer, where the source tells what it has left.
+    // What `basis`, `report` and `certify` answer to the bytes that were read.
     ensures basis { request_of (map string_bytes words.now) ≡ Some Basis →
-        IfSome (S.left source.old) (λ bytes.
-        Ends (ReportAnswers Form.Basis None bytes) (K.written sink.old) (K.written sink.new) result) }
+        EndsRead (ReportAnswers Form.Basis None) (S.left source.old) (S.left source.new) (S.given source.old) (S.given source.new)
+        (S.faults source.old) (S.faults source.new) (K.written sink.old) (K.written sink.new) result }
     ensures report { (limit : ℕ) → request_of (map string_bytes words.now) ≡ Some (Report limit) →
-        IfSome (S.left source.old) (λ bytes.
-        Ends (ReportAnswers Form.Short (Some limit) bytes) (K.written sink.old) (K.written sink.new) result) }
+        EndsRead (ReportAnswers Form.Short (Some limit)) (S.left source.old) (S.left source.new) (S.given source.old) (S.given source.new)
+        (S.faults source.old) (S.faults source.new) (K.written sink.old) (K.written sink.new) result }
     ensures certify { (limit : ℕ) → request_of (map string_bytes words.now) ≡ Some (Certify limit) →
-        IfSome (S.left source.old) (λ bytes.
-        Ends (ReportAnswers Form.Certificate (Some limit) bytes) (K.written sink.old) (K.written sink.new) result) }
+        EndsRead (ReportAnswers Form.Certificate (Some limit)) (S.left source.old) (S.left source.new) (S.given source.old) (S.given source.new)
+        (S.faults source.old) (S.faults source.new) (K.written sink.old) (K.written sink.new) result }
 
     // What `check` answers; it never says no to what `certify` writes.
     ensures check { request_of (map string_bytes words.now) ≡ Some Check →
-        IfSome (S.left source.old) (λ bytes.
-        Ends (CheckAnswers bytes) (K.written sink.old) (K.written sink.new) result) }
+        EndsRead CheckAnswers (S.left source.old) (S.left source.new) (S.given source.old) (S.given source.new)
+        (S.faults source.old) (S.faults source.new) (K.written sink.old) (K.written sink.new) result }
     ensures complete { request_of (map string_bytes words.now) ≡ Some Check →
         IfSome (S.left source.old) (λ bytes. IsCertified bytes → IsNo result → ⊥) }
 

@@ -1,7 +1,6 @@
 ghost use Rattle.std.specs.Prelude.{◌≡◌, ◌≤◌, length, IfOk};
-ghost use Rattle.report_text_law.specs.Certificates.{Spells};
-ghost use Rattle.comch_app.specs.Checks.{CheckAnswers};
-ghost use Rattle.comch_app.specs.Steps.{IsMade};
+ghost use Rattle.report_text_law.specs.Names.{Spells};
+ghost use Rattle.comch_app.specs.Names.{CheckAnswers, IsMade};
 
 use crate::Status;
 use crate::refusal::{input_refused, no};

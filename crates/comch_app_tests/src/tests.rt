@@ -174,8 +174,9 @@ fn maps_follow_the_complexes(rt: HostRuntime) -> Result<(), Fail> {
 fn faults_have_their_codes(rt: HostRuntime) -> Result<(), Fail> {
     let alloc = rt.alloc();
     let point = b"# a point\r\ncomch 1\r\nprime 2\r\ncomplex pt\r\nfacet 000\r\nend\r\n".as_slice();
-    let cases: [(&[u8], &[u64], usize, u8, &str); 5] = [
+    let cases: [(&[u8], &[u64], usize, u8, &str); 6] = [
         (b"", &[], 99, 3, "refused input 15 line 1\n"),
+        (b"", &[], 3, 7, "ref"),
         (point, &[0], 99, 6, "refused read\n"),
         (point, &[0], 7, 7, "refused"),
         (point, &[], 5, 7, "comch"),
@@ -338,5 +339,88 @@ fn certificates_are_checked(rt: HostRuntime) -> Result<(), Fail> {
         assert_eq!(rt; status.code(), code, "{other}");
         assert_eq!(rt; sink.text(), text.as_bytes(), "{other}");
     }
+    Ok(())
+}
+
+const POINT: &str = "comch 1\nprime 2\ncomplex pt\nfacet 0\nend\n";
+
+const POINT_BASIS: &str =
+    "comch basis 1\nprime 2\ncomplex pt\ndegree 0 rank 1\nclass 1:0\nend\ndone\n";
+
+// The exit code and what was written, where one call gives or takes one byte and the calls with these numbers fail.
+fn in_steps(
+    alloc: Global,
+    line: &str,
+    input: &[u8],
+    reads: &[u64],
+    writes: &[u64],
+) -> Result<(u8, MemSink), AllocError> {
+    let words = words_of(alloc, line)?;
+    let mut source = MemSource::in_steps(alloc, input, 1, reads)?;
+    let mut sink = MemSink::in_steps(alloc, 99, 1, writes)?;
+    let status = run(alloc, words.as_slice(), &mut source, &mut sink);
+    Ok((status.code(), sink))
+}
+
+#[test]
+fn each_call_may_fail(rt: HostRuntime) -> Result<(), Fail> {
+    let alloc = rt.alloc();
+    let input = POINT.as_bytes();
+    let text = POINT_BASIS.as_bytes();
+    let (code, sink) = in_steps(alloc, "basis", input, &[], &[])?;
+    assert_eq!(rt; code, 0);
+    assert_eq!(rt; sink.text(), text);
+    for call in 0..input.len() + 1 {
+        let (code, sink) = in_steps(alloc, "basis", input, [call as u64].as_slice(), &[])?;
+        assert_eq!(rt; code, 6);
+        assert_eq!(rt; sink.text(), b"refused read\n".as_slice());
+    }
+    for call in 0..text.len() {
+        let (code, sink) = in_steps(alloc, "basis", input, &[], [call as u64].as_slice())?;
+        assert_eq!(rt; code, 7);
+        assert_eq!(rt; sink.text(), &text[..call]);
+    }
+    Ok(())
+}
+
+// A job ends behind its prime or behind a block, with or without a byte 10.
+#[test]
+fn only_whole_jobs_are_answered(rt: HostRuntime) -> Result<(), Fail> {
+    let alloc = rt.alloc();
+    let input = POINT.as_bytes();
+    for end in 0..input.len() + 1 {
+        let (code, _sink) = in_steps(alloc, "basis", &input[..end], &[], &[])?;
+        let whole = [15, 16, 38, 39].contains(&end);
+        assert_eq!(rt; code, if whole { 0 } else { 3 }, "{end}");
+    }
+    Ok(())
+}
+
+#[test]
+fn only_whole_certificates_are_read(rt: HostRuntime) -> Result<(), Fail> {
+    let alloc = rt.alloc();
+    let text = spelled(alloc, CIRCLE_CERTIFIED)?;
+    let bytes = text.as_bytes();
+    for end in 0..bytes.len() {
+        let front = &bytes[..end];
+        let line = front.split(|b| *b == b'\n').count();
+        let (code, sink) = in_steps(alloc, "check", front, &[], &[])?;
+        let wanted = format!(in alloc; "no 0 line {line}\n")?;
+        assert_eq!(rt; code, 1);
+        assert_eq!(rt; sink.text(), wanted.as_bytes(), "{end}");
+    }
+    Ok(())
+}
+
+#[test]
+fn a_long_input_is_refused(rt: HostRuntime) -> Result<(), Fail> {
+    let alloc = rt.alloc();
+    let input = vec![in alloc; b'#'; 1_048_577]?;
+    let words = words_of(alloc, "basis")?;
+    let mut source = MemSource::new(alloc, &input, [].as_slice())?;
+    let mut sink = MemSink::new(alloc, 99, [].as_slice())?;
+    let status = run(alloc, words.as_slice(), &mut source, &mut sink);
+    assert_eq!(rt; status.code(), 3);
+    assert_eq!(rt; sink.text(), b"refused input 1 line 0\n".as_slice());
     Ok(())
 }

@@ -1,8 +1,8 @@
 use Rattle.std.proofs.Common.{◌∙◌, ◌≤◌, ℕ, List, get_or, lit<, subst}
-use Rattle.report_law.specs.Live.{lines}
-use Rattle.report_law.proofs.Verdicts.{of-lines}
+use Rattle.report_law.specs.Names.{lines}
+use Rattle.report_law.proofs.Names.{of-lines}
 use Rattle.class_matrices.proofs.ClassLemmas.{rank-at}
-use Rattle.job_report.proofs.PlanLemmas.{line-classes, line-low, line-stored}
+use Rattle.line_difference.proofs.PlanLemmas.{line-classes, line-low, line-stored}
 use Rattle.class_matrices.proofs.ListLemmas.{item-among}
 use Rattle.cochain_tests.proofs.spelled.all_cartans.Goals as goal
 

@@ -1,7 +1,7 @@
 use Rattle.std.proofs.Common.{◌∙◌, ℕ, lit<}
-use Rattle.report_law.specs.Live.{blocks}
-use Rattle.report_law.proofs.Blocks.{of-blocks}
-use Rattle.class_matrices.proofs.PlanLemmas.{block-low, block-stored}
+use Rattle.report_law.specs.Names.{blocks}
+use Rattle.report_law.proofs.Names.{of-blocks}
+use Rattle.line_difference.proofs.PlanLemmas.{block-low, block-stored}
 use Rattle.class_matrices.proofs.ListLemmas.{item-among}
 use Rattle.cochain_tests.proofs.spelled.all_operations.Goals as goal
 

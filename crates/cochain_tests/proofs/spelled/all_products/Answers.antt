@@ -1,6 +1,6 @@
 use Rattle.std.proofs.Common.{◌∙◌, lit<}
-use Rattle.report_law.specs.Live.{products}
-use Rattle.class_matrices.proofs.PlanLemmas.{product-low}
+use Rattle.report_law.specs.Names.{products}
+use Rattle.line_difference.proofs.PlanLemmas.{product-low}
 use Rattle.class_matrices.proofs.ListLemmas.{item-among}
 use Rattle.cochain_tests.proofs.spelled.all_products.Goals as goal
 

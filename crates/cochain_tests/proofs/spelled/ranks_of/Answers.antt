@@ -1,11 +1,10 @@
 use Rattle.std.proofs.Common.{◌≡◌, ◌∙◌, ℕ, List, ap, arith, length, map}
-use Rattle.signed_sum.specs.Lists.{numbers_from}
-use Rattle.class_matrices.proofs.ListLemmas.{numbers-count}
-use Rattle.job_report.proofs.Zips.{count-more}
+use Rattle.signed_sum.specs.Names.{numbers_from}
+use Rattle.class_matrices.proofs.ListLemmas.{counted-more, numbers-count}
 use Rattle.cochain_tests.proofs.spelled.ranks_of.Goals as goal
 
 pub loop-n-preserved : goal.loop-n-preserved
-loop-n-preserved g c = count-more (λ n. length (g.B.Basis.classes c.args.basis.now n)) c.loop-n.n c.loop-n.ranks.items _ _ c.loop-n.invariant c.rank.ensures c.in_ok-push.ensures.items
+loop-n-preserved g c = counted-more (λ n. length (g.B.Basis.classes c.args.basis.now n)) c.loop-n.n c.loop-n.ranks.items _ _ c.loop-n.invariant c.rank.ensures c.in_ok-push.ensures.items
 
 pub returns-clause-ranks : goal.returns-clause-ranks
 returns-clause-ranks g c =

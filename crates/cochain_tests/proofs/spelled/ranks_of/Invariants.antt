@@ -1,5 +1,5 @@
 use Rattle.std.proofs.Common.{◌≡◌, length, map}
-use Rattle.signed_sum.specs.Lists.{numbers_from}
+use Rattle.signed_sum.specs.Names.{numbers_from}
 use Rattle.cochain_tests.proofs.spelled.ranks_of.Given as goal
 
 abbrev pub invariant-loop-n : goal.invariant-loop-n

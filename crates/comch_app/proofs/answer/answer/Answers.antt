@@ -3,5 +3,5 @@ use Rattle.comch_app.proofs.answer.answer.Goals as goal
 
 pub returns-in_ok-input_refused-in-Err-TooLong-clause-answer : goal.returns-in_ok-input_refused-in-Err-TooLong-clause-answer
 returns-in_ok-input_refused-in-Err-TooLong-clause-answer g c =
-    long_answers c.args.asked (g.S.Source.left c.args.source.now) c.in-Err-TooLong.field-0 _ _ _ c.most_bytes.ensures c.in-Err-TooLong.field-0-is c.in-Err-TooLong.ensures.exact c.in_ok-input_refused-in-Err-TooLong.ensures.status
-    c.in_ok-input_refused-in-Err-TooLong.ensures.text
+    long_answers c.args.asked _ _ _ _ _ c.in-Err-TooLong.field-0 _ _ c.most_bytes.ensures c.in-Err-TooLong.field-0-is c.in-Err-TooLong.ensures.gave
+    c.in_ok-input_refused-in-Err-TooLong.ensures.status c.in_ok-input_refused-in-Err-TooLong.ensures.text

@@ -1,4 +1,4 @@
-use Rattle.complex_file.specs.Views.{content}
+use Rattle.complex_file.specs.Names.{content}
 use Rattle.report.specs.declared.form.Form.TheVariants.{Basis}
 use Rattle.comch_app.proofs.JobAnswered.{is_report_text}
 use Rattle.comch_app.proofs.answer.bases_answer.Goals as goal

@@ -1,6 +1,6 @@
 use Rattle.std.proofs.Common.{Err, ℕ, ap, subst, sym, ◌∙◌}
-use Rattle.complex_file.specs.Views.{content}
-use Rattle.report_law.specs.Terms.{PassesLimit}
+use Rattle.complex_file.specs.Names.{content}
+use Rattle.report_law.specs.Names.{PassesLimit}
 use Rattle.comch_app.proofs.JobAnswered.{is_report_text, passes_limit}
 use Rattle.comch_app.proofs.answer.report_answer.Goals as goal
 

@@ -1,6 +1,5 @@
-use Rattle.std.proofs.Common.{◌≡◌, ◌++◌, take}
-use Rattle.std.specs.Prelude.{flat_map}
-use Rattle.comch_app.specs.Elements.{term_line}
+use Rattle.std.proofs.Common.{◌≡◌, ◌++◌, take, flat_map}
+use Rattle.comch_app.specs.Names.{term_line}
 use Rattle.comch_app.proofs.may.add_terms.Given as goal
 
 abbrev pub invariant-loop-k : goal.invariant-loop-k

@@ -1,6 +1,5 @@
-use Rattle.std.proofs.Common.{◌≡◌, ◌++◌, take}
-use Rattle.std.specs.Prelude.{flat_map}
-use Rattle.comch_app.specs.Elements.{spaced_number}
+use Rattle.std.proofs.Common.{◌≡◌, ◌++◌, take, flat_map}
+use Rattle.comch_app.specs.Names.{spaced_number}
 use Rattle.comch_app.proofs.may.add_values.Given as goal
 
 abbrev pub invariant-loop-value : goal.invariant-loop-value

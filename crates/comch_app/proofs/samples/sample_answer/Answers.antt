@@ -1,5 +1,5 @@
 use Rattle.std.proofs.Common.{◌∙◌, ◌+◌, ◌^◌, ℕ, Err, ap, subst, sym}
-use Rattle.report_law.specs.Terms.{PassesLimit}
+use Rattle.report_law.specs.Names.{PassesLimit}
 use Rattle.sample_torus.specs.Torus.{torus_job}
 use Rattle.comch_app.proofs.SampleLemmas.{sample_passes}
 use Rattle.comch_app.proofs.samples.sample_answer.Goals as goal

@@ -1,7 +1,6 @@
-use Rattle.std.proofs.Common.{refl}
-use Rattle.comch_app.proofs.Endings.{memory_ends, memory_ends_may, memory_ends_sample, one_sample, memory_ends_words, one_element, words_end}
-use Rattle.comch_app.specs.Answers.{Ends, MayAnswers}
-use Rattle.comch_app.specs.Samples.{SampleAnswers}
+use Rattle.std.proofs.Common.{refl, []}
+use Rattle.comch_app.proofs.Endings.{memory_ends, memory_ends_may, memory_ends_sample, none_given, one_sample, memory_ends_words, one_element, words_end}
+use Rattle.comch_app.specs.Names.{Ends, MayAnswers, SampleAnswers}
 use Rattle.comch_app.specs.declared.answer.Asked.TheVariants as asked
 use Rattle.comch_app.specs.declared.answer.Wanted.TheVariants as wanted
 use Rattle.comch_app.proofs.Verdicts.{complete_of}
@@ -12,22 +11,26 @@ pub returns-in-Err-clause-refuses : goal.returns-in-Err-clause-refuses
 returns-in-Err-clause-refuses g c none = (memory_ends_words _ _ _ c.said.ensures.says, refl)
 
 pub returns-in-Err-clause-basis : goal.returns-in-Err-clause-basis
-returns-in-Err-clause-basis g c some = memory_ends (asked.OfJob wanted.Bases) (g.S.Source.left c.args.source.now) _ _ _ c.said.ensures.says
+returns-in-Err-clause-basis g c some = memory_ends (asked.OfJob wanted.Bases) _ _ _ _ _ _ [] _ _ _ (none_given _ _) c.said.ensures.says
 
 pub returns-in-Err-clause-report : goal.returns-in-Err-clause-report
-returns-in-Err-clause-report g c limit some = memory_ends (asked.OfJob (wanted.Report form.Short limit)) (g.S.Source.left c.args.source.now) _ _ _ c.said.ensures.says
+returns-in-Err-clause-report g c limit some = memory_ends (asked.OfJob (wanted.Report form.Short limit)) _ _ _ _ _ _ [] _ _ _ (none_given _ _) c.said.ensures.says
 
 pub returns-in-Err-clause-certify : goal.returns-in-Err-clause-certify
-returns-in-Err-clause-certify g c limit some = memory_ends (asked.OfJob (wanted.Report form.Certificate limit)) (g.S.Source.left c.args.source.now) _ _ _ c.said.ensures.says
+returns-in-Err-clause-certify g c limit some = memory_ends (asked.OfJob (wanted.Report form.Certificate limit)) _ _ _ _ _ _ [] _ _ _ (none_given _ _) c.said.ensures.says
 
 pub returns-in-Err-clause-check : goal.returns-in-Err-clause-check
-returns-in-Err-clause-check g c some = memory_ends asked.Verdict (g.S.Source.left c.args.source.now) _ _ _ c.said.ensures.says
+returns-in-Err-clause-check g c some = memory_ends asked.Verdict _ _ _ _ _ _ [] _ _ _ (none_given _ _) c.said.ensures.says
 
 pub returns-in-Err-clause-complete : goal.returns-in-Err-clause-complete
-returns-in-Err-clause-complete g c some = complete_of (g.S.Source.left c.args.source.now) _ _ _ (memory_ends asked.Verdict (g.S.Source.left c.args.source.now) _ _ _ c.said.ensures.says)
+returns-in-Err-clause-complete g c some =
+    let left = g.S.Source.left c.args.source.now in
+    let given = g.S.Source.given c.args.source.now in
+    let faults = g.S.Source.faults c.args.source.now in
+    complete_of left left given given faults faults _ _ _ (memory_ends asked.Verdict left left given given faults faults [] _ _ _ (none_given left given) c.said.ensures.says)
 
 pub returns-in-Ok-Some-Check-clause-complete : goal.returns-in-Ok-Some-Check-clause-complete
-returns-in-Ok-Some-Check-clause-complete g c some = complete_of (g.S.Source.left c.args.source.now) _ _ _ c.reading_run-in-Ok-Some-Check.ensures.answers
+returns-in-Ok-Some-Check-clause-complete g c some = complete_of (g.S.Source.left c.args.source.now) _ _ _ _ _ _ _ _ c.reading_run-in-Ok-Some-Check.ensures.answers
 
 pub returns-in-Err-clause-may : goal.returns-in-Err-clause-may
 returns-in-Err-clause-may g c p d some = (memory_ends_may p d _ _ _ c.said.ensures.says, refl)

@@ -1,5 +1,5 @@
 use Rattle.std.proofs.Common.{◌≡◌, ◌<◌, ◌^◌, drop}
-use Rattle.complex_file.specs.Text.{number_after}
+use Rattle.complex_file.specs.Names.{number_after}
 use Rattle.comch_app.proofs.words.number_of.Given as goal
 
 abbrev pub invariant-loop-digit : goal.invariant-loop-digit

@@ -1,9 +1,7 @@
 use Rattle.std.proofs.Common.{IfSome, subst, sym}
 use Rattle.std.specs.declared.option.Option.{Option}
 use Rattle.clap.specs.Words.{found_of}
-use Rattle.comch_app.specs.CommandLine.{given_in}
-use Rattle.comch_app.specs.declared.request.Request.{Request}
-use Rattle.comch_app.specs.Requests.{IsAnswerable}
+use Rattle.comch_app.specs.Names.{given_in, Request, IsAnswerable}
 use Rattle.comch_app.proofs.ElementAnswers.{answerable}
 use Rattle.comch_app.proofs.words.request_of.Goals as goal
 
