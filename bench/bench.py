@@ -4,8 +4,8 @@
 usage: bench/bench.py PROGRAM [PRIME] [GROUP ..]
 
 PROGRAM is the built program (crates/comch/out/comch, after `rt run` in crates/comch), PRIME is 2, 3
-or 5 (default 2), and the groups are torus, random, dense, sphere, wide, strip, ground and hostile,
-which run `basis`; report and certify, which run these commands; check, may and sample (default: all).
+or 5 (default 2), and the groups are torus, random, dense, sphere, wide, strip and ground, which run
+`basis`; report and certify, which run these commands; check, may and sample (default: all).
 
 Each input is made here, written to the program's standard input, and run RUNS times. One line is
 printed for each: simplices, bytes of input and of output, the least of the processor seconds, the
@@ -14,18 +14,20 @@ peak of the resident memory, how time and memory grew from the line before (the 
 the machine and with what else it does; the ratios tell more.
 
 The group may makes May elements. It prints for each the candidates, the terms, and the same costs. The
-group check checks certificates: of tori, as `certify` writes them, and three of some 32 MiB that promise
-what they do not keep. The group sample runs `sample` with its greatest number.
+group check checks certificates of tori, as `certify` writes them. The group sample runs `sample` with its
+greatest number.
 """
 
 import itertools
 import math
 import os
 import random
+import resource
 import subprocess
 import sys
 import tempfile
 import time
+from dataclasses import dataclass, replace
 
 RUNS = 3
 
@@ -132,12 +134,6 @@ GROUPS = {
         ("flag 160", lambda: flag(160, 25, 1)),
         ("triangles 220", lambda: some_triangles(220, 22264, 1)),
     ],
-    # inputs of about a megabyte: repetitions, one facet too many at the end, facets too wide to count
-    "hostile": [
-        ("repeated 12", lambda: repeated(12, 1700)),
-        ("one too many", lambda: repeated(12, 1700, [range(900000, 900012)])),
-        ("too wide", lambda: [range(16 * i, 16 * i + 16) for i in range(9000)]),
-    ],
     "report": [
         *((f"torus {m}", lambda m=m: torus(m)) for m in (100, 500, 1000, 15000)),
         ("k3 surface", lambda: example("k3_surface.txt")),
@@ -172,8 +168,31 @@ def candidates(prime, degree):
 ELEMENTS = [(2, 40), (3, 15), (3, 19), (3, 23), (5, 8), (5, 10), (5, 12)]
 
 
-def run(program, words, text):
-    """Processor seconds, peak kilobytes, bytes of output and exit status of one run.
+@dataclass
+class Limits:
+    """What a run may take: processor seconds, and bytes of address space."""
+
+    seconds: int
+    space: int
+
+    def set(self):
+        resource.setrlimit(resource.RLIMIT_CPU, (self.seconds, self.seconds))
+        resource.setrlimit(resource.RLIMIT_AS, (self.space, self.space))
+
+
+@dataclass
+class Run:
+    """Processor seconds, peak kilobytes, bytes of output with their front, and exit status of one run."""
+
+    seconds: float
+    peak: int
+    size: int
+    front: bytes
+    status: int
+
+
+def run(program, words, text, limits=None):
+    """Runs the program.
 
     The peak is read while the program runs: what the kernel tells of a child that has ended counts
     the memory of this script too.
@@ -181,7 +200,7 @@ def run(program, words, text):
     with tempfile.TemporaryFile() as source, tempfile.TemporaryFile() as sink:
         source.write(text)
         source.seek(0)
-        child = subprocess.Popen([program, *words], stdin=source, stdout=sink)
+        child = subprocess.Popen([program, *words], stdin=source, stdout=sink, preexec_fn=limits and limits.set)
         peak = 0
         while True:
             peak = max(peak, peak_of(child.pid))
@@ -190,38 +209,29 @@ def run(program, words, text):
                 break
             time.sleep(0.0005)
         child.returncode = os.waitstatus_to_exitcode(status)
-        return usage.ru_utime + usage.ru_stime, peak, sink.seek(0, os.SEEK_END), child.returncode
+        sink.seek(0)
+        front = sink.read(100)
+        return Run(usage.ru_utime + usage.ru_stime, peak, sink.seek(0, os.SEEK_END), front, child.returncode)
 
 
-def promise(rank, line, times, behind):
-    """A certificate that begins as that of a circle, with this rank in degree 0 and a line many times over."""
-    head = f"comch certificate 1\nprime 3\ncomplex c\nfacet 0 1\nfacet 0 2\nfacet 1 2\ndegree 0 rank {rank}\n"
-    return (head + line * times + behind + "end\ndone\n").encode()
-
-
-# certificates that promise what they do not keep
-PROMISES = [
-    ("belows", lambda: promise(1, "below 1:0\n", 3_355_000, "class 1:0 1:1 1:2\n")),
-    ("classes", lambda: promise(3_355_000, "class 1:0\n", 3_355_000, "product 0 0\n")),
-    ("great rank", lambda: promise(4_000_000_000, "class 1:0\n", 1, "")),
-]
+def least(program, words, text):
+    """One of RUNS runs, with the least of their seconds and the greatest of their peaks."""
+    runs = [run(program, words, text) for _ in range(RUNS)]
+    return replace(runs[0], seconds=min(r.seconds for r in runs), peak=max(r.peak for r in runs))
 
 
 def measure_checks(program, prime):
     print(f"{'certificate':14} {'in kB':>8} {'seconds':>8} {'peak MB':>8}  answer")
-    tori = [(f"torus {m}", lambda m=m: subprocess.run(
-        [program, "certify"], input=text_of(prime, [tuple(facet) for facet in torus(m)]), stdout=subprocess.PIPE, check=True).stdout)
-        for m in (100, 500, 1000, 1860)]
-    for name, make in tori + PROMISES:
-        text = make()
-        results = [run(program, ["check"], text) for _ in range(RUNS)]
-        answer = subprocess.run([program, "check"], input=text, stdout=subprocess.PIPE, check=False).stdout.decode().strip()
-        print(f"{name:14} {len(text) / 1000:8.1f} {min(r[0] for r in results):8.3f} {max(r[1] for r in results) / 1000:8.1f}  {answer}", flush=True)
+    for m in (100, 500, 1000, 1860):
+        job = text_of(prime, torus(m))
+        text = subprocess.run([program, "certify"], input=job, stdout=subprocess.PIPE, check=True).stdout
+        found = least(program, ["check"], text)
+        print(f"{f'torus {m}':14} {len(text) / 1000:8.1f} {found.seconds:8.3f} {found.peak / 1000:8.1f}  {found.front.decode().strip()}", flush=True)
 
 
 def measure_samples(program, prime):
-    results = [run(program, ["sample", "994", str(prime)], b"") for _ in range(RUNS)]
-    print(f"sample 994 {prime}: {min(r[0] for r in results):.3f} s, {max(r[1] for r in results) / 1000:.1f} MB")
+    found = least(program, ["sample", "994", str(prime)], b"")
+    print(f"sample 994 {prime}: {found.seconds:.3f} s, {found.peak / 1000:.1f} MB")
 
 
 def exponent(new, old, n, m):
@@ -234,10 +244,10 @@ def measure_elements(program):
     print(f"{'element':14} {'candidates':>11} {'terms':>9} {'out kB':>8} {'seconds':>8} {'peak MB':>8}")
     for prime, degree in ELEMENTS:
         words = ["may", str(prime), str(degree)]
-        results = [run(program, words, b"") for _ in range(RUNS)]
+        found = least(program, words, b"")
         lines = subprocess.run([program, *words], stdout=subprocess.PIPE, check=True).stdout.count(b"\n")
-        print(f"{'may ' + words[1] + ' ' + words[2]:14} {candidates(prime, degree):11} {lines - 2:9} {results[0][2] / 1000:8.1f}"
-              f" {min(r[0] for r in results):8.3f} {max(r[1] for r in results) / 1000:8.1f}", flush=True)
+        print(f"{'may ' + words[1] + ' ' + words[2]:14} {candidates(prime, degree):11} {lines - 2:9} {found.size / 1000:8.1f}"
+              f" {found.seconds:8.3f} {found.peak / 1000:8.1f}", flush=True)
 
 
 def main():
@@ -258,23 +268,19 @@ def main():
     print(f"at {prime}; {os.cpu_count()} processors; least of {RUNS} runs")
     print(f"{'input':14} {'simplices':>9} {'in kB':>8} {'out kB':>8} {'seconds':>8} {'grows':>5} {'peak MB':>8} {'grows':>5} {'peak/io':>8}")
     for group in groups:
-        last = None
+        last, last_size = None, 0
         words = WORDS.get(group, ["basis"])
         print(" ".join(words))
         for name, make in GROUPS[group]:
             facets = [tuple(facet) for facet in make()]
             text = text_of(prime, facets)
             size = count_simplices(facets)
-            results = [run(program, words, text) for _ in range(RUNS)]
-            seconds = min(r[0] for r in results)
-            peak = max(r[1] for r in results)
-            out = results[0][2]
-            status = results[0][3]
+            found = least(program, words, text)
             grows = ("    -", "    -") if last is None else (
-                exponent(seconds, last[1], size, last[0]), exponent(peak, last[2], size, last[0]))
-            print(f"{name:14} {size:9} {len(text) / 1000:8.1f} {out / 1000:8.1f} {seconds:8.3f} {grows[0]} {peak / 1000:8.1f} {grows[1]} {peak * 1024 / (len(text) + out):8.1f}"
-                  + ("" if status == 0 else f"  status {status}"), flush=True)
-            last = (size, seconds, peak)
+                exponent(found.seconds, last.seconds, size, last_size), exponent(found.peak, last.peak, size, last_size))
+            print(f"{name:14} {size:9} {len(text) / 1000:8.1f} {found.size / 1000:8.1f} {found.seconds:8.3f} {grows[0]} {found.peak / 1000:8.1f} {grows[1]}"
+                  f" {found.peak * 1024 / (len(text) + found.size):8.1f}" + ("" if found.status == 0 else f"  status {found.status}"), flush=True)
+            last, last_size = found, size
 
 
 if __name__ == "__main__":

@@ -5,8 +5,8 @@ usage: convert.py [--prime P] [--name NAME] [--order keep|given|sorted] [--label
 
 Reads FILE, or standard input. These forms are taken:
 
-    a list of lists in brackets of any kind, as Sage (K.facets()), simpcomp and GAP (c.Facets), lists of Regina's Python
-    and the manifold page have it; [ 1 .. 4 ] is GAP's [ 1, 2, 3, 4 ]:
+    a list of lists in brackets of any kind, as Sage (K.facets()), GAP, lists of Regina's Python and the manifold page
+    have it; [ 1 .. 4 ] is GAP's [ 1, 2, 3, 4 ]:
         {(0, 1, 2), (0, 1, 3)}    [ [ 1, 2, 3 ], [ 1, 2, 4 ] ]    name=[[1,2,3],[1,2,4]];
     lists in brackets one after the other, as polymake has them (print $c->FACETS):
         {0 1 2}

@@ -1,13 +1,87 @@
-"""Tests of examples/convert.py, on the forms in which other programs write facets."""
+"""Tests of examples/convert.py, on facets as other programs print them.
 
+Where a command stands above a text, the text is what it printed, with SageMath 9.5, polymake 4.6, GAP 4.12, GUDHI 3.7
+and Regina 7.3.
+"""
+
+import ast
 import subprocess
 import sys
 import unittest
 from pathlib import Path
 
 CONVERT = Path(__file__).resolve().parent.parent / "examples" / "convert.py"
-TETRAHEDRON = "facet 0 1 2\nfacet 0 1 3\nfacet 0 2 3\nfacet 1 2 3\n"
-FROM_ONE = "facet 1 2 3\nfacet 1 2 4\nfacet 1 3 4\nfacet 2 3 4\n"
+
+# sage -c 'print(simplicial_complexes.RealProjectivePlane().facets())'
+SAGE_PLANE = """{(0, 3, 4), (1, 3, 5), (0, 2, 3), (1, 2, 4), (0, 1, 2), (0, 4, 5), (2, 4, 5), (2, 3, 5), (0, 1, 5), (1, 3, 4)}
+"""
+# sage -c 'C = SimplicialComplex([["a", "b"], ["b", "c"], ["a", "c"]]); print(C.product(C).facets())'
+SAGE_TORUS = """\
+{('LcRc', 'LcRb', 'LaRb'), ('LbRb', 'LbRa', 'LaRa'), ('LcRc', 'LaRc', 'LaRb'), ('LcRc', 'LbRc', 'LbRa'), ('LbRc', 'LbRb', 'LaRb'), ('LbRc', \
+'LaRc', 'LaRb'), ('LcRb', 'LaRb', 'LaRa'), ('LcRc', 'LaRc', 'LaRa'), ('LbRb', 'LaRb', 'LaRa'), ('LcRc', 'LcRb', 'LbRb'), ('LcRb', 'LcRa', \
+'LaRa'), ('LcRb', 'LbRb', 'LbRa'), ('LcRc', 'LcRa', 'LbRa'), ('LbRc', 'LbRa', 'LaRa'), ('LbRc', 'LaRc', 'LaRa'), ('LcRc', 'LcRa', 'LaRa'), \
+('LcRb', 'LcRa', 'LbRa'), ('LcRc', 'LbRc', 'LbRb')}
+"""
+# sage -c 'C = simplicial_complexes.Sphere(1); print(C.product(C, rename_vertices=False).facets())'
+SAGE_PAIRS = """\
+{((0, 1), (1, 1), (1, 2)), ((1, 1), (1, 2), (2, 2)), ((0, 0), (2, 0), (2, 1)), ((1, 0), (2, 0), (2, 1)), ((0, 0), (1, 0), (1, 1)), ((0, 1), \
+(0, 2), (1, 2)), ((0, 1), (0, 2), (2, 2)), ((1, 0), (1, 2), (2, 2)), ((0, 0), (0, 2), (2, 2)), ((0, 0), (0, 2), (1, 2)), ((0, 0), (1, 0), \
+(1, 2)), ((1, 0), (2, 0), (2, 2)), ((0, 0), (2, 0), (2, 2)), ((1, 0), (1, 1), (2, 1)), ((1, 1), (2, 1), (2, 2)), ((0, 1), (2, 1), (2, 2)), \
+((0, 0), (0, 1), (1, 1)), ((0, 0), (0, 1), (2, 1))}
+"""
+# sage -c 'print(SimplicialComplex([[0, 1], [1, 2]]).barycentric_subdivision().facets())'
+SAGE_CHAINS = """{((0, 1), (0,)), ((1, 2), (1,)), ((1, 2), (2,)), ((0, 1), (1,))}
+"""
+# polymake 'use application "topaz"; print real_projective_plane()->FACETS;'
+POLYMAKE = """\
+{0 1 4}
+{0 1 5}
+{0 2 3}
+{0 2 4}
+{0 3 5}
+{1 2 3}
+{1 2 5}
+{1 3 4}
+{2 4 5}
+{3 4 5}
+"""
+# gap -q <<< 'Print(Combinations([1 .. 4], 3), "\\n");'
+GAP = "[ [ 1, 2, 3 ], [ 1, 2, 4 ], [ 1, 3, 4 ], [ 2, 3, 4 ] ]\n"
+# gap -q <<< '[[1 .. 4], [2, 3, 4, 6]];'
+GAP_RANGE = "[ [ 1 .. 4 ], [ 2, 3, 4, 6 ] ]\n"
+# python3 -c 'import gudhi; t = gudhi.SimplexTree(); t.insert([0, 1, 2]); t.insert([2, 3], 0.5); print(list(t.get_filtration()))'
+GUDHI = "[([0], 0.0), ([1], 0.0), ([0, 1], 0.0), ([2], 0.0), ([0, 2], 0.0), ([1, 2], 0.0), ([0, 1, 2], 0.0), ([3], 0.5), ([2, 3], 0.5)]\n"
+# the same with: for s in t.get_filtration(): print(s)
+GUDHI_LINES = """\
+([0], 0.0)
+([1], 0.0)
+([0, 1], 0.0)
+([2], 0.0)
+([0, 2], 0.0)
+([1, 2], 0.0)
+([0, 1, 2], 0.0)
+([3], 0.5)
+([2, 3], 0.5)
+"""
+# regina-python: T = Example3.simplicialSphere(); print([[t.vertex(i).index() for i in range(4)] for t in T.tetrahedra()])
+REGINA = "[[0, 1, 2, 3], [4, 1, 2, 3], [4, 0, 2, 3], [4, 0, 1, 3], [4, 0, 1, 2]]\n"
+TETRAHEDRON = "facet 1 2 3\nfacet 1 2 4\nfacet 1 3 4\nfacet 2 3 4\n"
+
+
+def in_python(text):
+    """The facets of a list or a set in Python, in the order of the text."""
+    return ast.literal_eval(f"[{text.strip()[1:-1]}]")
+
+
+def lines_of(facets):
+    """The lines of facets whose vertices keep their numbers."""
+    return "".join("facet " + " ".join(map(str, sorted(facet))) + "\n" for facet in facets)
+
+
+def numbered(facets):
+    """The same facets, with the places of their labels in order."""
+    labels = sorted({label for facet in facets for label in facet})
+    return [[labels.index(label) for label in facet] for facet in facets]
 
 
 def convert(text, *words):
@@ -20,31 +94,32 @@ class Forms(unittest.TestCase):
         self.assertEqual((ran.stdout, ran.stderr), (f"comch 1\nprime 2\ncomplex x\n{facets}end\n", ""))
 
     def test_sage(self):
-        self.gives("{(0, 1, 2), (0, 1, 3), (0, 2, 3), (1, 2, 3)}\n", TETRAHEDRON)
-        self.gives("{('a', 'b'), ('a', 'c'), ('b', 'c')}", "facet 0 1\nfacet 0 2\nfacet 1 2\n")
-        self.gives("{('L0R0', 'L0R1', 'L1R1'), ('L0R0', 'L1R0', 'L1R1')}", "facet 0 1 3\nfacet 0 2 3\n")
-        self.gives("{((0, 0), (0, 1)), ((0, 1), (1, 1))}", "facet 0 1\nfacet 1 2\n")
+        self.gives(SAGE_PLANE, lines_of(in_python(SAGE_PLANE)))
+        self.gives(SAGE_TORUS, lines_of(numbered(in_python(SAGE_TORUS))))
+        self.gives(SAGE_PAIRS, lines_of(numbered(in_python(SAGE_PAIRS))))
+        self.gives(SAGE_CHAINS, "facet 0 1\nfacet 2 3\nfacet 3 4\nfacet 1 2\n")
 
     def test_polymake(self):
-        self.gives("{0 1 2}\n{0 1 3}\n{0 2 3}\n{1 2 3}\n", TETRAHEDRON)
-        self.gives("FACETS\n{0 1 2}\n{0 1 3}\n{0 2 3}\n{1 2 3}\n\n", TETRAHEDRON)
-        self.gives("{0 1 2}\n", "facet 0 1 2\n")
+        plane = POLYMAKE.replace("{", "facet ").replace("}", "")
+        self.gives(POLYMAKE, plane)
+        self.gives(f"FACETS\n{POLYMAKE}\n", plane)
 
-    def test_simpcomp(self):
-        self.gives("[ [ 1, 2, 3 ], [ 1, 2, 4 ],\n  [ 1, 3, 4 ], [ 2, 3, 4 ] ]\n", FROM_ONE)
-        self.gives("[ [ 1 .. 4 ] ]\n", "facet 1 2 3 4\n")
-
-    def test_the_manifold_page(self):
-        self.gives("manifold_lex_d2_n4_o1_g0_#1=[[1,2,3],[1,2,4],[1,3,4],[2,3,4]]\n", FROM_ONE)
-        self.gives("manifold_2_4_1=[[1,2,3],[1,2,4],\n[1,3,4],[2,3,4]];\n", FROM_ONE)
-
-    def test_lists_in_python(self):
-        self.gives("[[0, 1, 2], [0, 1, 3], [0, 2, 3], [1, 2, 3]]\n", TETRAHEDRON)
+    def test_gap(self):
+        self.gives(GAP, TETRAHEDRON)
+        self.gives(GAP_RANGE, "facet 1 2 3 4\nfacet 2 3 4 6\n")
 
     def test_gudhi(self):
+        for text in (GUDHI, GUDHI_LINES):
+            self.gives(text, "facet 0 1 2\nfacet 2 3\n")
         self.gives("[([0], 0.0), ([1], 1e-05), ([0, 1], 0.5), ([2], inf)]", "facet 0 1\nfacet 2\n")
-        self.gives("([0], 0.0)\n([1], 0.0)\n([0, 1], 0.5)\n", "facet 0 1\n")
         self.gives("[0] -> 0.00\n[1] -> 0.00\n[0, 1] -> 0.50\n", "facet 0 1\n")
+
+    def test_regina(self):
+        self.gives(REGINA, lines_of(in_python(REGINA)))
+
+    def test_the_manifold_page(self):
+        self.gives("manifold_lex_d2_n4_o1_g0_#1=[[1,2,3],[1,2,4],[1,3,4],[2,3,4]]\n", TETRAHEDRON)
+        self.gives("manifold_2_4_1=[[1,2,3],[1,2,4],\n[1,3,4],[2,3,4]];\n", TETRAHEDRON)
 
     def test_lines(self):
         self.gives("# a triangle\n0 1\n0,2 # the second edge\n\n1 2\n", "facet 0 1\nfacet 0 2\nfacet 1 2\n")
