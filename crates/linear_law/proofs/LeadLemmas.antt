@@ -1,7 +1,7 @@
 -- Leads: what has one, and what is zero where it could have one.
 use Rattle.std.proofs.Common.{◌≡◌, ℕ, zero, suc, ◌+◌, ◌*◌, ◌-◌, ◌%◌, ◌<◌, ◌≢◌, ◌⊎◌, arith, sym, subst, ◌∙◌, inl, inr}
 use Rattle.std.proofs.lemmas.Bool.{cases_lt}
-use Rattle.linear_law.specs.Names.{Congruent, IsField, AgreesOn, IsSubspace, IsPivot, LeadsAt}
+use Rattle.linear_law.specs.Names.{Congruent, IsField, AgreesOn, LeadsAt}
 use Rattle.linear_law.proofs.CongruenceLemmas.{Congruent_sym, Congruent_trans, Congruent_add, Congruent_from, add-negated}
 use Rattle.linear_law.proofs.PivotLemmas.{zero_or_not, not_zero, Congruent_of_zero}
 use Rattle.linear_law.proofs.Counting.{Congruent_divide}
@@ -48,12 +48,3 @@ zero_if p n w h =
 
 pub same_of_difference : (p n : ℕ) (v w : ℕ → ℕ) → 1 < p → AgreesOn p (λ y. y < n) (λ y. v y + (p - 1) * w y) (λ y. 0) → AgreesOn p (λ y. y < n) v w
 same_of_difference p n v w large h = record { at = λ y b. Congruent_from (Congruent_add (h.at y b) (Congruent_sym (add-negated p (w y) large))) (omega arith) }
-
-module _ (p n : ℕ) (large : 1 < p) {M : (ℕ → ℕ) → Type 0} (space : IsSubspace p (λ y. y < n) M) where
-  -- members that agree at the pivots are one
-  pub determined_by : (v w : ℕ → ℕ) → M v → M w → ((x : ℕ) → IsPivot p (λ y. y < n) (λ a b. a < b) M x → Congruent p (v x) (w x)) → AgreesOn p (λ y. y < n) v w
-  determined_by v w hv hw h =
-      let d : ℕ → ℕ = λ y. v y + (p - 1) * w y in
-      let m : M d = space.plus (p - 1) v w hv hw in
-      same_of_difference p n v w large
-      (zero_if p n d (λ t l. Congruent_from (Congruent_add (h t (record { vector = d; member = m; lead = l })) (add-negated p (w t) large)) (omega arith)))

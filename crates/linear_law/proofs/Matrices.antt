@@ -8,22 +8,22 @@ pub length-copies : {A : Type 0} (k : ℕ) (a : A) → length (copies k a) ≡ k
 length-copies zero a = refl
 length-copies (suc k) a = ap suc (length-copies k a)
 
-copies-small : (p h : ℕ) → 1 < p → Each (λ c. c < p) (copies h 0)
+pub copies-small : (p h : ℕ) → 1 < p → Each (λ c. c < p) (copies h 0)
 copies-small p zero large = tt
 copies-small p (suc h) large = (omega arith, copies-small p h large)
 
-plus_scaled-length : (p c : ℕ) (xs ys : List ℕ) → length xs ≡ length ys → length (plus_scaled p c xs ys) ≡ length ys
+pub plus_scaled-length : (p c : ℕ) (xs ys : List ℕ) → length xs ≡ length ys → length (plus_scaled p c xs ys) ≡ length ys
 plus_scaled-length p c [] ys e = e
 plus_scaled-length p c (x ∷ xs) [] e = absurd (omega (arith, e))
 plus_scaled-length p c (x ∷ xs) (y ∷ ys) e = ap suc (plus_scaled-length p c xs ys (omega (arith, e)))
 
-plus_scaled-small : (p c : ℕ) (xs ys : List ℕ) → 1 < p → Each (λ c. c < p) (plus_scaled p c xs ys)
+pub plus_scaled-small : (p c : ℕ) (xs ys : List ℕ) → 1 < p → Each (λ c. c < p) (plus_scaled p c xs ys)
 plus_scaled-small p c [] ys large = tt
 plus_scaled-small p c (x ∷ xs) [] large = tt
 plus_scaled-small p c (x ∷ xs) (y ∷ ys) large = (mod-lt (c * x + y) (omega arith), plus_scaled-small p c xs ys large)
 
 module _ {X : Type 0} (p : ℕ) (large : 1 < p) where
-  combination-nothing : (h : ℕ) (ws : List (X → ℕ)) (x : X) → combination (copies h 0) ws x ≡ 0
+  pub combination-nothing : (h : ℕ) (ws : List (X → ℕ)) (x : X) → combination (copies h 0) ws x ≡ 0
   combination-nothing zero ws x = refl
   combination-nothing (suc h) [] x = refl
   combination-nothing (suc h) (w ∷ ws) x = let e = combination-nothing h ws x in omega arith

@@ -9,11 +9,12 @@ pub use Rattle.linear_law.proofs.UnitSums.{unit_sum-past, unit_sum-spans, unit_s
 pub use Rattle.linear_law.proofs.CanonicalVectors.{unit_sum-lead}
 pub use Rattle.linear_law.proofs.Counting.{apart_all, apart_short, counted_span}
 pub use Rattle.linear_law.proofs.Primes.{five_field, three_field, two_field}
-pub use Rattle.linear_law.proofs.LeadLemmas.{least_or_zero, mul_nonzero, nonzero_alike, zero_if}
+pub use Rattle.linear_law.proofs.LeadLemmas.{least_or_zero, mul_nonzero, nonzero_alike, same_of_difference, zero_if}
 pub use Rattle.linear_law.proofs.TriangularBases.{each_of_index, found}
 pub use Rattle.linear_law.proofs.CycleLemmas.{cycle_bound, cycle_value, pair_none, pair_one, pair_two, paired_plus, paired_same}
 pub use Rattle.linear_law.proofs.WalkSteps.{add_it, keep_it, skip_it, start_it}
 pub use Rattle.linear_law.proofs.WalkedSpaces.{classes_span, image_basis, image_pivot, kernel_canonical, kernel_fresh, kernel_leads, kernel_pivot, kernel_space, lead_pivot, primitive_vanishes}
 pub use Rattle.linear_law.proofs.Walks.{counted_walk}
 pub use Rattle.linear_law.proofs.QuotientBases.{coordinates, coordinates_count, coordinates_only, coordinates_rest, coordinates_small}
-pub use Rattle.linear_law.proofs.Matrices.{columns-combined, coordinates-alike, coordinates-apart, from_columns, length-copies}
+pub use Rattle.linear_law.proofs.Matrices.{columns-combined, copies-small, coordinates-alike, coordinates-apart, from_columns, length-copies, plus_scaled-length, plus_scaled-small}
+pub use Rattle.linear_law.proofs.ClassMaps.{IsClassSpace, IsLinearOnClasses, IsSameClass, class_combination, class_matrix, class_of, class_trans, combination_member, coordinates-zero, member_of, multiple_in, nothing, on_classes, related_matrix, zero-coordinates, zip_same, zip_through}

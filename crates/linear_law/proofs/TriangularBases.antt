@@ -2,10 +2,10 @@
 -- reduced basis with these leads.
 use Rattle.std.proofs.Common.{◌≡◌, ℕ, zero, suc, ◌+◌, ◌*◌, ◌-◌, ◌<◌, ◌≢◌, ◌⊎◌, List, [], ◌∷◌, map, arith, refl, sym, ap, subst, ◌∙◌, inl, inr}
 use Rattle.std.proofs.lemmas.Bool.{cases_eq, cases_order}
-use Rattle.linear_law.specs.Names.{Congruent, IsField, sum_over, Among, Each, IsApart, IsSubspace, IsReduced, expansion, IsPivot, HasReducedBasis, LeadsAt, PlacedVector, place_of}
+use Rattle.linear_law.specs.Names.{AgreesOn, Congruent, IsField, sum_over, Among, Each, IsApart, IsSubspace, IsReduced, expansion, IsPivot, HasReducedBasis, LeadsAt, PlacedVector, place_of}
 use Rattle.linear_law.proofs.CongruenceLemmas.{Congruent_trans, Congruent_add, Congruent_scale, Congruent_from, add-negated}
 use Rattle.linear_law.proofs.ListLemmas.{among_map, each_map, each_zip, each_among}
-use Rattle.linear_law.proofs.ReducedLemmas.{expanded_in, sum_picks}
+use Rattle.linear_law.proofs.ReducedLemmas.{expanded_in, sum_picks, sum_vanishes}
 use Rattle.linear_law.proofs.LeadLemmas.{zero_if, same_of_difference}
 use Rattle.linear_law.proofs.PivotLemmas.{one-nonzero}
 
@@ -22,6 +22,26 @@ found lead y (r ∷ rs) =
 pub each_of_index : {S : Type 0} (P : S → Type 0) (rs : List S) → ((s : S) → Among s rs → P s) → Each P rs
 each_of_index P [] h = tt
 each_of_index P (r ∷ rs) h = (h r (inl refl), each_of_index P rs (λ s m. h s (inr m)))
+
+-- a member of M is the sum of its values at the leads times the rows, if at each pivot of M that is no lead it and the rows are zero
+pub spans_where : (p n : ℕ) → 1 < p → {M : (ℕ → ℕ) → Type 0} → IsSubspace p (λ y. y < n) M → {S : Type 0} (lead : S → ℕ) (value : S → ℕ → ℕ) (rows : List S) → Each (λ s. M (value s)) rows → IsReduced p lead value rows →
+    (w : ℕ → ℕ) → M w → ((t : ℕ) → IsPivot p (λ y. y < n) (λ a b. a < b) M t → Among t (map lead rows) ⊎ (Congruent p (w t) 0 × Each (λ s. Congruent p (value s t) 0) rows)) →
+    AgreesOn p (λ y. y < n) w (expansion lead value rows w)
+spans_where p n large space lead value rows members reduced w m whole =
+    let e = expansion lead value rows w in
+    let d : ℕ → ℕ = λ x. w x + (p - 1) * e x in
+    let in_m = space.plus (p - 1) w e m (expanded_in p lead value space w rows members) in
+    same_of_difference p n w e large
+    (zero_if p n d (λ t l. elim (whole t (record { vector = d; member = in_m; lead = l })) [
+      | inl a ↦ elim (found lead t rows) [
+        | inr none ↦ absurd (none a)
+        | inl f ↦
+            let P : ℕ → Type 0 = λ z. Congruent p (d z) 0 in
+            let picked = each_among (λ s. Congruent p (sum_over (λ r. w (lead r) * value r (lead s)) rows) (w (lead s))) f.0 rows (sum_picks p lead value (λ r. w (lead r)) rows reduced) f.1 in
+            subst P f.2 (Congruent_from (Congruent_add (add-negated p (w (lead f.0)) large) (Congruent_scale (p - 1) picked)) (omega arith))
+      ]
+      | inr q ↦ Congruent_from (Congruent_add q.0 (Congruent_scale (p - 1) (sum_vanishes p lead value (λ r. w (lead r)) t rows q.1))) (omega arith)
+    ]))
 
 module _ (p n : ℕ) (field : IsField p) {M : (ℕ → ℕ) → Type 0} (space : IsSubspace p (λ y. y < n) M) {S : Type 0} (lead : S → ℕ) (value : S → ℕ → ℕ) (rows : List S)
     (members : Each (λ s. M (value s)) rows) (leads : Each (λ s. LeadsAt p n (value s) (lead s)) rows) where
@@ -149,20 +169,6 @@ module _ (p n : ℕ) (field : IsField p) {M : (ℕ → ℕ) → Type 0} (space :
           places = each_map (λ k (h : IsReducedRow k). h.inside) reduced_rows all;
           members = inside;
           reduced = reduced;
-          spans = λ w m.
-              let e = expansion place_of (λ (k : PlacedVector). k.vector) reduced_rows w in
-              let d : ℕ → ℕ = λ x. w x + (p - 1) * e x in
-              let in_m : M d = space.plus (p - 1) w e m (expanded_in p place_of (λ (k : PlacedVector). k.vector) space w reduced_rows inside) in
-              same_of_difference p n w e field.large
-              (zero_if p n d (λ t l.
-              let a = subst (Among t) (sym places) (whole t (record { vector = d; member = in_m; lead = l })) in
-              elim (found place_of t reduced_rows) [
-                | inr none ↦ absurd (none a)
-                | inl f ↦
-                    let P : ℕ → Type 0 = λ z. Congruent p (d z) 0 in
-                    let picked = each_among (λ (s : PlacedVector). Congruent p (sum_over (λ (r : PlacedVector). w r.place * r.vector s.place) reduced_rows) (w s.place)) f.0 reduced_rows
-                    (sum_picks p place_of (λ (k : PlacedVector). k.vector) (λ (k : PlacedVector). w k.place) reduced_rows reduced) f.1 in
-                    subst P f.2 (Congruent_from (Congruent_add (add-negated p (w f.0.place) field.large) (Congruent_scale (p - 1) picked)) (omega arith))
-              ]));
+          spans = λ w m. spans_where p n field.large space place_of (λ (k : PlacedVector). k.vector) reduced_rows inside reduced w m (λ t q. inl (subst (Among t) (sym places) (whole t q)));
         };
       }

@@ -1,13 +1,12 @@
 -- What a walk of all places says of the kernel and of the image of a linear map.
-use Rattle.std.proofs.Common.{ℕ, ◌+◌, ◌*◌, ◌-◌, ◌<◌, ◌≤◌, ◌⊎◌, List, map, arith, sym, subst, ◌∙◌, inl, inr}
+use Rattle.std.proofs.Common.{ℕ, ◌+◌, ◌*◌, ◌<◌, ◌≤◌, ◌⊎◌, List, map, arith, sym, subst, ◌∙◌, inl, inr}
 use native.Mathlib.Nat.{zero-mod}
-use Rattle.linear_law.specs.Names.{Congruent, IsField, sum_over, Each, Among, AgreesOn, IsSubspace, expansion, ImageVector, IsImage, IsInKernel, IsLinear, KernelVector, IsPivot, IsCanonical, WalkLaw, HasReducedBasis, LeadsAt, StartsAt, Skips, Walked, kernel_place, image_place}
-use Rattle.linear_law.proofs.CongruenceLemmas.{Congruent_sym, Congruent_trans, Congruent_add, Congruent_scale, Congruent_from, add-negated}
+use Rattle.linear_law.specs.Names.{Congruent, IsField, Each, Among, AgreesOn, IsSubspace, expansion, ImageVector, IsImage, IsInKernel, IsLinear, KernelVector, IsPivot, IsCanonical, WalkLaw, HasReducedBasis, LeadsAt, StartsAt, Skips, Walked, kernel_place, image_place}
+use Rattle.linear_law.proofs.CongruenceLemmas.{Congruent_sym, Congruent_trans, Congruent_add, Congruent_scale, Congruent_from}
 use Rattle.linear_law.proofs.ListLemmas.{each_map, each_zip, each_among}
 use Rattle.linear_law.proofs.PivotLemmas.{one-nonzero, reduced_apart, reduced_one}
-use Rattle.linear_law.proofs.ReducedLemmas.{expanded_in, sum_picks, sum_vanishes}
-use Rattle.linear_law.proofs.LeadLemmas.{zero_if, same_of_difference, lead_alike}
-use Rattle.linear_law.proofs.TriangularBases.{each_of_index, found, reduced_basis}
+use Rattle.linear_law.proofs.LeadLemmas.{lead_alike}
+use Rattle.linear_law.proofs.TriangularBases.{spans_where, each_of_index, found, reduced_basis}
 
 module _ (p count width : ℕ) (field : IsField p) (L : (ℕ → ℕ) → ℕ → ℕ) (linear : IsLinear p count (λ y. y < width) L) (skipped : ℕ → Type 0)
     (kernel : List KernelVector) (images : List (ImageVector ℕ)) (state : Walked p count width L skipped 0 kernel images) where
@@ -87,23 +86,8 @@ module _ (p count width : ℕ) (field : IsField p) (L : (ℕ → ℕ) → ℕ �
   -- what is zero at the skipped places is the sum of its values at the places of the kernel times the vectors
   pub classes_span : (w : ℕ → ℕ) → (IsInKernel p (λ y. y < width) L) w → Skips p skipped w → AgreesOn p (λ x. x < count) w (expansion kernel_place (λ (k : KernelVector). k.vector) kernel w)
   classes_span w m s =
-      let e = expansion kernel_place (λ (k : KernelVector). k.vector) kernel w in
-      let d : ℕ → ℕ = λ x. w x + (p - 1) * e x in
-      let in_m : (IsInKernel p (λ y. y < width) L) d = kernel_space.plus (p - 1) w e m (expanded_in p kernel_place (λ (k : KernelVector). k.vector) kernel_space w kernel state.kernel_zero) in
-      same_of_difference p count w e field.large
-      (zero_if p count d (λ t l. elim (kernel_pivot t (record { vector = d; member = in_m; lead = l })) [
-        | inl a ↦ elim (found kernel_place t kernel) [
-          | inr none ↦ absurd (none a)
-          | inl f ↦
-              let P : ℕ → Type 0 = λ z. Congruent p (d z) 0 in
-              let picked = each_among (λ (s : KernelVector). Congruent p (sum_over (λ (r : KernelVector). w r.place * r.vector s.place) kernel) (w s.place)) f.0 kernel
-              (sum_picks p kernel_place (λ (k : KernelVector). k.vector) (λ (k : KernelVector). w k.place) kernel state.kernel_reduced) f.1 in
-              subst P f.2 (Congruent_from (Congruent_add (add-negated p (w f.0.place) field.large) (Congruent_scale (p - 1) picked)) (omega arith))
-        ]
-        | inr q ↦
-            let none = sum_vanishes p kernel_place (λ (k : KernelVector). k.vector) (λ (k : KernelVector). w k.place) t kernel (each_map (λ k (h : Skips p skipped k.vector). h.at t q) kernel state.kernel_skips) in
-            Congruent_from (Congruent_add (s.at t q) (Congruent_scale (p - 1) none)) (omega arith)
-      ]))
+      spans_where p count field.large kernel_space kernel_place (λ (k : KernelVector). k.vector) kernel state.kernel_zero state.kernel_reduced w m
+      (λ t q. elim (kernel_pivot t q) [ inl a ↦ inl a | inr b ↦ inr (s.at t b, each_map (λ k (h : Skips p skipped k.vector). h.at t b) kernel state.kernel_skips) ])
 
   -- ---- primitives
 

@@ -7,5 +7,5 @@ pub use Rattle.linear_law.specs.Elimination.{ImageVector, IsImage, IsInKernel, I
 pub use Rattle.linear_law.specs.Listing.{ListsAll, row_combination, row_combination_from, unit_sum_from, unit_vector}
 pub use Rattle.linear_law.specs.Triangular.{CountedWalk, HasReducedBasis, LeadsAt, PlacedVector, Skips, StartsAt, Walked, image_place, kernel_place, place_of}
 pub use Rattle.linear_law.specs.Pairing.{IsCycle, paired}
-pub use Rattle.linear_law.specs.Matrices.{IsCoordinates, matrix_times, plus_scaled}
+pub use Rattle.linear_law.specs.Matrices.{CarriesCoordinates, CarriesRelated, IsCoordinates, IsMatrixOf, matrix_times, plus_scaled}
 pub use Rattle.linear_law.specs.Laws.{CongruenceLaws, CountedWalkLaw, PrimeFields, WalkLaw}

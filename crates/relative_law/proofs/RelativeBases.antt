@@ -1,14 +1,14 @@
 -- The vectors that a walk of the rows of relative cochains keeps are the canonical relative classes, and a basis
 -- of relative cohomology.
-use Rattle.std.proofs.Common.{◌≡◌, ℕ, ◌+◌, ◌*◌, ◌-◌, ◌%◌, ◌<◌, ◌≤◌, ◌⊎◌, List, [], ◌∷◌, map, length, get_or, arith, sym, ap, ap₂, subst, ◌∙◌, inl, inr}
+use Rattle.std.proofs.Common.{◌≡◌, ℕ, ◌+◌, ◌*◌, ◌-◌, ◌<◌, ◌≤◌, ◌⊎◌, List, [], ◌∷◌, map, length, get_or, sym, ap, ap₂, subst, ◌∙◌, inl, inr}
 use Rattle.std.specs.List.{AllZip}
 use Rattle.std.proofs.Math.ListN.{length-map}
 use Rattle.std.proofs.lemmas.Simd.{map-map}
 use Rattle.linear_law.specs.Names.{Congruent, IsField, negated, Among, Each, IsAscending, AgreesOn, IsSubspace, combination, expansion, ImageVector, IsImage, IsInKernel, IsLinear, KernelVector, ListsAll, row_combination, IsCanonical, IsPivot, LeadsAt, Skips, Walked, image_place, kernel_place}
-use Rattle.linear_law.proofs.Names.{each_alike, each_right, length_alike, zip_each, zip_left, zip_right, Congruent_add, Congruent_from, Congruent_of, Congruent_refl, Congruent_scale, Congruent_sym, Congruent_trans, among_map, each_among, each_map, each_of_map, each_zip, not_zero, coordinates, coordinates_count, coordinates_only, coordinates_rest, coordinates_small, found, classes_span, image_pivot, kernel_canonical, kernel_fresh, kernel_leads, kernel_pivot, kernel_space, lead_pivot, primitive_vanishes}
-use Rattle.simplicial_law.specs.Names.{IsInOrder, IsSimplex, Precedes, AgreesOnSimplices, Chain, Cochain, coboundary, AreTerms, cochain_of, IsRowOf, cochain_at, terms_of}
+use Rattle.linear_law.proofs.Names.{each_alike, each_right, length_alike, zip_each, zip_left, zip_right, Congruent_add, Congruent_of, Congruent_refl, Congruent_scale, Congruent_sym, Congruent_trans, among_map, each_among, each_map, each_of_map, each_zip, not_zero, coordinates, coordinates_count, coordinates_only, coordinates_rest, coordinates_small, found, classes_span, image_pivot, kernel_canonical, kernel_fresh, kernel_leads, kernel_pivot, kernel_space, lead_pivot, primitive_vanishes}
+use Rattle.simplicial_law.specs.Names.{IsInOrder, IsSimplex, AgreesOnSimplices, Chain, Cochain, coboundary, AreTerms, cochain_of, IsRowOf, cochain_at, terms_of}
 use Rattle.simplicial_law.proofs.Names.{no_bounds, agree_by_place, canonical_up, cochain_at-value, ordered_places, pivot_down, pivot_up, simplex_at, value_by_place}
-use Rattle.relative_law.proofs.RelativeDegrees.{IsOff, IsOuterByPlace, coboundary_down, coboundary_up, cocycle_down, cocycle_up, linear, off_down, off_up, outer_itself, rows_by_place}
+use Rattle.relative_law.proofs.RelativeDegrees.{IsOff, IsOuterByPlace, coboundary_down, coboundary_up, cocycle_down, cocycle_up, linear, off_up, outer_itself, rows_by_place}
 use Rattle.relative_law.proofs.Spaces.{bound_relative, forget_bound, relative_close, relative_coboundaries, relative_cocycles}
 use Rattle.relative_law.specs.Names.{RelativeBasisLaw, IsRelativeBasis, IsRelativeCoboundary, IsRelativeCocycle, IsSubcomplex, IsCanonicalRelativeBasis, IsCanonicalRelativeClass, IsCanonicalRelativeCoboundary, IsCanonicalRelativePrimitive, IsRelativeCoboundaryPivot, IsRelativeCocyclePivot, AreRelativeBoundPlaces, AreSkippedPlaces}
 
@@ -59,30 +59,35 @@ module _ (facets sub : List (List ℕ)) (n p : ℕ) (field : IsField p) (pair : 
         decide = λ x. elim (found image_place x images) [ inl f ↦ inl (among_map image_place f.0 x images f.1 f.2) | inr none ↦ inr none ];
       }
 
--- ---- the relative coboundaries, by places
+-- ---- spaces of cochains, by places
+
+module _ (facets : List (List ℕ)) (n p : ℕ) (here : List (List ℕ)) (all_here : ListsAll (IsSimplex facets n) here) {N : Cochain → Type 0} (space : IsSubspace p (IsSimplex facets n) N) where
+  member_by_place : (v : ℕ → ℕ) (f : Cochain) → ((x : ℕ) → x < length here → Congruent p (v x) (f (get_or here x []))) → N f → N (cochain_at here v)
+  member_by_place v f h =
+      space.alike (cochain_at here v) f (agree_by_place facets n p here all_here (cochain_at here v) f (λ x c. Congruent_trans (Congruent_of (cochain_at-value facets n p here all_here v x c)) (h x c)))
+
+  member_down : (f : Cochain) → N f → N (cochain_at here (λ x. f (get_or here x [])))
+  member_down f = member_by_place (λ x. f (get_or here x [])) f (λ x c. Congruent_refl (f (get_or here x [])))
+
+  space_by_place : IsSubspace p (λ x. x < length here) (λ v. N (cochain_at here v))
+  space_by_place =
+      let value = cochain_at-value facets n p here all_here in
+      record {
+        zero_in = member_by_place (λ x. 0) (λ s. 0) (λ x c. Congruent_refl 0) space.zero_in;
+        plus = λ k v w hv hw. member_by_place (λ x. v x + k * w x) (λ s. cochain_at here v s + k * cochain_at here w s)
+            (λ x c. Congruent_of (sym (ap₂ (λ a b. a + k * b) (value v x c) (value w x c)))) (space.plus k (cochain_at here v) (cochain_at here w) hv hw);
+        alike = λ v w same. member_by_place v (cochain_at here w) (λ x c. Congruent_trans (same.at x c) (Congruent_of (sym (value w x c))));
+      }
 
 abbrev pub IsBoundByPlace : List (List ℕ) → List (List ℕ) → ℕ → ℕ → List (List ℕ) → (ℕ → ℕ) → Type 0
 IsBoundByPlace facets sub n p here v = IsRelativeCoboundary facets sub n p (cochain_at here v)
 
 module _ (facets sub : List (List ℕ)) (n p : ℕ) (large : 1 < p) (pair : IsSubcomplex sub facets) (here : List (List ℕ)) (all_here : ListsAll (IsSimplex facets n) here) where
-  bound_by_place : (v : ℕ → ℕ) (f : Cochain) → ((x : ℕ) → x < length here → Congruent p (v x) (f (get_or here x []))) → IsRelativeCoboundary facets sub n p f → IsBoundByPlace facets sub n p here v
-  bound_by_place v f h b =
-      (relative_coboundaries facets sub n p large pair).alike (cochain_at here v) f
-      (agree_by_place facets n p here all_here (cochain_at here v) f (λ x c. Congruent_trans (Congruent_of (cochain_at-value facets n p here all_here v x c)) (h x c))) b
-
   pub bounds_by_place : IsSubspace p (λ x. x < length here) (IsBoundByPlace facets sub n p here)
-  bounds_by_place =
-      let in_b = relative_coboundaries facets sub n p large pair in
-      let value = cochain_at-value facets n p here all_here in
-      record {
-        zero_in = bound_by_place (λ x. 0) (λ s. 0) (λ x c. Congruent_refl 0) in_b.zero_in;
-        plus = λ k v w hv hw. bound_by_place (λ x. v x + k * w x) (λ s. cochain_at here v s + k * cochain_at here w s)
-            (λ x c. Congruent_of (sym (ap₂ (λ a b. a + k * b) (value v x c) (value w x c)))) (in_b.plus k (cochain_at here v) (cochain_at here w) hv hw);
-        alike = λ v w same h. bound_by_place v (cochain_at here w) (λ x c. Congruent_trans (same.at x c) (Congruent_of (sym (value w x c)))) h;
-      }
+  bounds_by_place = space_by_place facets n p here all_here (relative_coboundaries facets sub n p large pair)
 
   pub bound_down : (f : Cochain) → IsRelativeCoboundary facets sub n p f → IsBoundByPlace facets sub n p here (λ x. f (get_or here x []))
-  bound_down f h = bound_by_place (λ x. f (get_or here x [])) f (λ x c. Congruent_refl (f (get_or here x []))) h
+  bound_down = member_down facets n p here all_here (relative_coboundaries facets sub n p large pair)
 
 -- ---- the relative cocycles of one degree
 
@@ -95,43 +100,33 @@ module _ (facets sub : List (List ℕ)) (n p : ℕ) (field : IsField p) (pair : 
   linear_here : IsLinear p (length here) (λ y. y < length above) L
   linear_here = linear facets sub n p pair here all_here above all_above L is_outer
 
-  -- the relative cocycles, by places
-  record IsClosed (v : ℕ → ℕ) : Type 0 where
-    zero : IsInKernel p (λ y. y < length above) L v
-    off : IsOff sub n p here v
-
-  kernel_here : IsSubspace p (λ x. x < length here) (IsInKernel p (λ y. y < length above) L)
-  kernel_here = kernel_space p (length here) (length above) field L linear_here skipped kernel images state
-
-  closed_space : IsSubspace p (λ x. x < length here) IsClosed
-  closed_space = record {
-    zero_in = record { zero = kernel_here.zero_in; off = record { at = λ x b on. Congruent_refl 0 } };
-    plus = λ k v w hv hw. record {
-      zero = kernel_here.plus k v w hv.zero hw.zero;
-      off = record { at = λ x b on. Congruent_from (Congruent_add (hv.off.at x b on) (Congruent_scale k (hw.off.at x b on))) (omega arith) };
-    };
-    alike = λ v w same h. record { zero = kernel_here.alike v w same h.zero; off = record { at = λ x b on. Congruent_trans (same.at x b) (h.off.at x b on) } };
-  }
-
-  closed_up : (v : ℕ → ℕ) → IsClosed v → IsRelativeCocycle facets sub n p (cochain_at here v)
-  closed_up v h = cocycle_up facets sub n p pair here all_here above all_above L is_outer v h.zero h.off
+  -- the relative cocycles, by places: they are in the kernel, and 0 at the places of the subcomplex
+  abbrev IsClosed : (ℕ → ℕ) → Type 0
+  IsClosed v = IsRelativeCocycle facets sub n p (cochain_at here v)
 
   closed_down : (f : Cochain) → IsRelativeCocycle facets sub n p f → IsClosed (λ x. f (get_or here x []))
-  closed_down f h = record { zero = cocycle_down facets sub n p pair here all_here above all_above L is_outer f h; off = off_down facets sub n p pair here all_here f h.relative }
+  closed_down = member_down facets n p here all_here (relative_cocycles facets sub n p field.large pair)
+
+  closed_zero : (v : ℕ → ℕ) → IsClosed v → IsInKernel p (λ y. y < length above) L v
+  closed_zero v h = (kernel_space p (length here) (length above) field L linear_here skipped kernel images state).alike v (λ x. cochain_at here v (get_or here x []))
+      (record { at = λ x b. Congruent_of (sym (cochain_at-value facets n p here all_here v x b)) }) (cocycle_down facets sub n p pair here all_here above all_above L is_outer (cochain_at here v) h)
+
+  closed_off : (v : ℕ → ℕ) → IsClosed v → IsOff sub n p here v
+  closed_off v h = record { at = λ x b on. Congruent_trans (Congruent_of (sym (cochain_at-value facets n p here all_here v x b))) (h.relative.at (get_or here x []) on) }
 
   -- the vectors of the kernel are 0 at the places of the subcomplex
   kernel_off : (k : KernelVector) → Skips p skipped k.vector → IsOff sub n p here k.vector
   kernel_off k s = record { at = λ x b on. s.at x (places.covers x b on) }
 
   pivot_here : (x : ℕ) → IsPivot p (λ x. x < length here) (λ a b. a < b) IsClosed x → IsPivot p (λ x. x < length here) (λ a b. a < b) (IsInKernel p (λ y. y < length above) L) x
-  pivot_here x h = record { vector = h.vector; member = h.member.zero; lead = h.lead }
+  pivot_here x h = record { vector = h.vector; member = closed_zero h.vector h.member; lead = h.lead }
 
   canonical_here : Each (λ k. IsCanonical p (λ x. x < length here) (λ a b. a < b) IsClosed k.place k.vector) kernel
   canonical_here =
       each_zip {P = λ k. IsCanonical p (λ x. x < length here) (λ a b. a < b) (IsInKernel p (λ y. y < length above) L) k.place k.vector} {Q = λ k. LeadsAt p (length here) k.vector k.place × Skips p skipped k.vector}
       {S = λ k. IsCanonical p (λ x. x < length here) (λ a b. a < b) IsClosed k.place k.vector}
       (λ k c (m : LeadsAt p (length here) k.vector k.place × Skips p skipped k.vector).
-      let member : IsClosed k.vector = record { zero = c.member; off = kernel_off k m.1 } in
+      let member : IsClosed k.vector = cocycle_up facets sub n p pair here all_here above all_above L is_outer k.vector c.member (kernel_off k m.1) in
       record { pivot = record { vector = k.vector; member = member; lead = m.0 }; member = member; one = c.one; others = λ y q n. c.others y (pivot_here y q) n })
       kernel (kernel_canonical p (length here) (length above) field L linear_here skipped kernel images state)
       (each_zip (λ k a b. (a, b)) kernel (kernel_leads p (length here) (length above) field L linear_here skipped kernel images state) state.kernel_skips)
@@ -143,18 +138,18 @@ module _ (facets sub : List (List ℕ)) (n p : ℕ) (field : IsField p) (pair : 
   class_at =
       each_zip
       (λ k (c : IsCanonical p (λ x. x < length here) (λ a b. a < b) IsClosed k.place k.vector) fresh. record {
-        canonical = canonical_up facets n p here all_here here_ordered closed_up closed_down k.place k.vector c;
+        canonical = canonical_up facets n p here all_here here_ordered {M = IsClosed} (λ v h. h) closed_down k.place k.vector c;
         no_bound = λ h. fresh (places.whole k.place c.pivot.lead.on h);
       })
       kernel canonical_here (kernel_fresh p (length here) (length above) field L linear_here skipped kernel images state)
 
   pub all_classes : (s : List ℕ) → IsRelativeCocyclePivot facets sub n p s → (IsRelativeCoboundaryPivot facets sub n p s → ⊥) → Among s (map simplex_of kernel)
   all_classes s h none =
-      let d = pivot_down facets n p here all_here here_ordered closed_up closed_down s h in
+      let d = pivot_down facets n p here all_here here_ordered {M = IsClosed} (λ v h. h) closed_down s h in
       elim (kernel_pivot p (length here) (length above) field L linear_here skipped kernel images state d.0 (pivot_here d.0 d.3)) [
         | inr b ↦ elim (places.sound d.0 b) [
           | inl q ↦ absurd (none (subst (IsRelativeCoboundaryPivot facets sub n p) d.2 q))
-          | inr on ↦ absurd (not_zero p (d.3.vector d.0) d.3.lead.nonzero (d.3.member.off.at d.0 d.1 on))
+          | inr on ↦ absurd (not_zero p (d.3.vector d.0) d.3.lead.nonzero ((closed_off d.3.vector d.3.member).at d.0 d.1 on))
         ]
         | inl a ↦ elim (found kernel_place d.0 kernel) [
           | inr away ↦ absurd (away a)
@@ -163,9 +158,10 @@ module _ (facets sub : List (List ℕ)) (n p : ℕ) (field : IsField p) (pair : 
       ]
 
   bounds_close_here : (w : ℕ → ℕ) → IsBoundByPlace facets sub n p here w → IsClosed w
-  bounds_close_here w h =
-      closed_space.alike w (λ x. cochain_at here w (get_or here x [])) (record { at = λ x c. Congruent_of (sym (cochain_at-value facets n p here all_here w x c)) })
-      (closed_down (cochain_at here w) (relative_close facets sub n p field.large pair (cochain_at here w) h))
+  bounds_close_here w = relative_close facets sub n p field.large pair (cochain_at here w)
+
+  closed_space : IsSubspace p (λ x. x < length here) IsClosed
+  closed_space = space_by_place facets n p here all_here (relative_cocycles facets sub n p field.large pair)
 
   -- the skipped places outside the subcomplex are those of the pivots of the relative coboundaries
   record IsBound (x : ℕ) : Type 0 where
@@ -202,8 +198,8 @@ module _ (facets sub : List (List ℕ)) (n p : ℕ) (field : IsField p) (pair : 
 
   spans_here : (w : ℕ → ℕ) → IsClosed w → Skips p IsBound w → AgreesOn p (λ x. x < length here) w (expansion kernel_place (λ (k : KernelVector). k.vector) kernel w)
   spans_here w h s =
-      classes_span p (length here) (length above) field L linear_here skipped kernel images state w h.zero
-      (record { at = λ x b. elim (places.sound x b) [ inl q ↦ s.at x (record { skipped_there = b; pivot = q }) | inr on ↦ h.off.at x (places.inside x b) on ] })
+      classes_span p (length here) (length above) field L linear_here skipped kernel images state w (closed_zero w h)
+      (record { at = λ x b. elim (places.sound x b) [ inl q ↦ s.at x (record { skipped_there = b; pivot = q }) | inr on ↦ (closed_off w h).at x (places.inside x b) on ] })
 
   coordinates_here : (ℕ → ℕ) → List ℕ
   coordinates_here =
@@ -235,7 +231,7 @@ module _ (facets sub : List (List ℕ)) (n p : ℕ) (field : IsField p) (pair : 
     rest_down : (z : Cochain) (cs : List ℕ) → IsRelativeCoboundary facets sub n p (λ s. z s + negated p (combination cs (map cochain_of classes) s))
         → IsBoundByPlace facets sub n p here (λ x. z (get_or here x []) + (p - 1) * combination cs (map (λ (k : KernelVector). k.vector) kernel) x)
     rest_down z cs h =
-        bound_by_place facets sub n p field.large pair here all_here (λ x. z (get_or here x []) + (p - 1) * combination cs (map (λ (k : KernelVector). k.vector) kernel) x) (λ s. z s + negated p (combination cs (map cochain_of classes) s))
+        member_by_place facets n p here all_here (relative_coboundaries facets sub n p field.large pair) (λ x. z (get_or here x []) + (p - 1) * combination cs (map (λ (k : KernelVector). k.vector) kernel) x) (λ s. z s + negated p (combination cs (map cochain_of classes) s))
         (λ x b. Congruent_sym (by_place z cs x b)) h
 
     rest_up : (z : Cochain) (cs : List ℕ) → IsBoundByPlace facets sub n p here (λ x. z (get_or here x []) + (p - 1) * combination cs (map (λ (k : KernelVector). k.vector) kernel) x)
@@ -329,20 +325,12 @@ module _ (facets sub : List (List ℕ)) (n p : ℕ) (field : IsField p) (pair : 
             ((outer_itself facets sub n p (cochain_at here from) relative).at (get_or above j []) (simplex_at facets (n + 1) p above all_above j b)))));
         relative = relative;
         vanishes = λ s q.
-            let x = all_here.whole s q.lead.on in
-            let k : IsPivot p (λ x. x < length here) (λ a b. a < b) (IsInKernel p (λ y. y < length above) L) x.0 = record {
-              vector = λ i. q.vector (get_or here i []);
-              member = cocycle_down facets sub n p pair here all_here above all_above L is_outer q.vector q.member;
-              lead = record {
-                on = x.1;
-                nonzero = λ e. q.lead.nonzero (ap (λ (t : List ℕ). q.vector t % p) (sym (x.2 [])) ∙ e);
-                least = λ i b less. q.lead.least (get_or here i []) (simplex_at facets n p here all_here i b) (subst (λ (t : List ℕ). Precedes (get_or here i []) t) (x.2 []) (here_ordered i x.0 less x.1));
-              };
-            } in
+            let d = pivot_down facets n p here all_here here_ordered {M = λ v. IsRelativeCocycle facets sub n p (cochain_at here v)} (λ v h. h) (member_down facets n p here all_here (relative_cocycles facets sub n p field.large pair)) s q in
             let P : List ℕ → Type 0 = λ t. Congruent p (cochain_at here from t) 0 in
-            subst P (x.2 [])
-            (Congruent_trans (Congruent_of (cochain_at-value facets n p here all_here from x.0 x.1))
-            (primitive_vanishes p (length here) (length above) field L (linear facets sub n p pair here all_here above all_above L is_outer) skipped kernel images state from apart skips x.0 k));
+            subst P d.2
+            (Congruent_trans (Congruent_of (cochain_at-value facets n p here all_here from d.0 d.1))
+            (primitive_vanishes p (length here) (length above) field L (linear facets sub n p pair here all_here above all_above L is_outer) skipped kernel images state from apart skips d.0
+            (pivot_here facets sub n p field pair here all_here here_ordered above all_above L is_outer skipped places kernel images state d.0 d.3)));
       }
 
 pub relative_basis_law : RelativeBasisLaw

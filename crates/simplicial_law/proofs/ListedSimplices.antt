@@ -9,7 +9,7 @@ use Rattle.std.specs.Cmp.Lexicographic.{nat_list_cmp_total}
 use Rattle.std.specs.FinMap.{slice_cmp-IsAntisymmetric, nat_cmp-IsAntisymmetric}
 use Rattle.std.specs.BTreeSet.{insert_key}
 use Rattle.linear_law.specs.Names.{Each, Among, IsAscending, ListsAll}
-use Rattle.linear_law.proofs.Names.{each_among, each_map}
+use Rattle.linear_law.proofs.Names.{each_among, each_map, each_of_index}
 use Rattle.simplicial_law.specs.Names.{IsInOrder, IsSimplex, Precedes, IsClosed, ListedSimplicesLaw, of_degree, simplex_cmp, sublists}
 use Rattle.simplicial_law.specs.ListedSimplices.{simplices, with_facet}
 use Rattle.simplicial_law.proofs.OrderedKeys.{among_inserted, insert_keeps, insert_puts, sorted_inserted}
@@ -226,16 +226,12 @@ get_or_any [] k d e h = absurd (omega arith)
 get_or_any (x ∷ xs) zero d e h = refl
 get_or_any (x ∷ xs) (suc k) d e h = get_or_any xs k d e (omega arith)
 
-pub each_of : {X : Type 0} (P : X → Type 0) (xs : List X) → ((x : X) → Among x xs → P x) → Each P xs
-each_of P [] f = tt
-each_of P (x ∷ xs) f = (f x (inl refl), each_of P xs (λ y m. f y (inr m)))
-
 pub of_degree_sorted : (facets : List (List ℕ)) (n : ℕ) → IsStrictlySortedBy simplex_cmp (of_degree n (simplices facets))
 of_degree_sorted facets n = of_size_sorted (simplices facets) (n + 1) (simplices_sorted facets)
 
 degree_lists_all : (facets : List (List ℕ)) (n : ℕ) → Each IsAscending facets → ListsAll (IsSimplex facets n) (of_degree n (simplices facets))
 degree_lists_all facets n h = record {
-  sound = each_of (IsSimplex facets n) (of_degree n (simplices facets)) (λ s m.
+  sound = each_of_index (IsSimplex facets n) (of_degree n (simplices facets)) (λ s m.
       let q = of_filter (λ t. eqb (length t) (n + 1)) (simplices facets) s m in
       let e : length s ≡ n + 1 = length_of_test s (n + 1) q.1 in
       let d : length s - 1 ≡ n = omega (arith, e) in
