@@ -1,29 +1,25 @@
 -- Values, sums over walks and faces, for the value of a composition on cochains.
-use Rattle.std.proofs.Common.{◌≡◌, ℕ, zero, suc, ◌+◌, ◌-◌, ◌<◌, ◌≤◌, ◌⊎◌, inl, inr, cond, ◌==◌, List, [], ◌∷◌, length, map, refl, sym, ◌∙◌, ap, arith, ℤ, ◌+ℤ◌, ◌*ℤ◌, eq-eqb, ne_eqb}
+use Rattle.std.proofs.Common.{◌≡◌, ℕ, zero, suc, ◌+◌, ◌-◌, ◌<◌, ◌≤◌, inl, inr, cond, ◌==◌, List, [], ◌∷◌, length, map, refl, sym, ◌∙◌, ap, arith, ℤ, ◌+ℤ◌, ◌*ℤ◌, eq-eqb, ne_eqb}
 use Rattle.std.proofs.Math.IntN.{*ℤ-zero}
+use Rattle.std.proofs.lemmas.Bool.{cases_lt}
+use Rattle.std.proofs.lemmas.Bool.Decides.{nat_tests}
 use Rattle.std.proofs.lemmas.Int.{ints}
 use Rattle.interval_cut_law.proofs.CutsAsWalks.{cut_sum-walk_sum}
-use Rattle.interval_cut_law.proofs.GapWords.{less-yes}
 use Rattle.interval_cut_law.proofs.Walks.{walk_face, walk_sum, walk_term}
 use Rattle.interval_cut_law.specs.Names.{cut_sum}
-use Rattle.signed_sum.proofs.Names.{less-no, occurs-apart, mul-add, signed-+, signed-zero}
+use Rattle.signed_sum.proofs.Names.{less-no, occurs-apart, mul-add, signed-+, signed-zero, less-yes}
 use Rattle.signed_sum.specs.Names.{less, numbers_from, occurs, signed}
 use Rattle.composition_law.specs.Surjections.{grown, lifted}
 use Rattle.composition_law.proofs.CutByCut.{right-steps}
 use Rattle.composition_law.proofs.CutValues.{cells_as}
 use Rattle.composition_law.proofs.States.{AllKind}
-use Rattle.composition_law.proofs.Steps.{CutCell, Step, go, go_on, inner_of, out_go, out_stop, outer_as, outer_of, pass, stop, triple, turn, zero_face}
-use Rattle.composition_law.proofs.Surjections.{grown-high, grown-low, kind}
+use Rattle.composition_law.proofs.Steps.{Gap, Step, go, go_on, inner_of, out_go, out_stop, outer_of, pass, stop, triple, turn, zero_face}
+use Rattle.composition_law.proofs.Surjections.{grown-high, grown-low}
 
 -- ---- numbers
 
-pub split : (a b : ℕ) → (a < b) ⊎ (b ≤ a)
-split a zero = inr (omega arith)
-split zero (suc b) = inl (omega arith)
-split (suc a) (suc b) = elim (split a b) [ inl h ↦ inl (omega (arith, h)) | inr h ↦ inr (omega (arith, h)) ]
-
 pub less-same : (a b c d : ℕ) → (a < b → c < d) → (b ≤ a → d ≤ c) → less c d ≡ less a b
-less-same a b c d f g = elim (split a b) [
+less-same a b c d f g = elim (cases_lt a b) [
   | inl h ↦ less-yes c d (f h) ∙ sym (less-yes a b h)
   | inr h ↦ less-no c d (g h) ∙ sym (less-no a b h)
 ]
@@ -32,16 +28,7 @@ pub lifted-mono : (k v w : ℕ) → less (lifted k v) (lifted k w) ≡ less v w
 lifted-mono k v w = less-same v w (lifted k v) (lifted k w) (λ h. omega (arith, h)) (λ h. omega (arith, h))
 
 pub grown-mono : (k s v w : ℕ) → less (grown k s v) (grown k s w) ≡ less v w
-grown-mono k s v w = elim (split k v) [
-  | inl h ↦ elim (split k w) [
-    | inl g ↦ let p = grown-high k s v h in let q = grown-high k s w g in less-same v w (grown k s v) (grown k s w) (λ l. omega (arith, p, q, l)) (λ l. omega (arith, p, q, l))
-    | inr g ↦ let p = grown-high k s v h in let q = grown-low k s w g in less-same v w (grown k s v) (grown k s w) (λ l. omega (arith, p, q, l, h, g)) (λ l. omega (arith, p, q, l, h, g))
-  ]
-  | inr h ↦ elim (split k w) [
-    | inl g ↦ let p = grown-low k s v h in let q = grown-high k s w g in less-same v w (grown k s v) (grown k s w) (λ l. omega (arith, p, q, l)) (λ l. omega (arith, p, q, l, h, g))
-    | inr g ↦ let p = grown-low k s v h in let q = grown-low k s w g in less-same v w (grown k s v) (grown k s w) (λ l. omega (arith, p, q, l)) (λ l. omega (arith, p, q, l))
-  ]
-]
+grown-mono k s v w = less-same v w (grown k s v) (grown k s w) (λ l. grind (arith, nat_tests)) (λ l. grind (arith, nat_tests))
 
 pub lifted-numbers : (k a n : ℕ) → map (lifted k) (numbers_from a n) ≡ numbers_from (a + (k - 1)) n
 lifted-numbers k a zero = refl
@@ -58,7 +45,7 @@ grown-numbers-high k s a (suc n) h =
 
 -- ---- sums
 
-pub walk_sum-scale : (z : ℤ) (u s : List ℕ) (f : List CutCell → ℤ) → walk_sum u s (λ c. z *ℤ f c) ≡ z *ℤ walk_sum u s f
+pub walk_sum-scale : (z : ℤ) (u s : List ℕ) (f : List Gap → ℤ) → walk_sum u s (λ c. z *ℤ f c) ≡ z *ℤ walk_sum u s f
 walk_sum-scale z [] [] f = sym (*ℤ-zero z)
 walk_sum-scale z [] (a ∷ []) f = refl
 walk_sum-scale z [] (a ∷ b ∷ s) f = sym (*ℤ-zero z)
@@ -92,20 +79,9 @@ cut-walk phi r [] s a b = absurd (omega (arith, a))
 cut-walk phi r (v ∷ w) [] a b = absurd (omega (arith, b))
 cut-walk phi r (v ∷ w) (x ∷ s) a b = cut_sum-walk_sum phi r v w x s
 
--- the cells of the cut for u
-pub outer-cells : (kind : ℕ → ℕ) (k : ℕ) (f : ℕ → ℕ) → f 0 ≡ k → ((x : ℕ) → f (suc x) ≡ suc x) → (t : List Step) → cells_as f (outer_of t) ≡ outer_as k t
-outer-cells kind k f z h [] = refl
-outer-cells kind k f z h (out_stop zero a ∷ t) = (λ i. stop (z i) a ∷ outer-cells kind k f z h t i)
-outer-cells kind k f z h (out_stop (suc x) a ∷ t) = (λ i. stop (h x i) a ∷ outer-cells kind k f z h t i)
-outer-cells kind k f z h (out_go zero a ∷ t) = (λ i. go (z i) a ∷ outer-cells kind k f z h t i)
-outer-cells kind k f z h (out_go (suc x) a ∷ t) = (λ i. go (h x i) a ∷ outer-cells kind k f z h t i)
-outer-cells kind k f z h (turn y a ∷ t) = (λ i. stop (z i) a ∷ outer-cells kind k f z h t i)
-outer-cells kind k f z h (pass y a ∷ t) = outer-cells kind k f z h t
-outer-cells kind k f z h (go_on y a ∷ t) = (λ i. go (z i) a ∷ outer-cells kind k f z h t i)
-
 -- ---- the face of the composed value in a cut for u
 module _ (kind : ℕ → ℕ) (k : ℕ) (f : ℕ → ℕ) (fz : f 0 ≡ k) (fs : (x : ℕ) → f (suc x) ≡ suc x) (apart : (x : ℕ) → kind x ≡ 1 → x ≡ k → ⊥) where
-  pub record IsOuter (u : List ℕ) (g : List CutCell) : Type 0 where
+  pub record IsOuter (u : List ℕ) (g : List Gap) : Type 0 where
     pub face : walk_face k (cells_as f g) ≡ zero_face g
     pub some : occurs 0 u ≡ 1 → 1 ≤ length (zero_face g)
 
@@ -115,7 +91,7 @@ module _ (kind : ℕ → ℕ) (k : ℕ) (f : ℕ → ℕ) (fz : f 0 ≡ k) (fs :
   passed-by : (v x : ℕ) (c : List ℕ) → (v ≡ k → ⊥) → cond (k == v) (x ∷ c) c ≡ c
   passed-by v x c n = ap (λ b. cond b (x ∷ c) c) (ne_eqb k v (λ e. n (sym e)))
 
-  pub walk_sum-outer : (u s : List ℕ) (p q : List CutCell → ℤ) → AllKind kind 1 u → ((g : List CutCell) → IsOuter u g → p g ≡ q g) → walk_sum u s p ≡ walk_sum u s q
+  pub walk_sum-outer : (u s : List ℕ) (p q : List Gap → ℤ) → AllKind kind 1 u → ((g : List Gap) → IsOuter u g → p g ≡ q g) → walk_sum u s p ≡ walk_sum u s q
   walk_sum-outer [] [] p q a h = refl
   walk_sum-outer [] (x ∷ []) p q a h = h [] (record { face = refl; some = λ e. absurd (omega (arith, e)) })
   walk_sum-outer [] (x ∷ y ∷ s) p q a h = refl
@@ -139,6 +115,6 @@ pub some-entry : (x : ℕ) (w : List ℕ) → occurs x w ≡ 1 → 1 ≤ length 
 some-entry x [] h = absurd (omega (arith, h))
 some-entry x (y ∷ w) h = omega arith
 
-pub right-any : (u v s : List ℕ) (f : List CutCell → List CutCell → ℤ) → 1 ≤ length v → occurs 0 u ≡ 1 → walk_sum u s (λ g. walk_sum v (zero_face g) (λ d. f g d)) ≡ triple u v s (λ t. f (outer_of t) (inner_of t))
+pub right-any : (u v s : List ℕ) (f : List Gap → List Gap → ℤ) → 1 ≤ length v → occurs 0 u ≡ 1 → walk_sum u s (λ g. walk_sum v (zero_face g) (λ d. f g d)) ≡ triple u v s (λ t. f (outer_of t) (inner_of t))
 right-any u [] s f a h = absurd (omega (arith, a))
 right-any u (y ∷ v) s f a h = right-steps u y v s f h

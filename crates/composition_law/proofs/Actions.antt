@@ -1,12 +1,13 @@
 -- The value of a composition of surjections on cochains.
 use Rattle.std.proofs.Common.{◌≡◌, ℕ, zero, suc, ◌+◌, ◌-◌, ◌*◌, ◌<◌, ◌≤◌, ◌⊎◌, inl, inr, Bool, true, false, cond, List, [], ◌∷◌, ◌++◌, length, map, refl, sym, ◌∙◌, ap, arith, ℤ, pos, ◌*ℤ◌, sum}
+use Rattle.std.proofs.lemmas.Bool.{cases_lt}
 use Rattle.std.proofs.lemmas.List.{map-append}
 use Rattle.interval_cut_law.proofs.BoundaryLaws.{degeneracy_law, product_normalized}
-use Rattle.interval_cut_law.proofs.GapWords.{less-yes}
 use Rattle.interval_cut_law.proofs.WalkSums.{walk_sum-signed}
 use Rattle.interval_cut_law.proofs.Walks.{gaps_below, walk_exponent, walk_faces, walk_sum, walk_term}
 use Rattle.interval_cut_law.specs.Names.{AreNormalized, operation_value, value_product}
-use Rattle.signed_sum.proofs.Names.{mul_assoc, mul_comm, signed-mul, length-numbers_from, numbers_from-append}
+use Rattle.linear_law.specs.Names.{Each}
+use Rattle.signed_sum.proofs.Names.{mul_assoc, mul_comm, signed-mul, length-numbers_from, numbers_from-append, less-yes}
 use Rattle.signed_sum.specs.Names.{if_zero, is_degenerate, numbers_from, occurs, signed, normalized, value_at}
 use Rattle.simplicial_law.specs.Names.{HaveDegrees}
 use Rattle.composition_law.specs.Surjections.{composition, grown, lifted}
@@ -16,14 +17,13 @@ use Rattle.composition_law.proofs.CutValues.{cells_as, faces-agree, occurs-as, p
 use Rattle.composition_law.proofs.Degrees.{degrees-sign}
 use Rattle.composition_law.proofs.OntoTerms.{IsPositive, no-zero, occurs-from, walks-positive}
 use Rattle.composition_law.proofs.Renaming.{Back, caesuras-map, occurs-renamed}
-use Rattle.composition_law.proofs.SplicedWalks.{EachValue}
 use Rattle.composition_law.proofs.States.{AllKind}
-use Rattle.composition_law.proofs.StepSigns.{IsStep, step-sign, triple-cong, unzero}
-use Rattle.composition_law.proofs.Steps.{CutCell, Step, cut_of, inner_of, outer_as, triple, zero_face}
+use Rattle.composition_law.proofs.StepSigns.{IsStep, step-sign, triple-cong}
+use Rattle.composition_law.proofs.Steps.{Gap, Step, cut_of, inner_of, named, outer_as, triple, zero_face}
 use Rattle.composition_law.proofs.Surjections.{composition-walks, grown-high, grown-low, inner-of, k-occurs, kind, kind-high, kind-in, kind-low, lifted_back, renamed, renamed-k, renamed-other, renamed_back, there_back, values-of, within, zero-occurs}
 use Rattle.composition_law.proofs.Walks.{Cell, expo, values}
-use Rattle.composition_law.specs.Laws.{CompositionRows, SurjectionAction}
-use Rattle.composition_law.proofs.ActionLemmas.{IsOuter, cut-walk, grown-mono, grown-numbers-high, grown-numbers-low, less-same, lifted-mono, lifted-numbers, outer-cells, right-any, some-entry, split, triple-signed, walk_sum-outer, walk_sum-scale}
+use Rattle.composition_law.specs.Laws.{SurjectionAction}
+use Rattle.composition_law.proofs.ActionLemmas.{IsOuter, cut-walk, grown-mono, grown-numbers-high, grown-numbers-low, less-same, lifted-mono, lifted-numbers, right-any, some-entry, triple-signed, walk_sum-outer, walk_sum-scale}
 
 module _ (u v s qs : List ℕ) (ls bs cs : List (List ℕ → ℤ)) (normal : AreNormalized (ls ++ (bs ++ cs))) (dq : HaveDegrees qs ls) (sb : 1 ≤ length bs) (ss : 1 ≤ length s)
     (ou : IsOnto (length ls + suc (length cs)) u) (ov : IsOnto (length bs) v) where
@@ -79,22 +79,22 @@ module _ (u v s qs : List ℕ) (ls bs cs : List (List ℕ → ℤ)) (normal : Ar
   kind_zero = kind-low k r m k1 kr sb 0 (omega arith)
 
   apart : (x : ℕ) → K x ≡ 1 → (x < k) ⊎ (k + m ≤ x)
-  apart x h = elim (split x k) [
+  apart x h = elim (cases_lt x k) [
     | inl l ↦ inl l
-    | inr l ↦ elim (split x (k + m)) [ inl n ↦ absurd (let z = kind-in k r m k1 kr sb x l n in omega (arith, z, h)) | inr n ↦ inr n ]
+    | inr l ↦ elim (cases_lt x (k + m)) [ inl n ↦ absurd (let z = kind-in k r m k1 kr sb x l n in omega (arith, z, h)) | inr n ↦ inr n ]
   ]
 
   inside : (y : ℕ) → K y ≡ 0 → (k ≤ y) × (y < k + m)
-  inside y h = elim (split y k) [
+  inside y h = elim (cases_lt y k) [
     | inl l ↦ absurd (let z = kind-low k r m k1 kr sb y l in omega (arith, z, h))
-    | inr l ↦ elim (split y (k + m)) [ inl n ↦ (l, n) | inr n ↦ absurd (let z = kind-high k r m k1 kr sb y n in omega (arith, z, h)) ]
+    | inr l ↦ elim (cases_lt y (k + m)) [ inl n ↦ (l, n) | inr n ↦ absurd (let z = kind-high k r m k1 kr sb y n in omega (arith, z, h)) ]
   ]
 
   not-k : (x : ℕ) → K x ≡ 1 → x ≡ k → ⊥
   not-k x h e = elim (apart x h) [ inl l ↦ omega (arith, l, e) | inr l ↦ omega (arith, l, e, sb) ]
 
   abbrev unz : ℕ → ℕ
-  unz = unzero K k m apart inside sb k1
+  unz = named k
 
   -- the values of the entries of the terms
   onto-low : (x : ℕ) → suc x < k → occurs (suc x) U ≡ occurs (suc x) (numbers_from 1 all)
@@ -121,9 +121,9 @@ module _ (u v s qs : List ℕ) (ls bs cs : List (List ℕ → ℤ)) (normal : Ar
 
   terms-onto : (c : List Cell) → IsPositive K U V c → IsOnto all (values c)
   terms-onto c w zero = w.positive ∙ sym (no-zero 1 all (omega arith))
-  terms-onto c w (suc x) = elim (split (suc x) k) [
+  terms-onto c w (suc x) = elim (cases_lt (suc x) k) [
     | inl l ↦ w.walk.outs x (kind-low k r m k1 kr sb (suc x) l) ∙ onto-low x l
-    | inr l ↦ elim (split (suc x) (k + m)) [
+    | inr l ↦ elim (cases_lt (suc x) (k + m)) [
       | inl n ↦ w.walk.ins (suc x) (kind-in k r m k1 kr sb (suc x) l n) ∙ ap (λ j. if_zero j 0 (occurs (suc x) V)) zero-there ∙ onto-inside x l n
       | inr n ↦ w.walk.outs x (kind-high k r m k1 kr sb (suc x) n) ∙ onto-high x n
     ]
@@ -160,16 +160,16 @@ module _ (u v s qs : List ℕ) (ls bs cs : List (List ℕ → ℤ)) (normal : Ar
       ∙ left-steps U V s (λ c g. signed (expo c) (walk_term product (numbers_from 1 all) g))
 
   -- the values on the faces: of the cochains before the composed place, in it, and behind it
-  abbrev before : List CutCell → ℤ
+  abbrev before : List Gap → ℤ
   before c = value_product ls (walk_faces (numbers_from 1 p) c)
 
-  abbrev within_piece : List CutCell → ℤ
+  abbrev within_piece : List Gap → ℤ
   within_piece d = value_product bs (walk_faces (numbers_from k m) d)
 
-  abbrev behind : List CutCell → ℤ
+  abbrev behind : List Gap → ℤ
   behind c = value_product cs (walk_faces (numbers_from (k + m) q) c)
 
-  abbrev both : List CutCell → List CutCell → ℤ
+  abbrev both : List Gap → List Gap → ℤ
   both c d = signed (walk_exponent c) (signed (walk_exponent d) (before c *ℤ (within_piece d *ℤ behind c)))
 
   numbers : numbers_from 1 all ≡ numbers_from 1 p ++ (numbers_from k m ++ numbers_from (k + m) q)
@@ -179,7 +179,7 @@ module _ (u v s qs : List ℕ) (ls bs cs : List (List ℕ → ℤ)) (normal : Ar
 
   faces-value : (t : List Step) → IsStep K k m apart inside sb k1 U V t → product (walk_faces (numbers_from 1 all) (cut_of t)) ≡ before (outer_as k t) *ℤ (within_piece (inner_of t) *ℤ behind (outer_as k t))
   faces-value t w =
-      let g : List CutCell = cut_of t in
+      let g : List Gap = cut_of t in
       ap (λ ns. product (walk_faces ns g)) numbers
       ∙ product-split ls (bs ++ cs) (numbers_from 1 p) (numbers_from k m ++ numbers_from (k + m) q) g (sym (length-numbers_from 1 p))
       ∙ ap (λ z. before g *ℤ z) (product-split bs cs (numbers_from k m) (numbers_from (k + m) q) g (sym (length-numbers_from k m)))
@@ -190,9 +190,9 @@ module _ (u v s qs : List ℕ) (ls bs cs : List (List ℕ → ℤ)) (normal : Ar
   -- u with the values of the terms
   outer-name : (x : ℕ) → 1 ≤ x → unz (renamed k m x) ≡ grown k m x
   outer-name zero h = absurd (omega (arith, h))
-  outer-name (suc x) h = elim (split (suc x) k) [
+  outer-name (suc x) h = elim (cases_lt (suc x) k) [
     | inl l ↦ let g = grown-low k m (suc x) (omega (arith, l)) in ap unz (renamed-other k m (suc x) (λ e. omega (arith, e, l)) ∙ g) ∙ sym g
-    | inr l ↦ elim (split k (suc x)) [
+    | inr l ↦ elim (cases_lt k (suc x)) [
       | inl n ↦
           let z : suc x + (m - 1) ≡ suc (x + (m - 1)) = omega arith in
           let g : grown k m (suc x) ≡ suc (x + (m - 1)) = grown-high k m (suc x) n ∙ z in
@@ -201,7 +201,7 @@ module _ (u v s qs : List ℕ) (ls bs cs : List (List ℕ → ℤ)) (normal : Ar
     ]
   ]
 
-  outer-names : (w : List ℕ) → EachValue (λ x. (1 ≤ x) × (x ≤ r)) w → map unz (map (renamed k m) w) ≡ map (grown k m) w
+  outer-names : (w : List ℕ) → Each (λ x. (1 ≤ x) × (x ≤ r)) w → map unz (map (renamed k m) w) ≡ map (grown k m) w
   outer-names [] h = refl
   outer-names (x ∷ w) h = (λ i. outer-name x h.0.0 i ∷ outer-names w h.1 i)
 
@@ -219,7 +219,7 @@ module _ (u v s qs : List ℕ) (ls bs cs : List (List ℕ → ℤ)) (normal : Ar
   term-sign : (t : List Step) → IsStep K k m apart inside sb k1 U V t →
       signed (expo (walk_of t)) (walk_term product (numbers_from 1 all) (cut_of t)) ≡ signed exponent (both (outer_as k t) (inner_of t))
   term-sign t w =
-      let o : List CutCell = outer_as k t in
+      let o : List Gap = outer_as k t in
       let x : ℤ = within_piece (inner_of t) *ℤ behind o in
       let y : ℤ = signed (walk_exponent o) (signed (walk_exponent (inner_of t)) x) in
       let move : both o (inner_of t) ≡ before o *ℤ y = ap (signed (walk_exponent o)) (signed-mul (walk_exponent (inner_of t)) (before o) x) ∙ signed-mul (walk_exponent o) (before o) (signed (walk_exponent (inner_of t)) x) in
@@ -258,9 +258,9 @@ module _ (u v s qs : List ℕ) (ls bs cs : List (List ℕ → ℤ)) (normal : Ar
       ∙ terms-as (lifted k) (lifted-mono k) (value_product bs) (numbers_from 1 m) v f
       ∙ ap (λ ns. walk_sum V f (walk_term (value_product bs) ns)) inner-numbers
 
-  outer-term : (g : List CutCell) → IsOuter K k unz refl (λ x. refl) not-k U g → walk_term outer_product outer_numbers (cells_as unz g) ≡ walk_sum V (zero_face g) (λ d. both (cells_as unz g) d)
+  outer-term : (g : List Gap) → IsOuter K k unz refl (λ x. refl) not-k U g → walk_term outer_product outer_numbers (cells_as unz g) ≡ walk_sum V (zero_face g) (λ d. both (cells_as unz g) d)
   outer-term g w =
-      let c : List CutCell = cells_as unz g in
+      let c : List Gap = cells_as unz g in
       let f : List ℕ = zero_face g in
       let sum_of : ℤ = walk_sum V f (λ d. signed (walk_exponent d) (within_piece d)) in
       let x : ℤ = before c *ℤ behind c in
@@ -283,7 +283,6 @@ module _ (u v s qs : List ℕ) (ls bs cs : List (List ℕ → ℤ)) (normal : Ar
       ∙ walk_sum-as unz U s (walk_term outer_product outer_numbers)
       ∙ walk_sum-outer K k unz refl (λ x. refl) not-k U s (λ g. walk_term outer_product outer_numbers (cells_as unz g)) (λ g. walk_sum V (zero_face g) (λ d. both (cells_as unz g) d)) kinds_u outer-term
       ∙ right-any U V s (λ g d. both (cells_as unz g) d) (some-entry (lifted k 1) V (occurs-as (lifted k) (lifted-mono k) 1 v ∙ ov 1 ∙ occurs-from 1 1 m (omega arith) ∙ less-yes 1 (1 + m) (omega (arith, sb)))) zero-there
-      ∙ ap (triple U V s) (λ i t. both (outer-cells K k unz refl (λ x. refl) t i) (inner_of t))
 
   pub action : value_at value (composition k u v) ≡ signed (caesura_count v * (caesura_count u + sum qs)) (operation_value r u (ls ++ (inner_value ∷ cs)) s)
   action =
@@ -294,6 +293,3 @@ module _ (u v s qs : List ℕ) (ls bs cs : List (List ℕ → ℤ)) (normal : Ar
 
 pub surjection_action : SurjectionAction
 surjection_action u v s qs ls bs cs normal dq sb ss ou ov = action u v s qs ls bs cs normal dq sb ss ou ov
-
-pub composition_rows : CompositionRows
-composition_rows = record { three = refl; one = refl; tuple = refl }

@@ -1,16 +1,14 @@
 -- Walks one after the other.
-use Rattle.std.proofs.Common.{List, [], ap, append-nil, append_assoc, arith, cond, false, refl, sym, true, ℕ, ◌*◌, ◌++◌, ◌+◌, ◌==◌, ◌∙◌, ◌∷◌, ◌≡◌}
+use Rattle.std.proofs.Common.{List, [], ap, append-nil, append_assoc, arith, refl, sym, ℕ, ◌*◌, ◌++◌, ◌+◌, ◌∙◌, ◌∷◌, ◌≡◌}
 use Rattle.composition_law.proofs.Cells.{Aligned, AlignedV, Good, GoodV}
-use Rattle.composition_law.proofs.Walks.{Cell, edge, ends, expo, expo_in, next, out, passed, values}
-use Rattle.signed_sum.proofs.Names.{occurs-later}
+use Rattle.composition_law.proofs.Walks.{Cell, edge, ends, entry, expo, expo_in, next, out, passed, values}
+use Rattle.signed_sum.proofs.Names.{occurs-append, occurs-later}
 use Rattle.signed_sum.specs.Names.{if_zero, occurs}
 use Rattle.surjection_law.specs.Names.{caesura_count}
 
 pub values-append : (p c : List Cell) → values (p ++ c) ≡ values p ++ values c
 values-append [] c = refl
-values-append (out x ∷ p) c = ap (λ r. x ∷ r) (values-append p c)
-values-append (edge x ∷ p) c = ap (λ r. x ∷ r) (values-append p c)
-values-append (next x ∷ p) c = ap (λ r. x ∷ r) (values-append p c)
+values-append (d ∷ p) c = ap (λ r. entry d ∷ r) (values-append p c)
 
 pub ends-append : (p c : List Cell) → ends (p ++ c) ≡ ends p ++ ends c
 ends-append [] c = refl
@@ -58,12 +56,8 @@ goodv-append (out x ∷ p) c W V g h = goodv-append p c W V g h
 goodv-append (edge x ∷ p) c W V g h = (ap (occurs x) (values-more p c W) ∙ g.0 ∙ sym (ap (occurs x) (passed-more p c V)), goodv-append p c W V g.1 h)
 goodv-append (next x ∷ p) c W V g h = goodv-append p c W V g h
 
-has-both : (v : ℕ) (a b : List ℕ) → occurs v (a ++ b) ≡ if_zero (occurs v a) (occurs v b) 1
-has-both v [] b = refl
-has-both v (w ∷ a) b = elim (v == w) as (λ t. cond t 1 (occurs v (a ++ b)) ≡ if_zero (cond t 1 (occurs v a)) (occurs v b) 1) [ true ↦ refl | false ↦ has-both v a b ]
-
 has-pair : (v a : ℕ) (A B C D : List ℕ) → occurs v A ≡ occurs a C → occurs v B ≡ occurs a D → occurs v (A ++ B) ≡ occurs a (C ++ D)
-has-pair v a A B C D h k = has-both v A B ∙ (λ i. if_zero (h i) (k i) 1) ∙ sym (has-both a C D)
+has-pair v a A B C D h k = occurs-append v A B ∙ (λ i. if_zero (h i) (k i) 1) ∙ sym (occurs-append a C D)
 
 pub aligned-more : (v a : ℕ) (p c : List Cell) → occurs v (values c) ≡ occurs a (ends c) → Aligned v a c → Aligned v a p → Aligned v a (p ++ c)
 aligned-more v a [] c e k h = k

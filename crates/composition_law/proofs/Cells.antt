@@ -1,7 +1,7 @@
 -- The signs of the removals of an entry.
-use Rattle.std.proofs.Common.{List, [], ap, arith, inl, inr, refl, subst, suc, sym, zero, ℕ, ◌%◌, ◌*◌, ◌++◌, ◌+◌, ◌∙◌, ◌∷◌, ◌≡◌, ◌⊎◌, neg_ℤ, pos, ℤ}
+use Rattle.std.proofs.Common.{List, [], ap, arith, inl, inr, refl, suc, sym, ℕ, ◌%◌, ◌*◌, ◌++◌, ◌+◌, ◌∙◌, ◌∷◌, ◌≡◌, pos, ℤ}
 use Rattle.composition_law.proofs.Walks.{Cell, edge, ends, expo_in, next, out, passed, values}
-use Rattle.signed_sum.proofs.Names.{occurs-01, occurs-before, occurs-cons, occurs-in, occurs-later, occurs-mid, occurs-none, occurs-other, occurs-self, occurs-zero, signed-parity, signed-signed}
+use Rattle.signed_sum.proofs.Names.{occurs-01, occurs-before, occurs-cons, occurs-in, occurs-later, occurs-mid, occurs-more, occurs-none, occurs-other, occurs-zero, signed-parity, signed-signed, signed-zero}
 use Rattle.signed_sum.specs.Names.{if_zero, occurs, unless_zero, signed}
 use Rattle.surjection_law.proofs.PlaceLemmas.{caesura_count-in, caesura_count-out}
 use Rattle.surjection_law.specs.Names.{caesura_count, caesuras_among, caesuras_before_last, place_exponent, place_term}
@@ -53,6 +53,24 @@ place-last p v u z n h =
 pub place-none : (p : List ℕ) (v : ℕ) (u : List ℕ) (z : ℤ) → occurs v u ≡ 0 → occurs v p ≡ 0 → place_term p v u z ≡ pos 0
 place-none p v u z n h = ap (λ k. unless_zero k (signed (place_exponent p v u) z)) (occurs-none v p u h n)
 
+-- terms of two places that are alike, where only the parity of the exponents counts
+place-law : (P : List ℕ) (v : ℕ) (W Q : List ℕ) (a : ℕ) (U : List ℕ) (c e f : ℕ) (z : ℤ) → occurs v W ≡ occurs a U → occurs v P ≡ occurs a Q →
+    (occurs v W ≡ 1 → (caesuras_among P (v ∷ W) + e) % 2 ≡ (c + (caesuras_among Q (a ∷ U) + f)) % 2) →
+    (occurs v W ≡ 0 → occurs v P ≡ 1 → (suc (caesuras_before_last P v W) + e) % 2 ≡ (c + (suc (caesuras_before_last Q a U) + f)) % 2) →
+    place_term P v W (signed e z) ≡ signed c (place_term Q a U (signed f z))
+place-law P v W Q a U c e f z h k one last = elim (occurs-01 v W) [
+  | inr q ↦ place-caesura P v W (signed e z) q ∙ moved (caesuras_among P (v ∷ W)) (caesuras_among Q (a ∷ U)) (one q) ∙ sym (ap (signed c) (place-caesura Q a U (signed f z) (sym h ∙ q)))
+  | inl q ↦ elim (occurs-01 v P) [
+    | inr m ↦
+        place-last P v W (signed e z) q m ∙ moved (suc (caesuras_before_last P v W)) (suc (caesuras_before_last Q a U)) (last q m)
+        ∙ sym (ap (signed c) (place-last Q a U (signed f z) (sym h ∙ q) (sym k ∙ m)))
+    | inl m ↦ place-none P v W (signed e z) q m ∙ sym (ap (signed c) (place-none Q a U (signed f z) (sym h ∙ q) (sym k ∙ m)) ∙ signed-zero c)
+  ]
+]
+  where
+    moved : (m n : ℕ) → (m + e) % 2 ≡ (c + (n + f)) % 2 → signed m (signed e z) ≡ signed c (signed n (signed f z))
+    moved m n g = signed-signed m e z ∙ signed-parity (m + e) (c + (n + f)) z g ∙ sym (ap (signed c) (signed-signed n f z) ∙ signed-signed c (n + f) z)
+
 -- ---- an entry of u goes
 
 u-caesura : (p : List Cell) (v a : ℕ) (W U : List ℕ) → occurs v W ≡ 1 → occurs a U ≡ 1 → Good p (v ∷ W) (a ∷ U) →
@@ -77,17 +95,6 @@ expo-none (edge y ∷ p) v a W U h k =
     let c = caesura_count-out a (ends p) U k in
     λ i. e i * c i + expo-none p v a W U z.1 k i
 
-has-left : (v : ℕ) (a b : List ℕ) → occurs v a ≡ 1 → occurs v (a ++ b) ≡ 1
-has-left v [] b h = absurd (omega (arith, h))
-has-left v (w ∷ a) b h =
-    elim (occurs-cons v w a) [
-      | inl e ↦ subst (λ (j : ℕ). occurs j (w ∷ a ++ b) ≡ 1) (sym e) (occurs-self w (a ++ b))
-      | inr e ↦ more (has-left v a b (sym e ∙ h))
-    ]
-  where
-    more : occurs v (a ++ b) ≡ 1 → occurs v (w ∷ a ++ b) ≡ 1
-    more k = elim (occurs-cons v w (a ++ b)) [ inl e ↦ subst (λ (j : ℕ). occurs j (w ∷ a ++ b) ≡ 1) (sym e) (occurs-self w (a ++ b)) | inr e ↦ e ∙ k ]
-
 -- the caesuras before the last v, one entry more in front
 pub last-one : (w v : ℕ) (p u : List ℕ) → occurs v p ≡ 1 → caesuras_before_last (w ∷ p) v u ≡ occurs w (p ++ (v ∷ u)) + caesuras_before_last p v u
 last-one w v p u h = ap (λ j. if_zero j 0 (occurs w (p ++ (v ∷ u)) + caesuras_before_last p v u)) h
@@ -95,41 +102,30 @@ last-one w v p u h = ap (λ j. if_zero j 0 (occurs w (p ++ (v ∷ u)) + caesuras
 pub last-none : (w v : ℕ) (p u : List ℕ) → occurs v p ≡ 0 → caesuras_before_last (w ∷ p) v u ≡ 0
 last-none w v p u h = ap (λ j. if_zero j 0 (occurs w (p ++ (v ∷ u)) + caesuras_before_last p v u)) h
 
+-- an entry x of the term and z of u in front of the others
+u-last-more : (x z : ℕ) (p : List Cell) (v a : ℕ) (W U : List ℕ) → occurs v W ≡ 0 → occurs a U ≡ 0 → occurs x (values p ++ (v ∷ W)) ≡ occurs z (ends p ++ (a ∷ U)) → Aligned v a p →
+    (occurs v (values p) ≡ 1 → (expo_in p (v ∷ W) (a ∷ U) + caesuras_before_last (values p) v W) % 2 ≡ (caesuras_before_last (ends p) a U + expo_in p W U) % 2) →
+    (expo_in p (v ∷ W) (a ∷ U) + caesuras_before_last (x ∷ values p) v W) % 2 ≡ (caesuras_before_last (z ∷ ends p) a U + expo_in p W U) % 2
+u-last-more x z p v a W U h k g l f = elim (occurs-01 v (values p)) [
+  | inl q ↦
+      let r : occurs a (ends p) ≡ 0 = sym (aligned-here v a p l) ∙ q in
+      let e = expo-none p v a W U (occurs-none v (values p) W q h) (occurs-none a (ends p) U r k) in
+      let b = last-none x v (values p) W q in
+      let c = last-none z a (ends p) U r in
+      omega arith
+  | inr q ↦
+      let r : occurs a (ends p) ≡ 1 = sym (aligned-here v a p l) ∙ q in
+      let ih = f q in
+      let b = last-one x v (values p) W q in
+      let c = last-one z a (ends p) U r in
+      omega arith
+]
+
 u-last : (p : List Cell) (v a : ℕ) (W U : List ℕ) → occurs v W ≡ 0 → occurs a U ≡ 0 → occurs v (values p) ≡ 1 → Good p (v ∷ W) (a ∷ U) → Aligned v a p →
     (expo_in p (v ∷ W) (a ∷ U) + caesuras_before_last (values p) v W) % 2 ≡ (caesuras_before_last (ends p) a U + expo_in p W U) % 2
 u-last [] v a W U h k m g l = absurd (omega (arith, m))
-u-last (out x ∷ p) v a W U h k m g l =
-    elim (occurs-01 v (values p)) [
-      | inl q ↦
-          let r : occurs a (ends p) ≡ 0 = sym (aligned-here v a p l.1) ∙ q in
-          let e = expo-none p v a W U (occurs-none v (values p) W q h) (occurs-none a (ends p) U r k) in
-          let b = last-none x v (values p) W q in
-          let c = last-none x a (ends p) U r in
-          omega arith
-      | inr q ↦
-          let r : occurs a (ends p) ≡ 1 = sym (aligned-here v a p l.1) ∙ q in
-          let ih = u-last p v a W U h k q g.1 l.1 in
-          let b = last-one x v (values p) W q in
-          let c = last-one x a (ends p) U r in
-          let e = g.0 in
-          omega arith
-    ]
-u-last (next y ∷ p) v a W U h k m g l =
-    elim (occurs-01 v (values p)) [
-      | inl q ↦
-          let r : occurs a (ends p) ≡ 0 = sym (aligned-here v a p l.1) ∙ q in
-          let e = expo-none p v a W U (occurs-none v (values p) W q h) (occurs-none a (ends p) U r k) in
-          let b = last-none y v (values p) W q in
-          let c = last-none 0 a (ends p) U r in
-          omega arith
-      | inr q ↦
-          let r : occurs a (ends p) ≡ 1 = sym (aligned-here v a p l.1) ∙ q in
-          let ih = u-last p v a W U h k q g.1 l.1 in
-          let b = last-one y v (values p) W q in
-          let c = last-one 0 a (ends p) U r in
-          let e = g.0 in
-          omega arith
-    ]
+u-last (out x ∷ p) v a W U h k m g l = u-last-more x x p v a W U h k g.0 l.1 (λ q. u-last p v a W U h k q g.1 l.1)
+u-last (next y ∷ p) v a W U h k m g l = u-last-more y 0 p v a W U h k g.0 l.1 (λ q. u-last p v a W U h k q g.1 l.1)
 u-last (edge y ∷ p) v a W U h k m g l =
     elim (occurs-01 v (values p)) [
       | inl q ↦ absurd (let r = aligned-here v a p l.1 in let s : occurs v (y ∷ values p) ≡ occurs a (ends p) = l.0 in omega (arith, q, m, r, s))
@@ -137,8 +133,8 @@ u-last (edge y ∷ p) v a W U h k m g l =
           let r : occurs a (ends p) ≡ 1 = sym (aligned-here v a p l.1) ∙ q in
           let ih = u-last p v a W U h k q g l.1 in
           let b = last-one y v (values p) W q in
-          let e : occurs y (values p ++ (v ∷ W)) ≡ occurs y (values p ++ W) = occurs-in y v (values p) W (has-left v (values p) W q) in
-          let c : caesura_count (ends p ++ (a ∷ U)) ≡ suc (caesura_count (ends p ++ U)) = caesura_count-in a (ends p) U (has-left a (ends p) U r) in
+          let e : occurs y (values p ++ (v ∷ W)) ≡ occurs y (values p ++ W) = occurs-in y v (values p) W (occurs-more v (values p) W q) in
+          let c : caesura_count (ends p ++ (a ∷ U)) ≡ suc (caesura_count (ends p ++ U)) = caesura_count-in a (ends p) U (occurs-more a (ends p) U r) in
           let d : occurs y (values p ++ (v ∷ W)) * caesura_count (ends p ++ (a ∷ U)) ≡ occurs y (values p ++ W) * suc (caesura_count (ends p ++ U)) = (λ i. e i * c i) in
           omega arith
     ]
@@ -146,30 +142,10 @@ u-last (edge y ∷ p) v a W U h k m g l =
 -- the term without an entry of u is a term of u without that entry
 pub u-law : (p : List Cell) (v a : ℕ) (W U : List ℕ) (n : ℕ) (z : ℤ) → Good p (v ∷ W) (a ∷ U) → occurs v W ≡ occurs a U → Aligned v a p →
     place_term (values p) v W (signed (expo_in p (v ∷ W) (a ∷ U) + n) z) ≡ place_term (ends p) a U (signed (expo_in p W U + n) z)
-u-law p v a W U n z g h l = go (occurs-01 v W) (occurs-01 v (values p))
-  where
-    go : (occurs v W ≡ 0) ⊎ (occurs v W ≡ 1) → (occurs v (values p) ≡ 0) ⊎ (occurs v (values p) ≡ 1) →
-        place_term (values p) v W (signed (expo_in p (v ∷ W) (a ∷ U) + n) z) ≡ place_term (ends p) a U (signed (expo_in p W U + n) z)
-    go (inr q) _ =
-        let r : occurs a U ≡ 1 = sym h ∙ q in
-        let s = u-caesura p v a W U q r g in
-        place-caesura (values p) v W (signed (expo_in p (v ∷ W) (a ∷ U) + n) z) q
-        ∙ signed-signed (caesuras_among (values p) (v ∷ W)) (expo_in p (v ∷ W) (a ∷ U) + n) z
-        ∙ signed-parity (caesuras_among (values p) (v ∷ W) + (expo_in p (v ∷ W) (a ∷ U) + n)) (caesuras_among (ends p) (a ∷ U) + (expo_in p W U + n)) z (omega arith)
-        ∙ sym (signed-signed (caesuras_among (ends p) (a ∷ U)) (expo_in p W U + n) z)
-        ∙ sym (place-caesura (ends p) a U (signed (expo_in p W U + n) z) r)
-    go (inl q) (inr m) =
-        let r : occurs a U ≡ 0 = sym h ∙ q in
-        let t : occurs a (ends p) ≡ 1 = sym (aligned-here v a p l) ∙ m in
-        let s = u-last p v a W U q r m g l in
-        place-last (values p) v W (signed (expo_in p (v ∷ W) (a ∷ U) + n) z) q m
-        ∙ signed-signed (suc (caesuras_before_last (values p) v W)) (expo_in p (v ∷ W) (a ∷ U) + n) z
-        ∙ signed-parity (suc (caesuras_before_last (values p) v W) + (expo_in p (v ∷ W) (a ∷ U) + n)) (suc (caesuras_before_last (ends p) a U) + (expo_in p W U + n)) z (omega arith)
-        ∙ sym (signed-signed (suc (caesuras_before_last (ends p) a U)) (expo_in p W U + n) z)
-        ∙ sym (place-last (ends p) a U (signed (expo_in p W U + n) z) r t)
-    go (inl q) (inl m) =
-        place-none (values p) v W (signed (expo_in p (v ∷ W) (a ∷ U) + n) z) q m
-        ∙ sym (place-none (ends p) a U (signed (expo_in p W U + n) z) (sym h ∙ q) (sym (aligned-here v a p l) ∙ m))
+u-law p v a W U n z g h l =
+    place-law (values p) v W (ends p) a U 0 (expo_in p (v ∷ W) (a ∷ U) + n) (expo_in p W U + n) z h (aligned-here v a p l)
+    (λ q. (let s = u-caesura p v a W U q (sym h ∙ q) g in omega arith))
+    (λ q m. (let s = u-last p v a W U q (sym h ∙ q) m g l in omega arith))
 
 -- ---- an entry of v goes
 
@@ -234,7 +210,7 @@ v-last (edge x ∷ p) y W U V h m g k l =
           let ih = v-last p y W U V h q g k.1 l.1 in
           let b = last-one x y (values p) W q in
           let f = last-one x y (passed p) V r in
-          let e : occurs x (values p ++ (y ∷ W)) ≡ occurs x (values p ++ W) = occurs-in x y (values p) W (has-left y (values p) W q) in
+          let e : occurs x (values p ++ (y ∷ W)) ≡ occurs x (values p ++ W) = occurs-in x y (values p) W (occurs-more y (values p) W q) in
           let c : occurs x (values p ++ (y ∷ W)) * caesura_count (ends p ++ U) ≡ occurs x (values p ++ W) * caesura_count (ends p ++ U) = ap (λ j. j * caesura_count (ends p ++ U)) e in
           let j = k.0 in
           omega arith
@@ -246,38 +222,7 @@ v-last (edge x ∷ p) y W U V h m g k l =
 -- the term without an entry of v is a term of v without that entry
 pub v-law : (p : List Cell) (y : ℕ) (W U V : List ℕ) (n : ℕ) (z : ℤ) → Good p (y ∷ W) U → GoodV p (y ∷ W) (y ∷ V) → occurs y W ≡ occurs y V → AlignedV y p →
     place_term (values p) y W (signed (expo_in p (y ∷ W) U + (occurs y W * caesura_count U + n)) z) ≡ signed (caesura_count (ends p ++ U)) (place_term (passed p) y V (signed (expo_in p W U + n) z))
-v-law p y W U V n z g k h l = go (occurs-01 y W) (occurs-01 y (values p))
-  where
-    c : ℕ
-    c = caesura_count (ends p ++ U)
-
-    go : (occurs y W ≡ 0) ⊎ (occurs y W ≡ 1) → (occurs y (values p) ≡ 0) ⊎ (occurs y (values p) ≡ 1) →
-        place_term (values p) y W (signed (expo_in p (y ∷ W) U + (occurs y W * caesura_count U + n)) z) ≡ signed (caesura_count (ends p ++ U)) (place_term (passed p) y V (signed (expo_in p W U + n) z))
-    go (inr q) _ =
-        let r : occurs y V ≡ 1 = sym h ∙ q in
-        let s = v-caesura p y W U V q g k in
-        let b : occurs y W * caesura_count U ≡ 1 * caesura_count U = ap (λ j. j * caesura_count U) q in
-        place-caesura (values p) y W (signed (expo_in p (y ∷ W) U + (occurs y W * caesura_count U + n)) z) q
-        ∙ signed-signed (caesuras_among (values p) (y ∷ W)) (expo_in p (y ∷ W) U + (occurs y W * caesura_count U + n)) z
-        ∙ signed-parity (caesuras_among (values p) (y ∷ W) + (expo_in p (y ∷ W) U + (occurs y W * caesura_count U + n))) (caesura_count (ends p ++ U) + (caesuras_among (passed p) (y ∷ V) + (expo_in p W U + n))) z (omega arith)
-        ∙ sym (signed-signed (caesura_count (ends p ++ U)) (caesuras_among (passed p) (y ∷ V) + (expo_in p W U + n)) z)
-        ∙ ap (λ j. signed (caesura_count (ends p ++ U)) j)
-        (sym (signed-signed (caesuras_among (passed p) (y ∷ V)) (expo_in p W U + n) z) ∙ sym (place-caesura (passed p) y V (signed (expo_in p W U + n) z) r))
-    go (inl q) (inr m) =
-        let r : occurs y V ≡ 0 = sym h ∙ q in
-        let t : occurs y (passed p) ≡ 1 = sym (alignedV-here y p l) ∙ m in
-        let s = v-last p y W U V q m g k l in
-        let b : occurs y W * caesura_count U ≡ 0 * caesura_count U = ap (λ j. j * caesura_count U) q in
-        place-last (values p) y W (signed (expo_in p (y ∷ W) U + (occurs y W * caesura_count U + n)) z) q m
-        ∙ signed-signed (suc (caesuras_before_last (values p) y W)) (expo_in p (y ∷ W) U + (occurs y W * caesura_count U + n)) z
-        ∙ signed-parity (suc (caesuras_before_last (values p) y W) + (expo_in p (y ∷ W) U + (occurs y W * caesura_count U + n))) (caesura_count (ends p ++ U) + (suc (caesuras_before_last (passed p) y V) + (expo_in p W U + n))) z (omega arith)
-        ∙ sym (signed-signed (caesura_count (ends p ++ U)) (suc (caesuras_before_last (passed p) y V) + (expo_in p W U + n)) z)
-        ∙ ap (λ j. signed (caesura_count (ends p ++ U)) j)
-        (sym (signed-signed (suc (caesuras_before_last (passed p) y V)) (expo_in p W U + n) z) ∙ sym (place-last (passed p) y V (signed (expo_in p W U + n) z) r t))
-    go (inl q) (inl m) =
-        place-none (values p) y W (signed (expo_in p (y ∷ W) U + (occurs y W * caesura_count U + n)) z) q m
-        ∙ sym (ap (λ j. signed (caesura_count (ends p ++ U)) j) (place-none (passed p) y V (signed (expo_in p W U + n) z) (sym h ∙ q) (sym (alignedV-here y p l) ∙ m)) ∙ none (caesura_count (ends p ++ U)))
-      where
-        none : (n : ℕ) → signed n (pos 0) ≡ pos 0
-        none zero = refl
-        none (suc n) = ap neg_ℤ (none n)
+v-law p y W U V n z g k h l =
+    place-law (values p) y W (passed p) y V (caesura_count (ends p ++ U)) (expo_in p (y ∷ W) U + (occurs y W * caesura_count U + n)) (expo_in p W U + n) z h (alignedV-here y p l)
+    (λ q. (let s = v-caesura p y W U V q g k in let b : occurs y W * caesura_count U ≡ 1 * caesura_count U = ap (λ j. j * caesura_count U) q in omega arith))
+    (λ q m. (let s = v-last p y W U V q m g k l in let b : occurs y W * caesura_count U ≡ 0 * caesura_count U = ap (λ j. j * caesura_count U) q in omega arith))

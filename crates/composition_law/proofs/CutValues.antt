@@ -1,6 +1,6 @@
 -- Cuts with other values: a map that keeps the order keeps the signs and the faces.
-use Rattle.std.proofs.Common.{◌≡◌, ℕ, zero, suc, ◌+◌, ◌*◌, ◌<◌, ◌≤◌, cond, ◌==◌, List, [], ◌∷◌, ◌++◌, length, map, refl, sym, ◌∙◌, ap, arith, inl, inr, ℤ, ◌+ℤ◌, ◌*ℤ◌, eq-eqb, ne_eqb}
-use Rattle.std.proofs.lemmas.Bool.{cases_eq}
+use Rattle.std.proofs.Common.{◌≡◌, ℕ, zero, suc, ◌+◌, ◌*◌, ◌<◌, ◌≤◌, cond, ◌==◌, List, [], ◌∷◌, ◌++◌, length, map, refl, sym, ◌∙◌, ap, arith, ℤ, ◌+ℤ◌, ◌*ℤ◌}
+use Rattle.std.proofs.lemmas.Bool.Decides.{nat_tests}
 use Rattle.interval_cut_law.proofs.Walks.{Cell, edge, ends, gaps_below, next, walk_exponent, walk_face, walk_faces, walk_sum, walk_term}
 use Rattle.interval_cut_law.specs.Names.{value_product}
 use Rattle.signed_sum.proofs.Names.{less-self, less-two, mul_assoc, one-mul}
@@ -23,20 +23,10 @@ walk_sum-as m (x ∷ u) (a ∷ s) f =
 
 module _ (m : ℕ → ℕ) (mono : (v w : ℕ) → less (m v) (m w) ≡ less v w) where
   injective : (v w : ℕ) → m v ≡ m w → v ≡ w
-  injective v w e = elim (cases_eq v w) [
-    | inl q ↦ q
-    | inr n ↦ absurd (
-        let t = less-two v w n in
-        let a = sym (mono v w) ∙ ap (less (m v)) (sym e) ∙ less-self (m v) in
-        let b = sym (mono w v) ∙ ap (λ j. less j (m v)) (sym e) ∙ less-self (m v) in
-        omega (arith, t, a, b))
-  ]
+  injective v w e = grind (arith, mono v w, mono w v, less-self (m v), less-two v w)
 
   same-test : {A : Type 0} (v w : ℕ) (p q : A) → cond (m v == m w) p q ≡ cond (v == w) p q
-  same-test v w p q = elim (cases_eq v w) [
-    | inl e ↦ ap (λ b. cond b p q) (eq-eqb (m v) (m w) (ap m e)) ∙ sym (ap (λ b. cond b p q) (eq-eqb v w e))
-    | inr n ↦ ap (λ b. cond b p q) (ne_eqb (m v) (m w) (λ e. n (injective v w e))) ∙ sym (ap (λ b. cond b p q) (ne_eqb v w n))
-  ]
+  same-test v w p q = let e : (m v == m w) ≡ (v == w) = grind (arith, nat_tests, injective v w) in ap (λ b. cond b p q) e
 
   pub occurs-as : (v : ℕ) (u : List ℕ) → occurs (m v) (map m u) ≡ occurs v u
   occurs-as v [] = refl

@@ -1,59 +1,14 @@
 -- The gaps of the first values in a cut, and the degrees of cochains on their faces.
-use Rattle.std.proofs.Common.{◌≡◌, ℕ, suc, ◌+◌, ◌*◌, ◌<◌, ◌≤◌, cond, ◌==◌, List, [], ◌∷◌, length, refl, sym, ◌∙◌, ap, arith, inl, inr, ℤ, pos, ◌*ℤ◌, sum, eq-eqb, ne_eqb}
+use Rattle.std.proofs.Common.{◌≡◌, ℕ, suc, ◌+◌, ◌*◌, ◌<◌, ◌≤◌, List, [], ◌∷◌, length, sym, ◌∙◌, ap, arith, ℤ, pos, ◌*ℤ◌, sum}
 use Rattle.std.proofs.Math.IntN.{zero-*ℤ}
 use native.Mathlib.Decide.{ℕ_discrete}
 use Rattle.std.proofs.lemmas.List.Sums.{sum_by-cons}
-use Rattle.std.proofs.lemmas.Bool.{cases_eq}
-use Rattle.interval_cut_law.proofs.Walks.{Cell, edge, ends, gaps_below, next, walk_face, walk_faces}
+use Rattle.interval_cut_law.proofs.FaceBoundary.{exact, gaps_below-up, length-exact}
+use Rattle.interval_cut_law.proofs.Walks.{Cell, ends, gaps_below, walk_face, walk_faces}
 use Rattle.interval_cut_law.specs.Names.{value_product}
-use Rattle.signed_sum.proofs.Names.{less-up, occurs-apart, occurs-self, one_if, mul_assoc, mul_comm, signed-zero}
-use Rattle.signed_sum.specs.Names.{less, numbers_from, occurs, signed}
+use Rattle.signed_sum.proofs.Names.{mul_assoc, mul_comm, signed-zero}
+use Rattle.signed_sum.specs.Names.{numbers_from, occurs, signed}
 use Rattle.simplicial_law.specs.Names.{HaveDegrees}
-
--- the gaps of value j
-abbrev gaps_at : ℕ → List Cell → ℕ
-gaps_at j [] = 0
-gaps_at j (edge w x ∷ c) = one_if (j == w) + gaps_at j c
-gaps_at j (next w x ∷ c) = one_if (j == w) * occurs w (ends c) + gaps_at j c
-
-gaps-up : (j : ℕ) (c : List Cell) → gaps_below (suc j) c ≡ gaps_below j c + gaps_at j c
-gaps-up j [] = omega arith
-gaps-up j (edge w x ∷ c) = let a = less-up w j in let h = gaps-up j c in omega (arith, a, h)
-gaps-up j (next w x ∷ c) =
-    let o : ℕ = occurs w (ends c) in
-    let a : less w (suc j) * o ≡ (less w j + one_if (j == w)) * o = ap (λ n. n * o) (less-up w j) in
-    let h = gaps-up j c in
-    omega (arith, a, h)
-
--- a face has one vertex more than gaps
-face-length : (j : ℕ) (c : List Cell) → length (walk_face j c) ≡ gaps_at j c + occurs j (ends c)
-face-length j [] = refl
-face-length j (edge w x ∷ c) = elim (cases_eq j w) [
-  | inl e ↦
-      let h = face-length j c in
-      let a = ap (λ b. length (cond b (x ∷ walk_face j c) (walk_face j c))) (eq-eqb j w e) in
-      let b = ap (λ b. one_if b + gaps_at j c) (eq-eqb j w e) in
-      omega (arith, h, a, b)
-  | inr n ↦
-      let h = face-length j c in
-      let a = ap (λ b. length (cond b (x ∷ walk_face j c) (walk_face j c))) (ne_eqb j w n) in
-      let b = ap (λ b. one_if b + gaps_at j c) (ne_eqb j w n) in
-      omega (arith, h, a, b)
-]
-face-length j (next w x ∷ c) = elim (cases_eq j w) [
-  | inl e ↦
-      let h = face-length j c in
-      let a = ap (λ b. length (cond b (x ∷ walk_face j c) (walk_face j c))) (eq-eqb j w e) in
-      let b : one_if (j == w) * occurs w (ends c) + gaps_at j c ≡ 1 * occurs j (ends c) + gaps_at j c = (λ i. one_if (eq-eqb j w e i) * occurs (sym e i) (ends c) + gaps_at j c) in
-      let o : occurs j (w ∷ ends c) ≡ 1 = ap (λ q. occurs j (q ∷ ends c)) (sym e) ∙ occurs-self j (ends c) in
-      omega (arith, h, a, b, o)
-  | inr n ↦
-      let h = face-length j c in
-      let a = ap (λ b. length (cond b (x ∷ walk_face j c) (walk_face j c))) (ne_eqb j w n) in
-      let b : one_if (j == w) * occurs w (ends c) + gaps_at j c ≡ 0 * occurs w (ends c) + gaps_at j c = ap (λ b. one_if b * occurs w (ends c) + gaps_at j c) (ne_eqb j w n) in
-      let o = occurs-apart j w (ends c) n in
-      omega (arith, h, a, b, o)
-]
 
 -- where the values from j on have intervals, the gaps below the one after the last count as the degrees
 pub degrees-sign : (cs : List (List ℕ → ℤ)) (qs : List ℕ) (j d n : ℕ) (c : List Cell) (X : ℤ) → HaveDegrees qs cs → ((i : ℕ) → j ≤ i → i < j + length cs → occurs i (ends c) ≡ 1) →
@@ -68,8 +23,8 @@ degrees-sign [] (q ∷ qs) j d n c X h o = absurd h
 degrees-sign (a ∷ cs) [] j d n c X h o = absurd h
 degrees-sign (a ∷ cs) (q ∷ qs) j d n c X h o = elim (ℕ_discrete (length (walk_face j c)) (suc q)) [
   | yes e ↦
-      let g : gaps_at j c ≡ q = (let l = face-length j c in let p = o j (omega arith) (omega arith) in omega (arith, l, p, e)) in
-      let up = gaps-up j c in
+      let g : exact j c ≡ q = (let l = length-exact j c in let p = o j (omega arith) (omega arith) in omega (arith, l, p, e)) in
+      let up = gaps_below-up j c in
       let z : j + suc (length cs) ≡ suc j + length cs = omega arith in
       let t : n + gaps_below (suc j) c + sum qs ≡ n + gaps_below j c + (q + sum qs) = omega (arith, up, g) in
       let V : ℤ = value_product cs (walk_faces (numbers_from (suc j) (length cs)) c) in

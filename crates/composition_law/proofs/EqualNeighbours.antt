@@ -1,28 +1,11 @@
 -- A composition of a list with equal neighbours has equal neighbours.
-use Rattle.std.proofs.Common.{◌≡◌, ℕ, zero, suc, Bool, true, false, ◌||◌, List, [], ◌∷◌, map, refl, ◌∙◌, ap, arith, subst, eqb, eqb-true, eq-eqb, ℤ, pos}
+use Rattle.std.proofs.Common.{◌≡◌, ℕ, zero, suc, true, List, [], ◌∷◌, map, refl, ◌∙◌, ap, arith, ℤ, pos}
 use Rattle.std.proofs.lemmas.Int.{ints}
-use Rattle.std.proofs.lemmas.Bool.{or_right}
+use Rattle.interval_cut_law.proofs.BoundaryLaws.{degenerate, repeats}
+use Rattle.interval_cut_law.proofs.Degeneracy.{Repeats, here, there}
 use Rattle.signed_sum.proofs.Names.{signed-zero}
-use Rattle.signed_sum.specs.Names.{begins_with, is_degenerate, signed, IsNormalized}
+use Rattle.signed_sum.specs.Names.{is_degenerate, signed, IsNormalized}
 use Rattle.composition_law.proofs.Walks.{Cell, composed, edge, expo, next, out, values, walks, walks-zero}
-
--- two equal neighbours
-pub data Repeats : List ℕ → Type 0 where
-  here : {x : ℕ} {f : List ℕ} → Repeats (x ∷ x ∷ f)
-  there : {x : ℕ} {f : List ℕ} → Repeats f → Repeats (x ∷ f)
-
-repeats-degenerate : (u : List ℕ) → Repeats u → is_degenerate u ≡ true
-repeats-degenerate _ (here {x = x} {f = f}) = ap (λ b. b || is_degenerate (x ∷ f)) (eq-eqb x x refl)
-repeats-degenerate _ (there {x = x} {f = f} r) = or_right (begins_with x f) (is_degenerate f) (repeats-degenerate f r)
-
-pub degenerate-repeats : (u : List ℕ) → is_degenerate u ≡ true → Repeats u
-degenerate-repeats [] h = absurd (let z : false ≡ true = h in cc)
-degenerate-repeats (x ∷ []) h = absurd (let z : false ≡ true = h in cc)
-degenerate-repeats (x ∷ y ∷ f) h = go (eqb x y) refl h (degenerate-repeats (y ∷ f))
-  where
-    go : (b : Bool) → eqb x y ≡ b → (b || is_degenerate (y ∷ f)) ≡ true → (is_degenerate (y ∷ f) ≡ true → Repeats (y ∷ f)) → Repeats (x ∷ y ∷ f)
-    go true e h k = subst (λ (j : ℕ). Repeats (x ∷ j ∷ f)) (eqb-true x y e) here
-    go false e h k = there (k h)
 
 -- f is 0 where the entries have equal neighbours
 abbrev NormalWalk : (List Cell → ℤ) → Type 0
@@ -86,8 +69,8 @@ repeats-map t _ (there {x = x} {f = f} r) = there (repeats-map t f r)
 -- the composition of such lists
 pub composed-outer : (t g : ℕ → ℕ) (u v : List ℕ) (h : List ℕ → ℤ) → IsNormalized h → is_degenerate u ≡ true → composed (map t u) (map g v) h ≡ pos 0
 composed-outer t g u v h n d =
-    repeats-outer (map t u) (map g v) (λ c. signed (expo c) (h (values c))) (λ c r. ap (signed (expo c)) (n (values c) (repeats-degenerate (values c) r)) ∙ signed-zero (expo c)) (repeats-map t u (degenerate-repeats u d))
+    repeats-outer (map t u) (map g v) (λ c. signed (expo c) (h (values c))) (λ c r. ap (signed (expo c)) (n (values c) (degenerate r)) ∙ signed-zero (expo c)) (repeats-map t u (repeats u d))
 
 pub composed-inner : (t g : ℕ → ℕ) (u v : List ℕ) (h : List ℕ → ℤ) → IsNormalized h → is_degenerate v ≡ true → composed (map t u) (map g v) h ≡ pos 0
 composed-inner t g u v h n d =
-    repeats-inner (map t u) (map g v) (λ c. signed (expo c) (h (values c))) (λ c r. ap (signed (expo c)) (n (values c) (repeats-degenerate (values c) r)) ∙ signed-zero (expo c)) (repeats-map g v (degenerate-repeats v d))
+    repeats-inner (map t u) (map g v) (λ c. signed (expo c) (h (values c))) (λ c r. ap (signed (expo c)) (n (values c) (degenerate r)) ∙ signed-zero (expo c)) (repeats-map g v (repeats v d))

@@ -1,6 +1,5 @@
 pub mod Cuts
 pub mod Paths
-pub mod CaesuraLemmas
 pub mod Walks
 pub mod Cells
 pub mod Appends

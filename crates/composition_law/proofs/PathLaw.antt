@@ -12,9 +12,7 @@ module _ (k : ℕ) where
   at_end-sum (w ∷ ws) vs a b = refl
 
   at_end-none : (ws : List (List ℕ)) (vs : List (List ℕ)) → at_end ws vs (pos 0) ≡ pos 0
-  at_end-none [] [] = refl
-  at_end-none [] (v ∷ vs) = refl
-  at_end-none (w ∷ ws) vs = refl
+  at_end-none ws vs = let s = at_end-sum ws vs (pos 0) (pos 0) in omega (arith, ints)
 
   path_sum-sum : (ws : List (List ℕ)) (vs : List (List ℕ)) (f g : List (List ℕ) → ℤ) → path_sum k ws vs (λ r. f r +ℤ g r) ≡ path_sum k ws vs f +ℤ path_sum k ws vs g
   path_sum-sum [] vs f g = refl
@@ -26,28 +24,18 @@ module _ (k : ℕ) where
       ∙ signed-+ (length ws) (path_sum k (w ∷ ws) vs (λ r. f (inserted k w v ∷ r))) (path_sum k (w ∷ ws) vs (λ r. g (inserted k w v ∷ r))) in
       omega (arith, ints)
 
-  at_end-neg : (ws : List (List ℕ)) (vs : List (List ℕ)) (a : ℤ) → at_end ws vs (neg_ℤ a) ≡ neg_ℤ (at_end ws vs a)
-  at_end-neg [] [] a = refl
-  at_end-neg [] (v ∷ vs) a = refl
-  at_end-neg (w ∷ ws) vs a = refl
+  pub path_sum-zero : (ws : List (List ℕ)) (vs : List (List ℕ)) → path_sum k ws vs (λ r. pos 0) ≡ pos 0
+  path_sum-zero ws vs =
+      let s : path_sum k ws vs (λ r. pos 0) ≡ path_sum k ws vs (λ r. pos 0) +ℤ path_sum k ws vs (λ r. pos 0) = path_sum-sum ws vs (λ r. pos 0) (λ r. pos 0) in omega (arith, ints)
 
   path_sum-neg : (ws : List (List ℕ)) (vs : List (List ℕ)) (f : List (List ℕ) → ℤ) → path_sum k ws vs (λ r. neg_ℤ (f r)) ≡ neg_ℤ (path_sum k ws vs f)
-  path_sum-neg [] vs f = refl
-  path_sum-neg (w ∷ ws) [] f = refl
-  path_sum-neg (w ∷ ws) (v ∷ vs) f =
-      let a = at_end-neg ws vs (f (inserted k w v ∷ [])) in
-      let b = path_sum-neg ws (v ∷ vs) (λ r. f (inserted k w v ∷ r)) in
-      let c = ap (λ j. signed (length ws) j) (path_sum-neg (w ∷ ws) vs (λ r. f (inserted k w v ∷ r))) ∙ signed-neg (length ws) (path_sum k (w ∷ ws) vs (λ r. f (inserted k w v ∷ r))) in
-      omega (arith, ints)
+  path_sum-neg ws vs f =
+      let z : path_sum k ws vs (λ r. f r +ℤ neg_ℤ (f r)) ≡ pos 0 = (λ i. path_sum k ws vs (λ r. (let e : f r +ℤ neg_ℤ (f r) ≡ pos 0 = omega (arith, ints) in e) i)) ∙ path_sum-zero ws vs in
+      omega (arith, ints, z, path_sum-sum ws vs f (λ r. neg_ℤ (f r)))
 
-  pub path_sum-zero : (ws : List (List ℕ)) (vs : List (List ℕ)) → path_sum k ws vs (λ r. pos 0) ≡ pos 0
-  path_sum-zero [] vs = refl
-  path_sum-zero (w ∷ ws) [] = refl
-  path_sum-zero (w ∷ ws) (v ∷ vs) =
-      let a = at_end-none ws vs in
-      let b = path_sum-zero ws (v ∷ vs) in
-      let c = ap (λ j. signed (length ws) j) (path_sum-zero (w ∷ ws) vs) ∙ signed-zero (length ws) in
-      omega (arith, ints)
+  path_sum-right : (ws : List (List ℕ)) (h : List (List ℕ) → ℤ) → path_sum k ws [] h ≡ pos 0
+  path_sum-right [] h = refl
+  path_sum-right (w ∷ ws) h = refl
 
   -- z where both lists have one entry
   abbrev pub ones : List (List ℕ) → List (List ℕ) → ℤ → ℤ
@@ -71,15 +59,7 @@ module _ (k : ℕ) where
 
   -- ---- the law
 
-  ones-here : (w : List ℕ) (ws : List (List ℕ)) (v : List ℕ) (vs : List (List ℕ)) (z : ℤ) → ones (w ∷ ws) (v ∷ vs) z ≡ at_end ws vs z
-  ones-here w ws v vs z = refl
-
   -- one step less has the other sign; where no step is left the sum is nothing
-  flip : (ws : List (List ℕ)) (vs : List (List ℕ)) (f : List (List ℕ) → ℤ) (g : List (List ℕ) → List (List ℕ) → ℤ) →
-      signed (pred (length ws)) (path_sum k ws vs f +ℤ neg_ℤ (without_one vs (λ us. path_sum k ws us (g us)))) ≡ neg_ℤ (signed (length ws) (path_sum k ws vs f +ℤ neg_ℤ (without_one vs (λ us. path_sum k ws us (g us)))))
-  flip [] vs f g = let a = without_one-zero vs in omega (arith, ints)
-  flip (w ∷ ws) vs f g = omega (arith, ints)
-
   flip-more : (ws : List (List ℕ)) (v : List ℕ) (vs : List (List ℕ)) (f : List (List ℕ) → ℤ) →
       signed (pred (length ws)) (path_sum k ws vs f +ℤ neg_ℤ (without_one vs (λ us. path_sum k ws (v ∷ us) f))) ≡ neg_ℤ (signed (length ws) (path_sum k ws vs f +ℤ neg_ℤ (without_one vs (λ us. path_sum k ws (v ∷ us) f))))
   flip-more [] v vs f = let a = without_one-zero vs in omega (arith, ints)
@@ -91,13 +71,9 @@ module _ (k : ℕ) where
   paths-law [] vs h = let a = without_one-zero vs in omega (arith, ints)
   paths-law (w ∷ ws) [] h =
       let a : without_one ws (λ us. path_sum k (w ∷ us) [] h) ≡ pos 0 = without_one-zero ws in
-      let c : path_sum k ws [] h ≡ pos 0 = none-right ws in
+      let c = path_sum-right ws h in
       let b = signed-zero (length ws) in
       omega (arith, ints)
-    where
-      none-right : (ws : List (List ℕ)) → path_sum k ws [] h ≡ pos 0
-      none-right [] = refl
-      none-right (w ∷ ws) = refl
   paths-law (w ∷ ws) (v ∷ vs) h =
       let f : List (List ℕ) → ℤ = λ r. h (inserted k w v ∷ r) in
       let n : ℕ = length ws in
@@ -180,11 +156,7 @@ pub data Twins : List (List ℕ) → Type 0 where
 
 module _ (k : ℕ) where
   pub twins-left : (ws : List (List ℕ)) (vs : List (List ℕ)) (h : List (List ℕ) → ℤ) → ((t : List (List ℕ)) → Twins t → h t ≡ pos 0) → Twins ws → path_sum k ws vs h ≡ pos 0
-  twins-left ws [] h n t = none-right ws
-    where
-      none-right : (ws : List (List ℕ)) → path_sum k ws [] h ≡ pos 0
-      none-right [] = refl
-      none-right (w ∷ ws) = refl
+  twins-left ws [] h n t = path_sum-right k ws h
   twins-left _ (v ∷ vs) h n (here {x = w} {f = ws}) =
       let a = path_sum-begins k ws vs w v (λ r. h (inserted k w v ∷ r)) (λ r. n (inserted k w v ∷ inserted k w v ∷ r) here) in
       let b = ap (λ j. signed (suc (length ws)) j) (twins-left (w ∷ w ∷ ws) vs (λ r. h (inserted k w v ∷ r)) (λ t q. n (inserted k w v ∷ t) (there q)) here) ∙ signed-zero (suc (length ws)) in

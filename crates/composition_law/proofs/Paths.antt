@@ -1,6 +1,7 @@
 -- The composition of tuples as a sum along the walks through both.
 use Rattle.std.proofs.Common.{◌≡◌, ℕ, zero, suc, ◌+◌, ◌≤◌, List, [], ◌∷◌, ◌++◌, length, map, drop, get_or, refl, sym, ap, ◌∙◌, arith, ℤ, pos, ◌+ℤ◌, ◌*ℤ◌, All, pred}
 use Rattle.std.proofs.lemmas.Int.{ints}
+use Rattle.std.proofs.lemmas.List.{drop-drop, get_or-drop}
 use Rattle.std.proofs.lemmas.List.Elements.{All-append, All-cons, All-head, All-map, All-nil, All-tail, All-weaker}
 use Rattle.signed_sum.specs.Names.{inversion_count, stands_before, numbers_from, signed, restricted, total, value_at}
 use Rattle.signed_sum.proofs.Names.{apart-above, apart-append, apart-below, before-first, pairs-among, pairs-later, length-numbers_from, numbers_from-append, signed-signed, signed-zero, fun_ext, total-append, total-map, total-signed, value_at-kept_terms, times-signed}
@@ -65,16 +66,10 @@ entries_along k w v (step_x ∷ s) = inserted k (get_or w 0 []) (get_or v 0 []) 
 entries_along k w v (step_y ∷ s) = inserted k (get_or w 0 []) (get_or v 0 []) ∷ entries_along k w (drop 1 v) s
 
 first-of : {X : Type 0} (w : List X) (i : ℕ) (d : X) → get_or w i d ≡ get_or (drop i w) 0 d
-first-of [] zero d = refl
-first-of [] (suc i) d = refl
-first-of (x ∷ w) zero d = refl
-first-of (x ∷ w) (suc i) d = first-of w i d
+first-of w i d = sym (get_or-drop i w 0 d ∙ (let e : i + 0 ≡ i = omega arith in ap (λ j. get_or w j d) e))
 
 rest-of : {X : Type 0} (w : List X) (i : ℕ) → drop (suc i) w ≡ drop 1 (drop i w)
-rest-of [] zero = refl
-rest-of [] (suc i) = refl
-rest-of (x ∷ w) zero = refl
-rest-of (x ∷ w) (suc i) = rest-of w i
+rest-of w i = (let e : suc i ≡ i + 1 = omega arith in ap (λ j. drop j w) e) ∙ sym (drop-drop 1 i w)
 
 along-points : (k : ℕ) (w v : List (List ℕ)) (i j : ℕ) (s : List Step) → map (λ q. inserted k (get_or w q.0 []) (get_or v q.1 [])) (points_from i j s) ≡ entries_along k (drop i w) (drop j v) s
 along-points k w v i j [] = λ n. inserted k (first-of w i [] n) (first-of v j [] n) ∷ []
@@ -114,7 +109,7 @@ paths-sum k w (x ∷ ws) v (y ∷ vs) h =
     let q = ap (signed (suc (length ws))) (paths-sum k w (x ∷ ws) y vs (λ r. h (inserted k w v ∷ r))) in
     omega (arith, ints, a, b, c, d, p, q)
 
-total-all : {X : Type 0} (P : X → Type 0) (f g : X → ℤ) → ((x : X) → P x → f x ≡ g x) → (xs : List X) → All P xs → total f xs ≡ total g xs
+pub total-all : {X : Type 0} (P : X → Type 0) (f g : X → ℤ) → ((x : X) → P x → f x ≡ g x) → (xs : List X) → All P xs → total f xs ≡ total g xs
 total-all P f g h [] a = refl
 total-all P f g h (x ∷ xs) a = λ i. h x (All-head P x xs a) i +ℤ total-all P f g h xs (All-tail P x xs a) i
 

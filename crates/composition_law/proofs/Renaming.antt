@@ -1,20 +1,10 @@
 -- Lists with other values.
-use Rattle.std.proofs.Common.{Bool, List, [], ap, arith, cond, eq-eqb, eqb-true, false, map, refl, suc, sym, true, ℕ, ◌++◌, ◌+◌, ◌==◌, ◌∙◌, ◌∷◌, ◌≡◌, ℤ}
+use Rattle.std.proofs.Common.{List, [], ap, arith, map, refl, suc, sym, ℕ, ◌++◌, ◌+◌, ◌∙◌, ◌∷◌, ◌≡◌, ℤ}
 use Rattle.std.proofs.lemmas.Int.{ints}
 use Rattle.std.proofs.lemmas.List.{map-append}
-use native.Mathlib.Decide.{ℕ_discrete}
+use Rattle.std.proofs.lemmas.Bool.Decides.{nat_tests}
 use Rattle.signed_sum.specs.Names.{if_zero, occurs, unless_zero, signed}
 use Rattle.surjection_law.specs.Names.{caesura_count, caesuras_among, caesuras_before_last, place_term, without_place}
-
-pub pick-eq : {A : Type 0} (x y : ℕ) (a b : A) → x ≡ y → cond (x == y) a b ≡ a
-pick-eq x y a b e = ap (λ c. cond c a b) (eq-eqb x y e)
-
-pub pick-apart : {A : Type 0} (x y : ℕ) (a b : A) → (x ≡ y → ⊥) → cond (x == y) a b ≡ b
-pick-apart x y a b n = go (x == y) refl
-  where
-    go : (c : Bool) → (x == y) ≡ c → cond c a b ≡ b
-    go true e = absurd (n (eqb-true x y e))
-    go false e = refl
 
 -- each entry comes back
 abbrev pub Back : (ℕ → ℕ) → (ℕ → ℕ) → List ℕ → Type 0
@@ -28,11 +18,7 @@ module _ (t i : ℕ → ℕ) where
 
   pub occurs-renamed : (x : ℕ) (u : List ℕ) → i (t x) ≡ x → Back t i u → occurs (t x) (map t u) ≡ occurs x u
   occurs-renamed x [] h k = refl
-  occurs-renamed x (y ∷ u) h k =
-      elim (ℕ_discrete x y) [
-        | yes e ↦ pick-eq (t x) (t y) 1 (occurs (t x) (map t u)) (ap t e) ∙ sym (pick-eq x y 1 (occurs x u) e)
-        | no n ↦ pick-apart (t x) (t y) 1 (occurs (t x) (map t u)) (λ q. n (sym h ∙ ap i q ∙ k.0)) ∙ occurs-renamed x u h k.1 ∙ sym (pick-apart x y 1 (occurs x u) n)
-      ]
+  occurs-renamed x (y ∷ u) h k = let n : t x ≡ t y → x ≡ y = λ q. sym h ∙ ap i q ∙ k.0 in grind (arith, nat_tests, n, occurs-renamed x u h k.1)
 
   pub caesuras-map : (u : List ℕ) → Back t i u → caesura_count (map t u) ≡ caesura_count u
   caesuras-map [] k = refl

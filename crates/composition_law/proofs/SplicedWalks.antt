@@ -1,16 +1,17 @@
 -- The terms of all cuts are the walks, with the same signs.
-use Rattle.std.proofs.Common.{◌≡◌, ℕ, zero, suc, ◌+◌, ◌-◌, ◌*◌, ◌≤◌, ◌⊎◌, inl, inr, cond, List, [], ◌∷◌, ◌++◌, drop, length, map, refl, sym, ◌∙◌, ap, arith, append-nil, All, ℤ, pos, neg_ℤ, ◌+ℤ◌, ◌*ℤ◌, eq-eqb, ne_eqb}
+use Rattle.std.proofs.Common.{◌≡◌, ℕ, zero, suc, ◌+◌, ◌-◌, ◌*◌, ◌≤◌, ◌⊎◌, inl, inr, cond, List, [], ◌∷◌, ◌++◌, drop, length, map, refl, sym, ◌∙◌, ap, arith, append-nil, ℤ, pos, ◌*ℤ◌, eq-eqb, ne_eqb}
 use Rattle.std.proofs.lemmas.Int.{ints}
-use Rattle.std.proofs.lemmas.List.Elements.{All-head, All-tail}
 use Rattle.interval_cut_law.specs.Names.{rising_lists}
-use Rattle.signed_sum.proofs.Names.{occurs-01, occurs-apart, occurs-self, neg-mul, one-mul, total-append, total-map, apart-above, apart-append, apart-below, before-first, pairs-among, pairs-later, length-numbers_from, numbers_from-append}
+use Rattle.linear_law.specs.Names.{Each}
+use Rattle.signed_sum.proofs.Names.{occurs-01, occurs-apart, occurs-self, times-signed, total-append, total-map, apart-above, apart-append, apart-below, before-first, pairs-among, pairs-later, length-numbers_from, numbers_from-append}
 use Rattle.signed_sum.specs.Names.{inversion_count, rearrangement_sign, stands_before, if_zero, numbers_from, occurs, signed, total}
 use Rattle.composition_law.specs.Surjections.{numbered, piece, spliced, symbols_of, values_of, with_values}
+use Rattle.composition_law.proofs.Paths.{total-all}
 use Rattle.composition_law.proofs.Cuts.{IsCutOf, each_cut}
 use Rattle.surjection_law.proofs.BoundaryByValueTwice.{multiplicity-other, multiplicity-same}
 use Rattle.surjection_law.specs.Names.{caesura_count, multiplicity}
 use Rattle.composition_law.proofs.Renaming.{Back, occurs-renamed}
-use Rattle.composition_law.proofs.States.{AllKind, IsWalk, walk-edge, walk-next, walk-out, walks-cong, zero-there}
+use Rattle.composition_law.proofs.States.{AllKind, IsWalk, walk-edge, walk-next, walk-out, walks-by, walks-cong, zero-there}
 use Rattle.composition_law.proofs.Walks.{Cell, composed, edge, ends, expo, next, out, values, walks}
 
 -- the entries of a walk: the caesuras of u are numbered from n on, and those of v from b on
@@ -82,10 +83,6 @@ walk-pairs (edge y ∷ c) n b q =
 abbrev pub signed_value : ℕ → ℕ → (List ℕ → ℤ) → List (ℕ × List ℕ) → ℤ
 signed_value m l g es = rearrangement_sign (numbers_from 0 (m + l)) (symbols_of es) *ℤ g (values_of es)
 
-signed-one : (n : ℕ) (z : ℤ) → signed n (pos 1) *ℤ z ≡ signed n z
-signed-one zero z = one-mul z
-signed-one (suc n) z = neg-mul (signed n (pos 1)) z ∙ ap neg_ℤ (signed-one n z)
-
 walk-value : (c : List Cell) (g : List ℕ → ℤ) → signed_value (caesura_count (ends c)) (inner_count c) g (numbers_of 0 (caesura_count (ends c)) c) ≡ signed (expo c) (g (values c))
 walk-value c g =
     let m : ℕ = caesura_count (ends c) in
@@ -93,7 +90,7 @@ walk-value c g =
     let z : 0 + m ≡ m = omega arith in
     let e : numbers_from 0 (m + inner_count c) ≡ numbers_from 0 m ++ numbers_from m (inner_count c) = numbers_from-append 0 m (inner_count c) ∙ ap (λ j. numbers_from 0 m ++ numbers_from j (inner_count c)) z in
     (λ i. signed ((ap (inversion_count (stands_before w)) e ∙ walk-pairs c 0 m (omega arith)) i) (pos 1) *ℤ g (values-numbers c 0 m i))
-    ∙ signed-one (expo c) (g (values c))
+    ∙ times-signed (expo c) (g (values c))
 
 -- the caesuras of a walk
 module _ (kind : ℕ → ℕ) where
@@ -102,15 +99,14 @@ module _ (kind : ℕ → ℕ) where
     inner : inner_count c ≡ if_zero (occurs 0 u) 0 (caesura_count v)
 
   counted-next : (u v : List ℕ) (y : ℕ) (c : List Cell) → kind y ≡ 0 → IsCounted u (y ∷ v) c → IsCounted (0 ∷ u) (y ∷ v) (next y ∷ c)
-  counted-next u v y c h w = record { walk = walk-next kind u v y c h w.walk; inner = w.inner ∙ go (occurs-01 0 u) ∙ ap (λ n. if_zero n 0 (caesura_count (y ∷ v))) (sym (occurs-self 0 u)) }
+  counted-next u v y c h w = record {
+    walk = walk-next kind u v y c h w.walk;
+    inner = w.inner ∙ (elim (occurs-01 0 u) [ inl e ↦ rw e (alone v (w.walk.single e)) | inr e ↦ rw e refl ]);
+  }
     where
       alone : (v : List ℕ) → length (y ∷ v) ≡ 1 → 0 ≡ caesura_count (y ∷ v)
       alone [] e = refl
       alone (z ∷ v) e = absurd (omega (arith, e))
-
-      go : (occurs 0 u ≡ 0) ⊎ (occurs 0 u ≡ 1) → if_zero (occurs 0 u) 0 (caesura_count (y ∷ v)) ≡ caesura_count (y ∷ v)
-      go (inl e) = ap (λ n. if_zero n 0 (caesura_count (y ∷ v))) e ∙ alone v (w.walk.single e)
-      go (inr e) = ap (λ n. if_zero n 0 (caesura_count (y ∷ v))) e
 
   counted-edge : (u v : List ℕ) (y : ℕ) (c : List Cell) → kind y ≡ 0 → IsCounted (0 ∷ u) v c → IsCounted (0 ∷ u) (y ∷ v) (edge y ∷ c)
   counted-edge u v y c h w = record {
@@ -126,16 +122,8 @@ module _ (kind : ℕ → ℕ) where
   counted-out u v x c h w = record { walk = walk-out kind u v x c h w.walk; inner = w.inner ∙ ap (λ n. if_zero n 0 (caesura_count v)) (sym (zero-there kind x u)) }
 
   walks-counted : (u v : List ℕ) (f g : List Cell → ℤ) → AllKind kind 1 u → AllKind kind 0 v → ((c : List Cell) → IsCounted u v c → f c ≡ g c) → walks u v f ≡ walks u v g
-  walks-counted [] [] f g a b h = refl
-  walks-counted [] (y ∷ []) f g a b h = h [] (record { walk = record { ending = refl; outs = λ x k. refl; ins = λ z k. refl; single = λ e. refl }; inner = refl })
-  walks-counted [] (y ∷ z ∷ v) f g a b h = refl
-  walks-counted (x ∷ u) [] f g a b h = refl
-  walks-counted (zero ∷ u) (y ∷ v) f g a b h =
-      let i = walks-counted u (y ∷ v) (λ c. f (next y ∷ c)) (λ c. g (next y ∷ c)) a.1 b (λ c w. h (next y ∷ c) (counted-next u v y c b.0 w)) in
-      let j = walks-counted (zero ∷ u) v (λ c. f (edge y ∷ c)) (λ c. g (edge y ∷ c)) a b.1 (λ c w. h (edge y ∷ c) (counted-edge u v y c b.0 w)) in
-      omega (arith, ints)
-  walks-counted (suc x ∷ u) (y ∷ v) f g a b h =
-      walks-counted u (y ∷ v) (λ c. f (out (suc x) ∷ c)) (λ c. g (out (suc x) ∷ c)) a.1 b (λ c w. h (out (suc x) ∷ c) (counted-out u (y ∷ v) x c a.0 w))
+  walks-counted = walks-by kind IsCounted
+      (λ y h. record { walk = record { ending = refl; outs = λ x k. refl; ins = λ z k. refl; single = λ e. refl }; inner = refl }) counted-next counted-edge counted-out
 
   -- the sum over the walks with the signs of their caesuras
   pub walks-signed_value : (u v : List ℕ) (g : List ℕ → ℤ) → AllKind kind 1 u → AllKind kind 0 v → occurs 0 u ≡ 1 →
@@ -146,15 +134,6 @@ module _ (kind : ℕ → ℕ) where
       let m : caesura_count u ≡ caesura_count (ends c) = ap caesura_count (sym w.walk.ending) in
       let l : caesura_count v ≡ inner_count c = sym (w.inner ∙ ap (λ n. if_zero n 0 (caesura_count v)) z) in
       (λ i. signed_value (m i) (l i) g (numbers_of 0 (m i) c)) ∙ walk-value c g)
-
--- all elements
-abbrev pub EachValue : (ℕ → Type 0) → List ℕ → Type 0
-EachValue P [] = Unit {0}
-EachValue P (x ∷ u) = P x × EachValue P u
-
-pub total-all : {X : Type 0} (P : X → Type 0) (f g : X → ℤ) → ((x : X) → P x → f x ≡ g x) → (xs : List X) → All P xs → total f xs ≡ total g xs
-total-all P f g h [] a = refl
-total-all P f g h (x ∷ xs) a = λ i. h x (All-head P x xs a) i +ℤ total-all P f g h xs (All-tail P x xs a) i
 
 -- splices at one entry
 module _ (k : ℕ) where
@@ -194,7 +173,7 @@ module _ (k : ℕ) (f g t i j kind : ℕ → ℕ) (kind_zero : kind 0 ≡ 1) whe
   IsValue x = ((x ≡ k) × (f x ≡ k) × (t x ≡ 0)) ⊎ ((w : ℕ) × ((x ≡ k → ⊥) × (f x ≡ suc w) × (t x ≡ suc w) × (suc w ≡ k → ⊥)))
 
   abbrev pub AreValues : List ℕ → Type 0
-  AreValues u = EachValue IsValue u × Back t i u × AllKind kind 1 (map t u)
+  AreValues u = Each IsValue u × Back t i u × AllKind kind 1 (map t u)
 
   tail-values : (x : ℕ) (u : List ℕ) → AreValues (x ∷ u) → AreValues u
   tail-values x u h = (h.0.1, h.1.1, h.2.1)

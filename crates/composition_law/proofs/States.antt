@@ -1,7 +1,8 @@
 -- What is known of a walk, and of what was passed before it. `kind` is 1 at the values of u, and 0 at those of v.
-use Rattle.std.proofs.Common.{List, [], ap, arith, cond, inl, inr, length, refl, subst, suc, sym, zero, ℕ, ◌++◌, ◌==◌, ◌∙◌, ◌∷◌, ◌≡◌, ◌⊎◌, ℤ}
+use Rattle.std.proofs.Common.{List, [], ap, arith, cond, inl, inr, length, refl, suc, sym, zero, ℕ, ◌++◌, ◌==◌, ◌∙◌, ◌∷◌, ◌≡◌, ℤ}
 use Rattle.std.proofs.lemmas.Int.{ints}
 use native.Mathlib.Decide.{ℕ_discrete}
+use Rattle.std.proofs.lemmas.Bool.Decides.{nat_tests}
 use Rattle.composition_law.proofs.Appends.{aligned-last, aligned-more, alignedV-last, alignedV-more, good-append, goodv-append}
 use Rattle.composition_law.proofs.Cells.{Aligned, AlignedV, Good, GoodV}
 use Rattle.composition_law.proofs.Walks.{Cell, edge, ends, next, out, values, walks}
@@ -49,59 +50,57 @@ module _ (kind : ℕ → ℕ) where
   walk-next u v y c h w = record {
     ending = ap (λ r. 0 ∷ r) w.ending;
     outs = λ x k. skip-0 (suc x) y (values c) k h ∙ w.outs x k ∙ sym (zero-apart x u);
-    ins = λ z k. inner z k (occurs-01 0 u);
+    ins = λ z k. elim (occurs-01 0 u) [
+      | inl e ↦ ap (λ j. cond (z == y) 1 j) (w.ins z k ∙ ap (λ j. if_zero j 0 (occurs z (y ∷ v))) e ∙ sym (tails z v (w.single e)))
+      | inr e ↦ let i : occurs z (values c) ≡ occurs z (y ∷ v) = w.ins z k ∙ ap (λ j. if_zero j 0 (occurs z (y ∷ v))) e in grind (arith, nat_tests, i)
+    ];
     single = λ e. absurd (let s = occurs-self 0 u in omega (arith, e, s));
   }
     where
-      inner : (z : ℕ) → kind z ≡ 0 → (occurs 0 u ≡ 0) ⊎ (occurs 0 u ≡ 1) → occurs z (y ∷ values c) ≡ if_zero (occurs 0 (0 ∷ u)) 0 (occurs z (y ∷ v))
-      inner z k o =
-          elim (ℕ_discrete z y) [
-            | yes e ↦ subst (λ (j : ℕ). occurs j (y ∷ values c) ≡ occurs j (y ∷ v)) (sym e) (occurs-self y (values c) ∙ sym (occurs-self y v))
-            | no n ↦ occurs-apart z y (values c) n ∙ w.ins z k ∙ rest z n o
-          ]
-        where
-          rest : (z : ℕ) → (z ≡ y → ⊥) → (occurs 0 u ≡ 0) ⊎ (occurs 0 u ≡ 1) → if_zero (occurs 0 u) 0 (occurs z (y ∷ v)) ≡ occurs z (y ∷ v)
-          rest z n (inl e) = ap (λ j. if_zero j 0 (occurs z (y ∷ v))) e ∙ sym (occurs-apart z y v n ∙ tails z v (w.single e))
-            where
-              tails : (z : ℕ) (v : List ℕ) → length (y ∷ v) ≡ 1 → occurs z v ≡ 0
-              tails z [] e = refl
-              tails z (x ∷ v) e = absurd (omega (arith, e))
-          rest z n (inr e) = ap (λ j. if_zero j 0 (occurs z (y ∷ v))) e
+      tails : (z : ℕ) (v : List ℕ) → length (y ∷ v) ≡ 1 → occurs z v ≡ 0
+      tails z [] e = refl
+      tails z (x ∷ v) e = absurd (omega (arith, e))
 
   pub walk-edge : (u v : List ℕ) (y : ℕ) (c : List Cell) → kind y ≡ 0 → IsWalk (0 ∷ u) v c → IsWalk (0 ∷ u) (y ∷ v) (edge y ∷ c)
   walk-edge u v y c h w = record {
     ending = w.ending;
     outs = λ x k. skip-0 (suc x) y (values c) k h ∙ w.outs x k;
-    ins = λ z k. elim (ℕ_discrete z y) [
-      | yes e ↦ subst (λ (j : ℕ). occurs j (y ∷ values c) ≡ occurs j (y ∷ v)) (sym e) (occurs-self y (values c) ∙ sym (occurs-self y v))
-      | no n ↦ occurs-apart z y (values c) n ∙ w.ins z k ∙ sym (occurs-apart z y v n)
-    ];
+    ins = λ z k. ap (λ j. cond (z == y) 1 j) (w.ins z k);
     single = λ e. absurd (let s = occurs-self 0 u in omega (arith, e, s));
   }
 
   pub walk-out : (u v : List ℕ) (x : ℕ) (c : List Cell) → kind (suc x) ≡ 1 → IsWalk u v c → IsWalk (suc x ∷ u) v (out (suc x) ∷ c)
   walk-out u v x c h w = record {
     ending = ap (λ r. suc x ∷ r) w.ending;
-    outs = λ z k. elim (ℕ_discrete (suc z) (suc x)) [
-      | yes e ↦ subst (λ (j : ℕ). occurs j (suc x ∷ values c) ≡ occurs j (suc x ∷ u)) (sym e) (occurs-self (suc x) (values c) ∙ sym (occurs-self (suc x) u))
-      | no n ↦ occurs-apart (suc z) (suc x) (values c) n ∙ w.outs z k ∙ sym (occurs-apart (suc z) (suc x) u n)
-    ];
+    outs = λ z k. ap (λ j. cond (suc z == suc x) 1 j) (w.outs z k);
     ins = λ z k. skip-1 (suc x) z (values c) h k ∙ w.ins z k ∙ ap (λ j. if_zero j 0 (occurs z v)) (sym (zero-there x u));
     single = λ e. w.single (sym (zero-there x u) ∙ e);
   }
 
+  -- y waits exactly where a 0 is left
+  pub waiting : (u v : List ℕ) (y : ℕ) (c : List Cell) → kind y ≡ 0 → IsWalk u (y ∷ v) c → occurs y (values c) ≡ occurs 0 u
+  waiting u v y c h w = w.ins y h ∙ ap (λ n. if_zero (occurs 0 u) 0 n) (occurs-self y v) ∙ (elim (occurs-01 0 u) [ inl e ↦ rw e refl | inr e ↦ rw e refl ])
+
+  -- sums whose terms agree where P holds, which each entry keeps
+  pub walks-by : (P : List ℕ → List ℕ → List Cell → Type 0) → ((y : ℕ) → kind y ≡ 0 → P [] (y ∷ []) []) →
+      ((u v : List ℕ) (y : ℕ) (c : List Cell) → kind y ≡ 0 → P u (y ∷ v) c → P (0 ∷ u) (y ∷ v) (next y ∷ c)) →
+      ((u v : List ℕ) (y : ℕ) (c : List Cell) → kind y ≡ 0 → P (0 ∷ u) v c → P (0 ∷ u) (y ∷ v) (edge y ∷ c)) →
+      ((u v : List ℕ) (x : ℕ) (c : List Cell) → kind (suc x) ≡ 1 → P u v c → P (suc x ∷ u) v (out (suc x) ∷ c)) →
+      (u v : List ℕ) (f g : List Cell → ℤ) → AllKind 1 u → AllKind 0 v → ((c : List Cell) → P u v c → f c ≡ g c) → walks u v f ≡ walks u v g
+  walks-by P s n e o [] [] f g a b h = refl
+  walks-by P s n e o [] (y ∷ []) f g a b h = h [] (s y b.0)
+  walks-by P s n e o [] (y ∷ z ∷ v) f g a b h = refl
+  walks-by P s n e o (x ∷ u) [] f g a b h = refl
+  walks-by P s n e o (zero ∷ u) (y ∷ v) f g a b h =
+      let i = walks-by P s n e o u (y ∷ v) (λ c. f (next y ∷ c)) (λ c. g (next y ∷ c)) a.1 b (λ c w. h (next y ∷ c) (n u v y c b.0 w)) in
+      let j = walks-by P s n e o (zero ∷ u) v (λ c. f (edge y ∷ c)) (λ c. g (edge y ∷ c)) a b.1 (λ c w. h (edge y ∷ c) (e u v y c b.0 w)) in
+      omega (arith, ints)
+  walks-by P s n e o (suc x ∷ u) (y ∷ v) f g a b h =
+      walks-by P s n e o u (y ∷ v) (λ c. f (out (suc x) ∷ c)) (λ c. g (out (suc x) ∷ c)) a.1 b (λ c w. h (out (suc x) ∷ c) (o u (y ∷ v) x c a.0 w))
+
   -- sums whose terms agree
   pub walks-cong : (u v : List ℕ) (f g : List Cell → ℤ) → AllKind 1 u → AllKind 0 v → ((c : List Cell) → IsWalk u v c → f c ≡ g c) → walks u v f ≡ walks u v g
-  walks-cong [] [] f g a b h = refl
-  walks-cong [] (y ∷ []) f g a b h = h [] (record { ending = refl; outs = λ x k. refl; ins = λ z k. refl; single = λ e. refl })
-  walks-cong [] (y ∷ z ∷ v) f g a b h = refl
-  walks-cong (x ∷ u) [] f g a b h = refl
-  walks-cong (zero ∷ u) (y ∷ v) f g a b h =
-      let i = walks-cong u (y ∷ v) (λ c. f (next y ∷ c)) (λ c. g (next y ∷ c)) a.1 b (λ c w. h (next y ∷ c) (walk-next u v y c b.0 w)) in
-      let j = walks-cong (zero ∷ u) v (λ c. f (edge y ∷ c)) (λ c. g (edge y ∷ c)) a b.1 (λ c w. h (edge y ∷ c) (walk-edge u v y c b.0 w)) in
-      omega (arith, ints)
-  walks-cong (suc x ∷ u) (y ∷ v) f g a b h =
-      walks-cong u (y ∷ v) (λ c. f (out (suc x) ∷ c)) (λ c. g (out (suc x) ∷ c)) a.1 b (λ c w. h (out (suc x) ∷ c) (walk-out u (y ∷ v) x c a.0 w))
+  walks-cong = walks-by IsWalk (λ y h. record { ending = refl; outs = λ x k. refl; ins = λ z k. refl; single = λ e. refl }) walk-next walk-edge walk-out
 
   -- ---- prefixes
 
@@ -123,11 +122,7 @@ module _ (kind : ℕ → ℕ) where
   -- ---- one entry more
 
   pub same-both : (x : ℕ) (W U : List ℕ) → SameOut W U → SameOut (suc x ∷ W) (suc x ∷ U)
-  same-both x W U h z k =
-      elim (ℕ_discrete (suc z) (suc x)) [
-        | yes e ↦ subst (λ (j : ℕ). occurs j (suc x ∷ W) ≡ occurs j (suc x ∷ U)) (sym e) (occurs-self (suc x) W ∙ sym (occurs-self (suc x) U))
-        | no n ↦ occurs-apart (suc z) (suc x) W n ∙ h z k ∙ sym (occurs-apart (suc z) (suc x) U n)
-      ]
+  same-both x W U h z k = ap (λ j. cond (suc z == suc x) 1 j) (h z k)
 
   pub same-in : (y : ℕ) (W U : List ℕ) → kind y ≡ 0 → SameOut W U → SameOut (y ∷ W) U
   same-in y W U h s z k = skip-0 (suc z) y W k h ∙ s z k

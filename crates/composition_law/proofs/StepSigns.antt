@@ -2,38 +2,31 @@
 -- face for v, and of moving the caesuras of v past those of u and past the gaps of the values below k.
 use Rattle.std.proofs.Common.{◌≡◌, ℕ, zero, suc, ◌+◌, ◌*◌, ◌%◌, ◌-◌, ◌<◌, ◌≤◌, ◌⊎◌, inl, inr, cond, ◌==◌, List, [], ◌∷◌, length, map, refl, sym, ◌∙◌, ap, arith, append-nil, ℤ, ne_eqb, eq-eqb}
 use Rattle.std.proofs.lemmas.Int.{ints}
-use Rattle.interval_cut_law.proofs.GapWords.{less-yes}
 use Rattle.interval_cut_law.proofs.Walks.{gaps_below, walk_exponent, walk_face}
-use Rattle.signed_sum.proofs.Names.{less-no, occurs-01, occurs-apart, occurs-self, signed-parity, signed-signed}
+use Rattle.signed_sum.proofs.Names.{less-no, occurs-01, occurs-apart, occurs-self, signed-parity, signed-signed, less-yes}
 use Rattle.signed_sum.specs.Names.{if_zero, less, occurs, signed}
 use Rattle.surjection_law.specs.Names.{caesura_count}
 use Rattle.composition_law.proofs.CutByCut.{walk_of}
 use Rattle.composition_law.proofs.Renaming.{Back, caesuras-map, occurs-renamed}
-use Rattle.composition_law.proofs.States.{AllKind, IsWalk, kinds-apart, walk-edge, walk-next, walk-out}
-use Rattle.composition_law.proofs.Steps.{CutCell, Step, cut_ends, cut_of, go_on, inner_of, last_next, out_go, out_stop, outer_as, pass, triple, turn, turns}
-use Rattle.composition_law.proofs.Walks.{Cell, ends, expo, values}
+use Rattle.composition_law.proofs.States.{AllKind, IsWalk, kinds-apart, waiting, walk-edge, walk-next, walk-out}
+use Rattle.composition_law.proofs.Steps.{Gap, Step, cut_ends, cut_of, go_on, inner_of, last_next, named, out_go, out_stop, outer_as, pass, triple, turn, turns}
+use Rattle.composition_law.proofs.Walks.{ends, expo, values}
 
 -- the algebra of the signs, with numbers alone: h tells whether the entry is a caesura
 
 sign-out_stop : (h l eW eG eO eI C D B g : ℕ) → (h ≡ 0) ⊎ (h ≡ 1) → (l ≡ 0) ⊎ (l ≡ 1) → (eW + eG) % 2 ≡ (eO + eI + C * (D + B)) % 2 →
     (eW + ((g + (1 - l) * C) * h + eG)) % 2 ≡ ((g * h + eO) + eI + C * ((h + D) + (l * h + B))) % 2
-sign-out_stop zero l eW eG eO eI C D B g o p s =
+sign-out_stop h l eW eG eO eI C D B g (inl e) p s =
     let a : eW + ((g + (1 - l) * C) * 0 + eG) ≡ eW + eG = omega arith in
     let b : (g * 0 + eO) + eI + C * ((0 + D) + (l * 0 + B)) ≡ eO + eI + C * (D + B) = omega arith in
-    ap (λ n. n % 2) a ∙ s ∙ sym (ap (λ n. n % 2) b)
-sign-out_stop (suc zero) zero eW eG eO eI C D B g o p s = let a : C * ((1 + D) + (0 * 1 + B)) ≡ C + C * (D + B) = omega arith in omega arith
-sign-out_stop (suc zero) (suc zero) eW eG eO eI C D B g o p s = let a : C * ((1 + D) + (1 * 1 + B)) ≡ 2 * C + C * (D + B) = omega arith in omega arith
-sign-out_stop (suc zero) (suc (suc l)) eW eG eO eI C D B g o (inl p) s = absurd (omega (arith, p))
-sign-out_stop (suc zero) (suc (suc l)) eW eG eO eI C D B g o (inr p) s = absurd (omega (arith, p))
-sign-out_stop (suc (suc h)) l eW eG eO eI C D B g (inl o) p s = absurd (omega (arith, o))
-sign-out_stop (suc (suc h)) l eW eG eO eI C D B g (inr o) p s = absurd (omega (arith, o))
+    rw e (ap (λ n. n % 2) a ∙ s ∙ sym (ap (λ n. n % 2) b))
+sign-out_stop h l eW eG eO eI C D B g (inr e) (inl q) s = rw (e, q) (let a : C * ((1 + D) + (0 * 1 + B)) ≡ C + C * (D + B) = omega arith in omega arith)
+sign-out_stop h l eW eG eO eI C D B g (inr e) (inr q) s = rw (e, q) (let a : C * ((1 + D) + (1 * 1 + B)) ≡ 2 * C + C * (D + B) = omega arith in omega arith)
 
 sign-out_go : (l eW eG eO eI C D B g : ℕ) → (l ≡ 0) ⊎ (l ≡ 1) → (eW + eG) % 2 ≡ (eO + eI + C * (D + B)) % 2 →
     (eW + ((g + (1 - l) * C) + (D + C) + eG)) % 2 ≡ ((g + D + eO) + eI + C * (D + (l + B))) % 2
-sign-out_go zero eW eG eO eI C D B g p s = let a : C * (D + (0 + B)) ≡ C * (D + B) = omega arith in omega arith
-sign-out_go (suc zero) eW eG eO eI C D B g p s = let a : C * (D + (1 + B)) ≡ C + C * (D + B) = omega arith in omega arith
-sign-out_go (suc (suc l)) eW eG eO eI C D B g (inl p) s = absurd (omega (arith, p))
-sign-out_go (suc (suc l)) eW eG eO eI C D B g (inr p) s = absurd (omega (arith, p))
+sign-out_go l eW eG eO eI C D B g (inl q) s = rw q (let a : C * (D + (0 + B)) ≡ C * (D + B) = omega arith in omega arith)
+sign-out_go l eW eG eO eI C D B g (inr q) s = rw q (let a : C * (D + (1 + B)) ≡ C + C * (D + B) = omega arith in omega arith)
 
 sign-turn_on : (eW eG eO eI C D B g : ℕ) → (eW + eG) % 2 ≡ (eO + eI + C * (D + B)) % 2 →
     (eW + ((B + g) * 1 + eG)) % 2 ≡ ((B * 1 + eO) + (g + C + eI) + C * ((1 + D) + B)) % 2
@@ -41,13 +34,11 @@ sign-turn_on eW eG eO eI C D B g s = let a : C * ((1 + D) + B) ≡ C + C * (D + 
 
 sign-pass : (h eW eG eO eI C D B g : ℕ) → (h ≡ 0) ⊎ (h ≡ 1) → (eW + eG) % 2 ≡ (eO + eI + C * (D + B)) % 2 →
     ((h * D + eW) + ((B + g) * h + eG)) % 2 ≡ (eO + (g * h + eI) + (h + C) * (D + B)) % 2
-sign-pass zero eW eG eO eI C D B g o s =
+sign-pass h eW eG eO eI C D B g (inl e) s =
     let a : (0 * D + eW) + ((B + g) * 0 + eG) ≡ eW + eG = omega arith in
     let b : eO + (g * 0 + eI) + (0 + C) * (D + B) ≡ eO + eI + C * (D + B) = omega arith in
-    ap (λ n. n % 2) a ∙ s ∙ sym (ap (λ n. n % 2) b)
-sign-pass (suc zero) eW eG eO eI C D B g o s = let a : (1 + C) * (D + B) ≡ D + B + C * (D + B) = omega arith in omega arith
-sign-pass (suc (suc h)) eW eG eO eI C D B g (inl o) s = absurd (omega (arith, o))
-sign-pass (suc (suc h)) eW eG eO eI C D B g (inr o) s = absurd (omega (arith, o))
+    rw e (ap (λ n. n % 2) a ∙ s ∙ sym (ap (λ n. n % 2) b))
+sign-pass h eW eG eO eI C D B g (inr e) s = rw e (let a : (1 + C) * (D + B) ≡ D + B + C * (D + B) = omega arith in omega arith)
 
 sign-go_on : (eW eG eO eI C D B g : ℕ) → (eW + eG) % 2 ≡ (eO + eI + C * (D + B)) % 2 →
     (eW + ((B + g) + (D + C) + eG)) % 2 ≡ ((B + D + eO) + (g + C + eI) + C * (D + B)) % 2
@@ -59,22 +50,18 @@ remaining zero v = []
 remaining (suc n) v = v
 
 module _ (kind : ℕ → ℕ) (k s : ℕ) (apart : (x : ℕ) → kind x ≡ 1 → (x < k) ⊎ (k + s ≤ x)) (within : (y : ℕ) → kind y ≡ 0 → (k ≤ y) × (y < k + s)) (some : 1 ≤ s) (placed : 1 ≤ k) where
-  -- k for 0, and back
-  abbrev pub unzero : ℕ → ℕ
-  unzero zero = k
-  unzero (suc x) = suc x
-
+  -- 0 for k
   abbrev rezero : ℕ → ℕ
   rezero z = cond (z == k) 0 z
 
   not-k : (x : ℕ) → kind x ≡ 1 → x ≡ k → ⊥
   not-k x h e = elim (apart x h) [ inl l ↦ omega (arith, l, e) | inr l ↦ omega (arith, l, e, some) ]
 
-  back : (x : ℕ) → kind x ≡ 1 → rezero (unzero x) ≡ x
+  back : (x : ℕ) → kind x ≡ 1 → rezero (named k x) ≡ x
   back zero h = ap (λ b. cond b 0 k) (eq-eqb k k refl)
   back (suc x) h = ap (λ b. cond b 0 (suc x)) (ne_eqb (suc x) k (not-k (suc x) h))
 
-  back-all : (u : List ℕ) → AllKind kind 1 u → Back unzero rezero u
+  back-all : (u : List ℕ) → AllKind kind 1 u → Back (named k) rezero u
   back-all [] h = tt
   back-all (x ∷ u) h = (back x h.0, back-all u h.1)
 
@@ -88,7 +75,7 @@ module _ (kind : ℕ → ℕ) (k s : ℕ) (apart : (x : ℕ) → kind x ≡ 1 �
   pub record IsStep (u v : List ℕ) (t : List Step) : Type 0 where
     pub walk : IsWalk kind u v (walk_of t)
     pub cut_values : cut_ends (cut_of t) ≡ values (walk_of t)
-    pub outer_values : cut_ends (outer_as k t) ≡ map unzero u
+    pub outer_values : cut_ends (outer_as k t) ≡ map (named k) u
     pub inner_values : cut_ends (inner_of t) ≡ remaining (occurs 0 u) v
     pub more : ((turns t ≡ 0) × (occurs 0 u ≡ 0)) ⊎ ((n : ℕ) × (turns t ≡ suc n) × (occurs 0 u ≡ 1))
     pub caesuras : caesura_count (values (walk_of t)) ≡ caesura_count u + caesura_count v
@@ -105,7 +92,7 @@ module _ (kind : ℕ → ℕ) (k s : ℕ) (apart : (x : ℕ) → kind x ≡ 1 �
   skipped : (x y a : ℕ) (f : List ℕ) → (x ≡ y → ⊥) → cond (x == y) (a ∷ f) f ≡ f
   skipped x y a f n = ap (λ b. cond b (a ∷ f) f) (ne_eqb x y n)
 
-  last-face : (z n y a : ℕ) (c : List CutCell) → walk_face z (last_next n y a ∷ c) ≡ cond (z == y) (a ∷ walk_face z c) (walk_face z c)
+  last-face : (z n y a : ℕ) (c : List Gap) → walk_face z (last_next n y a ∷ c) ≡ cond (z == y) (a ∷ walk_face z c) (walk_face z c)
   last-face z zero y a c = refl
   last-face z (suc n) y a c = refl
 
@@ -127,7 +114,7 @@ module _ (kind : ℕ → ℕ) (k s : ℕ) (apart : (x : ℕ) → kind x ≡ 1 �
       let W : List ℕ = values (walk_of t) in
       let hW : occurs X W ≡ occurs X u = w.walk.outs x h in
       let hG : occurs X (cut_ends (cut_of t)) ≡ occurs X u = ap (occurs X) w.cut_values ∙ hW in
-      let hO : occurs X (cut_ends (outer_as k t)) ≡ occurs X u = ap (occurs X) w.outer_values ∙ occurs-renamed unzero rezero X u (back X h) (back-all u ku) in
+      let hO : occurs X (cut_ends (outer_as k t)) ≡ occurs X u = ap (occurs X) w.outer_values ∙ occurs-renamed (named k) rezero X u (back X h) (back-all u ku) in
       let z : occurs 0 (X ∷ u) ≡ occurs 0 u = occurs-apart 0 X u (λ e. omega (arith, e)) in
       record {
         walk = walk-out kind u v x (walk_of t) h w.walk;
@@ -153,7 +140,7 @@ module _ (kind : ℕ → ℕ) (k s : ℕ) (apart : (x : ℕ) → kind x ≡ 1 �
   step-out_go x a u v t h ku w =
       let X : ℕ = suc x in
       let cG : caesura_count (cut_ends (cut_of t)) ≡ caesura_count (X ∷ u) + caesura_count v = ap caesura_count w.cut_values ∙ w.caesuras in
-      let cO : caesura_count (cut_ends (outer_as k t)) ≡ caesura_count (X ∷ u) = ap caesura_count w.outer_values ∙ caesuras-map unzero rezero (X ∷ u) (back-all (X ∷ u) (h, ku)) in
+      let cO : caesura_count (cut_ends (outer_as k t)) ≡ caesura_count (X ∷ u) = ap caesura_count w.outer_values ∙ caesuras-map (named k) rezero (X ∷ u) (back-all (X ∷ u) (h, ku)) in
       record {
         walk = w.walk;
         cut_values = w.cut_values;
@@ -174,14 +161,6 @@ module _ (kind : ℕ → ℕ) (k s : ℕ) (apart : (x : ℕ) → kind x ≡ 1 �
             ∙ (λ i. ((gaps_below X (outer_as k t) + sym cO i + walk_exponent (outer_as k t)) + walk_exponent (inner_of t) + caesura_count v * (caesura_count (X ∷ u) + (less X k + gaps_below k (outer_as k t)))) % 2);
       }
 
-  -- y waits exactly where a 0 is left
-  waiting : (u v : List ℕ) (y : ℕ) (c : List Cell) → kind y ≡ 0 → IsWalk kind u (y ∷ v) c → occurs y (values c) ≡ occurs 0 u
-  waiting u v y c h w = w.ins y h ∙ ap (λ n. if_zero (occurs 0 u) 0 n) (occurs-self y v) ∙ go (occurs-01 0 u)
-    where
-      go : (occurs 0 u ≡ 0) ⊎ (occurs 0 u ≡ 1) → if_zero (occurs 0 u) 0 1 ≡ occurs 0 u
-      go (inl e) = ap (λ n. if_zero n 0 1) e ∙ sym e
-      go (inr e) = ap (λ n. if_zero n 0 1) e ∙ sym e
-
   alone : (v : List ℕ) (y : ℕ) → length (y ∷ v) ≡ 1 → v ≡ []
   alone [] y e = refl
   alone (z ∷ v) y e = absurd (omega (arith, e))
@@ -194,13 +173,13 @@ module _ (kind : ℕ → ℕ) (k s : ℕ) (apart : (x : ℕ) → kind x ≡ 1 �
   step-turn y a u v t h ku w =
       let i = within y h in
       let W : List ℕ = values (walk_of t) in
-      let hW = waiting u v y (walk_of t) h w.walk in
+      let hW = waiting kind u v y (walk_of t) h w.walk in
       let hG : occurs y (cut_ends (cut_of t)) ≡ occurs 0 u = ap (occurs y) w.cut_values ∙ hW in
-      let hO : occurs k (cut_ends (outer_as k t)) ≡ occurs 0 u = ap (occurs k) w.outer_values ∙ occurs-renamed unzero rezero 0 u (ap (λ b. cond b 0 k) (eq-eqb k k refl)) (back-all u ku) in
+      let hO : occurs k (cut_ends (outer_as k t)) ≡ occurs 0 u = ap (occurs k) w.outer_values ∙ occurs-renamed (named k) rezero 0 u (ap (λ b. cond b 0 k) (eq-eqb k k refl)) (back-all u ku) in
       let low_y : (z : ℕ) → z ≤ k → less y z ≡ 0 = (λ z l. less-no y z (omega (arith, l, i.0))) in
       let walk2 = walk-next kind u v y (walk_of t) h w.walk in
       let below = w.inside y i.0 i.1 in
-      let outer2 : cut_ends (outer_as k (turn y a ∷ t)) ≡ map unzero (0 ∷ u) = ap (λ q. k ∷ q) w.outer_values in
+      let outer2 : cut_ends (outer_as k (turn y a ∷ t)) ≡ map (named k) (0 ∷ u) = ap (λ q. k ∷ q) w.outer_values in
       let self : less k k ≡ 0 = less-no k k (omega arith) in
       let gk : gaps_below k (outer_as k (turn y a ∷ t)) ≡ gaps_below k (outer_as k t) = (let q = ap (λ n. n * occurs k (cut_ends (outer_as k t))) self in omega (arith, q)) in
       let turn_outer : (z : ℕ) → kind z ≡ 1 → walk_face z (cut_of (turn y a ∷ t)) ≡ walk_face z (outer_as k (turn y a ∷ t)) =
@@ -305,7 +284,7 @@ module _ (kind : ℕ → ℕ) (k s : ℕ) (apart : (x : ℕ) → kind x ≡ 1 �
       let i = within y h in
       let r : cut_ends (inner_of t) ≡ y ∷ v = w.inner_values ∙ ap (λ j. remaining j (y ∷ v)) (occurs-self 0 u) in
       let cG : caesura_count (cut_ends (cut_of t)) ≡ caesura_count (0 ∷ u) + caesura_count (y ∷ v) = ap caesura_count w.cut_values ∙ w.caesuras in
-      let cO : caesura_count (cut_ends (outer_as k t)) ≡ caesura_count (0 ∷ u) = ap caesura_count w.outer_values ∙ caesuras-map unzero rezero (0 ∷ u) (back-all (0 ∷ u) ku) in
+      let cO : caesura_count (cut_ends (outer_as k t)) ≡ caesura_count (0 ∷ u) = ap caesura_count w.outer_values ∙ caesuras-map (named k) rezero (0 ∷ u) (back-all (0 ∷ u) ku) in
       let cI : caesura_count (cut_ends (inner_of t)) ≡ caesura_count (y ∷ v) = ap caesura_count r in
       let below = w.inside y i.0 i.1 in
       let self : less k k ≡ 0 = less-no k k (omega arith) in

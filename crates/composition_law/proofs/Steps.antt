@@ -2,6 +2,7 @@
 -- is 0, and for v on the face of that value.
 use Rattle.std.proofs.Common.{ℕ, zero, suc, List, [], ◌∷◌, ℤ, pos, ◌+ℤ◌}
 use Rattle.interval_cut_law.proofs.Walks.{Cell, edge, ends, next}
+use Rattle.composition_law.proofs.CutValues.{cells_as}
 
 -- the cells of cuts by other names
 abbrev pub Gap : Type 0
@@ -80,20 +81,15 @@ zero_face (edge (suc x) a ∷ g) = zero_face g
 zero_face (next zero a ∷ g) = a ∷ zero_face g
 zero_face (next (suc x) a ∷ g) = zero_face g
 
-abbrev pub CutCell : Type 0
-CutCell = Cell
-
 -- the values of the intervals of a cut that end
 abbrev pub cut_ends : List Cell → List ℕ
 cut_ends g = ends g
 
+-- k for 0
+abbrev pub named : ℕ → ℕ → ℕ
+named k zero = k
+named k (suc x) = suc x
+
 -- the cut for u, with k for the composed value
 abbrev pub outer_as : ℕ → List Step → List Cell
-outer_as k [] = []
-outer_as k (out_stop zero a ∷ t) = next k a ∷ outer_as k t
-outer_as k (out_stop (suc x) a ∷ t) = next (suc x) a ∷ outer_as k t
-outer_as k (out_go zero a ∷ t) = edge k a ∷ outer_as k t
-outer_as k (out_go (suc x) a ∷ t) = edge (suc x) a ∷ outer_as k t
-outer_as k (turn y a ∷ t) = next k a ∷ outer_as k t
-outer_as k (pass y a ∷ t) = outer_as k t
-outer_as k (go_on y a ∷ t) = edge k a ∷ outer_as k t
+outer_as k t = cells_as (named k) (outer_of t)

@@ -2,17 +2,17 @@
 use Rattle.std.proofs.Common.{◌≡◌, ℕ, zero, suc, ◌+◌, ◌-◌, ◌<◌, ◌≤◌, inl, inr, ◌||◌, Bool, true, false, cond, ◌==◌, List, [], ◌∷◌, length, map, refl, sym, ◌∙◌, ap, arith, ℤ, pos, ◌+ℤ◌, ◌*ℤ◌, nat_lt, eq-eqb, ne_eqb}
 use Rattle.std.proofs.lemmas.Bool.{cases_Bool, cases_eq}
 use Rattle.std.proofs.lemmas.Bool.Decides.{nat_tests}
-use Rattle.interval_cut_law.proofs.GapWords.{less-yes}
 use Rattle.interval_cut_law.specs.Names.{rising_lists}
-use Rattle.signed_sum.proofs.Names.{less-no, occurs-cons, occurs-self, occurs-tail, fun_ext, restricted-gone, total-map, value_at-kept_terms}
-use Rattle.signed_sum.specs.Names.{if_zero, is_degenerate, less, numbers_from, occurs, signed, normalized, total, value_at}
+use Rattle.linear_law.specs.Names.{Each}
+use Rattle.signed_sum.proofs.Names.{less-no, occurs-cons, occurs-self, occurs-tail, fun_ext, restricted-gone, total-map, value_at-kept_terms, less-yes, range-in, range-out}
+use Rattle.signed_sum.specs.Names.{if_zero, is_degenerate, less, occurs, signed, normalized, total, value_at}
 use Rattle.composition_law.specs.Surjections.{composition, cut_term, cuts_at, grown, lifted, numbered, spliced, with_values}
 use Rattle.surjection_law.proofs.BoundaryPlaces.{value_at-degenerate, value_at-surjection_boundary_places, without_place-cong}
-use Rattle.surjection_law.proofs.SurjectionTerms.{multiplicity-at_least, occurs-numbers_from}
+use Rattle.surjection_law.proofs.SurjectionTerms.{multiplicity-at_least}
 use Rattle.surjection_law.specs.Names.{caesura_count, surjection_boundary, without_place, IsOnto, arity, multiplicity}
 use Rattle.composition_law.proofs.EqualNeighbours.{composed-inner, composed-outer}
 use Rattle.composition_law.proofs.Renaming.{boundary-moved, caesuras-map, occurs-renamed}
-use Rattle.composition_law.proofs.SplicedWalks.{AreInner, AreValues, EachValue, IsValue, cut-walks, numbers_of, signed_value, walks-signed_value}
+use Rattle.composition_law.proofs.SplicedWalks.{AreInner, AreValues, IsValue, cut-walks, numbers_of, signed_value, walks-signed_value}
 use Rattle.composition_law.proofs.WalkLaw.{compose-law}
 use Rattle.composition_law.proofs.Walks.{composed, walks}
 use Rattle.composition_law.specs.Laws.{SurjectionLeibniz}
@@ -100,27 +100,20 @@ module _ (k r s : ℕ) (a : 1 ≤ k) (b : k ≤ r) (c : 1 ≤ s) where
   ]
 
   -- the values of a list onto 1 to n
-  pub within : (n : ℕ) (u : List ℕ) → IsOnto n u → EachValue (λ x. (1 ≤ x) × (x ≤ n)) u
-  within n u o = go u (λ x q. range x 1 n (sym (o x) ∙ q))
+  pub within : (n : ℕ) (u : List ℕ) → IsOnto n u → Each (λ x. (1 ≤ x) × (x ≤ n)) u
+  within n u o = go u (λ x q. range-out x 1 n (sym (o x) ∙ q))
     where
-      range : (v a m : ℕ) → occurs v (numbers_from a m) ≡ 1 → (a ≤ v) × (v < a + m)
-      range v a zero h = absurd (omega (arith, h))
-      range v a (suc m) h = elim (occurs-cons v a (numbers_from (suc a) m)) [
-        | inl e ↦ (omega (arith, e), omega (arith, e))
-        | inr e ↦ let q = range v (suc a) m (sym e ∙ h) in (omega (arith, q.0), omega (arith, q.1))
-      ]
-
-      go : (u : List ℕ) → ((x : ℕ) → occurs x u ≡ 1 → (1 ≤ x) × (x < 1 + n)) → EachValue (λ x. (1 ≤ x) × (x ≤ n)) u
+      go : (u : List ℕ) → ((x : ℕ) → occurs x u ≡ 1 → (1 ≤ x) × (x < 1 + n)) → Each (λ x. (1 ≤ x) × (x ≤ n)) u
       go [] h = tt
       go (x ∷ u) h = (let q = h x (occurs-self x u) in (q.0, omega (arith, q.1)), go u (λ y q. h y (occurs-tail y x u q)))
 
-  pub values-of : (u : List ℕ) → EachValue (λ x. (1 ≤ x) × (x ≤ r)) u → AreValues k (grown k s) (lifted k) (renamed k s) (renamed_back k s) (lifted_back k) (kind k s) (kind-low 0 (omega (arith, a))) u
+  pub values-of : (u : List ℕ) → Each (λ x. (1 ≤ x) × (x ≤ r)) u → AreValues k (grown k s) (lifted k) (renamed k s) (renamed_back k s) (lifted_back k) (kind k s) (kind-low 0 (omega (arith, a))) u
   values-of [] h = (tt, tt, tt)
   values-of (x ∷ u) h =
       let q = values-of u h.1 in
       ((is-value x h.0.0, q.0), (there_back x h.0.0, q.1), (kind-renamed x h.0.0, q.2))
 
-  pub inner-of : (v : List ℕ) → EachValue (λ y. (1 ≤ y) × (y ≤ s)) v → AreInner k (grown k s) (lifted k) (renamed k s) (renamed_back k s) (lifted_back k) (kind k s) (kind-low 0 (omega (arith, a))) v
+  pub inner-of : (v : List ℕ) → Each (λ y. (1 ≤ y) × (y ≤ s)) v → AreInner k (grown k s) (lifted k) (renamed k s) (renamed_back k s) (lifted_back k) (kind k s) (kind-low 0 (omega (arith, a))) v
   inner-of [] h = (tt, tt)
   inner-of (y ∷ v) h =
       let q = inner-of v h.1 in
@@ -129,7 +122,7 @@ module _ (k r s : ℕ) (a : 1 ≤ k) (b : k ≤ r) (c : 1 ≤ s) where
       ((omega arith, q.0), (kind-in (lifted k y) (omega (arith, l)) (omega (arith, l, m, a)), q.1))
 
   pub k-occurs : (u : List ℕ) → IsOnto r u → occurs k u ≡ 1
-  k-occurs u o = o k ∙ occurs-numbers_from 1 r k a (omega (arith, b))
+  k-occurs u o = o k ∙ range-in k 1 r a (omega (arith, b))
 
   pub zero-occurs : (u : List ℕ) → IsOnto r u → occurs 0 (map (renamed k s) u) ≡ 1
   zero-occurs u o =
@@ -137,9 +130,9 @@ module _ (k r s : ℕ) (a : 1 ≤ k) (b : k ≤ r) (c : 1 ≤ s) where
       ap (λ j. occurs j (map (renamed k s) u)) (sym (renamed-k k s k refl)) ∙ occurs-renamed (renamed k s) (renamed_back k s) k u (there_back k a) h.1 ∙ k-occurs u o
 
   arity-of : (v : List ℕ) → IsOnto s v → arity v ≡ s
-  arity-of v o = let p = most v (within s v o) in let q = least s v (o s ∙ occurs-numbers_from 1 s s c (omega arith)) in omega (arith, p, q)
+  arity-of v o = let p = most v (within s v o) in let q = least s v (o s ∙ range-in s 1 s c (omega arith)) in omega (arith, p, q)
     where
-      most : (v : List ℕ) → EachValue (λ y. (1 ≤ y) × (y ≤ s)) v → arity v ≤ s
+      most : (v : List ℕ) → Each (λ y. (1 ≤ y) × (y ≤ s)) v → arity v ≤ s
       most [] h = omega arith
       most (y ∷ v) h = let q = most v h.1 in let l = h.0.1 in omega (arith, q, l)
 
@@ -149,7 +142,7 @@ module _ (k r s : ℕ) (a : 1 ≤ k) (b : k ≤ r) (c : 1 ≤ s) where
 
   -- the composition as a sum over walks
   pub composition-walks : (u v : List ℕ) (phi : List ℕ → ℤ) → IsOnto r u → IsOnto s v → value_at phi (composition k u v) ≡ composed (map (renamed k s) u) (map (lifted k) v) (normalized phi)
-  composition-walks u [] phi o q = absurd (let z = q 1 in let y = occurs-numbers_from 1 s 1 (omega arith) (omega (arith, c)) in omega (arith, z, y))
+  composition-walks u [] phi o q = absurd (let z = q 1 in let y = range-in 1 1 s (omega arith) (omega (arith, c)) in omega (arith, z, y))
   composition-walks u (y ∷ v) phi o q =
       let g : List ℕ → ℤ = normalized phi in
       let m = multiplicity-at_least k u (k-occurs u o) in

@@ -1,16 +1,15 @@
 -- The boundary law of compositions at 0.
-use Rattle.std.proofs.Common.{List, [], ap, append-nil, append_assoc, arith, cond, inl, inr, refl, subst, suc, sym, zero, ℕ, ◌%◌, ◌*◌, ◌++◌, ◌+◌, ◌==◌, ◌∙◌, ◌∷◌, ◌≡◌, ◌⊎◌, pos, ℤ, ◌+ℤ◌}
+use Rattle.std.proofs.Common.{List, [], ap, append-nil, append_assoc, arith, cond, inl, inr, refl, suc, sym, zero, ℕ, ◌%◌, ◌*◌, ◌++◌, ◌+◌, ◌==◌, ◌∙◌, ◌∷◌, ◌≡◌, ◌⊎◌, pos, ℤ, ◌+ℤ◌}
 use Rattle.std.proofs.lemmas.Int.{ints}
-use native.Mathlib.Decide.{ℕ_discrete}
+use Rattle.std.proofs.lemmas.Bool.Decides.{nat_tests}
 use Rattle.composition_law.proofs.Appends.{ends-append, expo-append, expo-split, passed-append, values-append}
-use Rattle.composition_law.proofs.CaesuraLemmas.{among-cong, among-push}
 use Rattle.composition_law.proofs.Cells.{Good, GoodV, last-none, last-one, place-caesura, place-last, u-law, v-law}
 use Rattle.composition_law.proofs.Rests.{Outs, marks, whole}
-use Rattle.composition_law.proofs.States.{AllKind, Fresh, IsWalk, Ready, SameOut, same-both, same-in, same-next, skip-1, zero-there}
-use Rattle.composition_law.proofs.Walks.{Cell, composed, edge, ends, expo, expo_in, next, out, passed, values, walks}
-use Rattle.signed_sum.proofs.Names.{Alike, Alike-append, Alike-cons, occurs-01, occurs-again, occurs-later, occurs-other, occurs-self, signed-+, signed-parity, signed-signed, signed-zero}
+use Rattle.composition_law.proofs.States.{AllKind, Fresh, IsWalk, Ready, SameOut, same-both, same-in, same-next, skip-1, waiting, zero-there}
+use Rattle.composition_law.proofs.Walks.{Cell, composed, entry, edge, ends, expo, expo_in, next, out, passed, values, walks}
+use Rattle.signed_sum.proofs.Names.{Alike, Alike-append, Alike-cons, occurs-append, occurs-01, occurs-again, occurs-later, occurs-other, occurs-self, signed-+, signed-parity, signed-signed, signed-zero}
 use Rattle.signed_sum.specs.Names.{if_zero, occurs, unless_zero, signed}
-use Rattle.surjection_law.proofs.PlaceLemmas.{without_place-zero}
+use Rattle.surjection_law.proofs.PlaceLemmas.{among-cong, among-push, without_place-zero}
 use Rattle.surjection_law.specs.Names.{caesura_count, caesuras_among, caesuras_before_last, place_exponent, place_term, without_place}
 
 -- ---- entries of u alone
@@ -40,8 +39,7 @@ outs-expo kind (edge x ∷ o) c h = absurd h
 outs-expo kind (next x ∷ o) c h = absurd h
 
 same-front : (A B C : List ℕ) (x : ℕ) → occurs x B ≡ occurs x C → occurs x (A ++ B) ≡ occurs x (A ++ C)
-same-front [] B C x h = h
-same-front (w ∷ A) B C x h = ap (λ j. cond (x == w) 1 j) (same-front A B C x h)
+same-front A B C x h = occurs-append x A B ∙ ap (λ j. if_zero (occurs x A) j 1) h ∙ sym (occurs-append x A C)
 
 outs-caesuras : (kind : ℕ → ℕ) (o : List Cell) (W U : List ℕ) → Outs kind o → SameOut kind W U → caesuras_among (values o) W + caesura_count U ≡ caesura_count (ends o ++ U)
 outs-caesuras kind [] W U h s = omega arith
@@ -91,11 +89,7 @@ without_place-signed n (x ∷ u) p g =
         signed-signed n (place_exponent p x u) (g u) ∙ ap (λ j. signed j (g u)) c ∙ sym (signed-signed (place_exponent p x u) n (g u))
 
 twice-there : (y : ℕ) (O W : List ℕ) → Alike (y ∷ (O ++ (y ∷ W))) (y ∷ (O ++ W))
-twice-there y O W v =
-    elim (ℕ_discrete v y) [
-      | yes e ↦ subst (λ (j : ℕ). occurs j (y ∷ (O ++ (y ∷ W))) ≡ occurs j (y ∷ (O ++ W))) (sym e) (occurs-self y (O ++ (y ∷ W)) ∙ sym (occurs-self y (O ++ W)))
-      | no n ↦ ap (λ j. cond (v == y) 1 j) (occurs-other v y O W n)
-    ]
+twice-there y O W v = grind (arith, nat_tests, occurs-other v y O W)
 
 -- the two removals at an inner cut point have opposite signs
 corner-signs : (A O W : List ℕ) (y z : ℕ) (H : ℤ) (E1 E2 C D T e : ℕ) → occurs z (O ++ W) ≡ 1 → occurs y (z ∷ (O ++ W)) ≡ occurs y W → occurs y O ≡ 0 →
@@ -146,46 +140,21 @@ module _ (h : List ℕ → ℤ) where
 
   -- the term without one entry
   abbrev pub removed : List Cell → Cell → List Cell → ℤ
-  removed p (out x) c = place_term (values p) x (values c) (signed (expo (p ++ (out x ∷ c))) (h (values (p ++ c))))
-  removed p (edge x) c = place_term (values p) x (values c) (signed (expo (p ++ (edge x ∷ c))) (h (values (p ++ c))))
-  removed p (next x) c = place_term (values p) x (values c) (signed (expo (p ++ (next x ∷ c))) (h (values (p ++ c))))
+  removed p d c = place_term (values p) (entry d) (values c) (signed (expo (p ++ (d ∷ c))) (h (values (p ++ c))))
 
   pub bound : (c p : List Cell) → marks removed p c ≡ without_place (values p) (values c) (λ r. signed (expo (p ++ c)) (h (values p ++ r)))
   bound [] p = refl
-  bound (out x ∷ c) p =
-      let ih = bound c (p ++ (out x ∷ [])) in
-      let a = ap (λ j. place_term (values p) x (values c) (signed (expo (p ++ (out x ∷ c))) (h j))) (values-append p c) in
-      let b : without_place (values (p ++ (out x ∷ []))) (values c) (λ r. signed (expo ((p ++ (out x ∷ [])) ++ c)) (h (values (p ++ (out x ∷ [])) ++ r)))
-      ≡ without_place (values p ++ (x ∷ [])) (values c) (λ r. signed (expo (p ++ (out x ∷ c))) (h (values p ++ (x ∷ r)))) =
-      (λ i. without_place (values-append p (out x ∷ []) i) (values c)
-      (λ r. signed (expo (append_assoc p (out x ∷ []) c i)) (h ((ap (λ j. j ++ r) (values-append p (out x ∷ [])) ∙ append_assoc (values p) (x ∷ []) r) i)))) in
-      omega (arith, ints)
-  bound (edge x ∷ c) p =
-      let ih = bound c (p ++ (edge x ∷ [])) in
-      let a = ap (λ j. place_term (values p) x (values c) (signed (expo (p ++ (edge x ∷ c))) (h j))) (values-append p c) in
-      let b : without_place (values (p ++ (edge x ∷ []))) (values c) (λ r. signed (expo ((p ++ (edge x ∷ [])) ++ c)) (h (values (p ++ (edge x ∷ [])) ++ r)))
-      ≡ without_place (values p ++ (x ∷ [])) (values c) (λ r. signed (expo (p ++ (edge x ∷ c))) (h (values p ++ (x ∷ r)))) =
-      (λ i. without_place (values-append p (edge x ∷ []) i) (values c)
-      (λ r. signed (expo (append_assoc p (edge x ∷ []) c i)) (h ((ap (λ j. j ++ r) (values-append p (edge x ∷ [])) ∙ append_assoc (values p) (x ∷ []) r) i)))) in
-      omega (arith, ints)
-  bound (next x ∷ c) p =
-      let ih = bound c (p ++ (next x ∷ [])) in
-      let a = ap (λ j. place_term (values p) x (values c) (signed (expo (p ++ (next x ∷ c))) (h j))) (values-append p c) in
-      let b : without_place (values (p ++ (next x ∷ []))) (values c) (λ r. signed (expo ((p ++ (next x ∷ [])) ++ c)) (h (values (p ++ (next x ∷ [])) ++ r)))
-      ≡ without_place (values p ++ (x ∷ [])) (values c) (λ r. signed (expo (p ++ (next x ∷ c))) (h (values p ++ (x ∷ r)))) =
-      (λ i. without_place (values-append p (next x ∷ []) i) (values c)
-      (λ r. signed (expo (append_assoc p (next x ∷ []) c i)) (h ((ap (λ j. j ++ r) (values-append p (next x ∷ [])) ∙ append_assoc (values p) (x ∷ []) r) i)))) in
+  bound (d ∷ c) p =
+      let x : ℕ = entry d in
+      let ih = bound c (p ++ (d ∷ [])) in
+      let a = ap (λ j. place_term (values p) x (values c) (signed (expo (p ++ (d ∷ c))) (h j))) (values-append p c) in
+      let b : without_place (values (p ++ (d ∷ []))) (values c) (λ r. signed (expo ((p ++ (d ∷ [])) ++ c)) (h (values (p ++ (d ∷ [])) ++ r)))
+      ≡ without_place (values p ++ (x ∷ [])) (values c) (λ r. signed (expo (p ++ (d ∷ c))) (h (values p ++ (x ∷ r)))) =
+      (λ i. without_place (values-append p (d ∷ []) i) (values c)
+      (λ r. signed (expo (append_assoc p (d ∷ []) c i)) (h ((ap (λ j. j ++ r) (values-append p (d ∷ [])) ∙ append_assoc (values p) (x ∷ []) r) i)))) in
       omega (arith, ints)
 
   module _ (kind : ℕ → ℕ) where
-    -- the entry that waits stands in the rest exactly where a zero is left
-    waits : (y : ℕ) (u V : List ℕ) (c : List Cell) → kind y ≡ 0 → IsWalk kind u (y ∷ V) c → occurs y (values c) ≡ occurs 0 u
-    waits y u V c k w = w.ins y k ∙ ap (λ j. if_zero (occurs 0 u) 0 j) (occurs-self y V) ∙ go (occurs-01 0 u)
-      where
-        go : (occurs 0 u ≡ 0) ⊎ (occurs 0 u ≡ 1) → if_zero (occurs 0 u) 0 1 ≡ occurs 0 u
-        go (inl e) = ap (λ j. if_zero j 0 1) e ∙ sym e
-        go (inr e) = ap (λ j. if_zero j 0 1) e ∙ sym e
-
     later : (z : ℕ) (u V : List ℕ) (c : List Cell) → kind z ≡ 0 → IsWalk kind (0 ∷ u) V c → occurs z (values c) ≡ occurs z V
     later z u V c k w = w.ins z k ∙ ap (λ j. if_zero j 0 (occurs z V)) (occurs-self 0 u)
 
@@ -194,7 +163,7 @@ module _ (h : List ℕ → ℤ) where
     law_out p y x u V c k q r w =
         let W : List ℕ = values c in
         let z : ℤ = h (values (p ++ c)) in
-        let g : Good p (suc x ∷ W) (suc x ∷ u) = r.good (suc x ∷ W) (suc x ∷ u) (same-both kind x W u w.outs) (skip-1 kind (suc x) y W q k ∙ waits y u V c k w ∙ sym (zero-there kind x u)) in
+        let g : Good p (suc x ∷ W) (suc x ∷ u) = r.good (suc x ∷ W) (suc x ∷ u) (same-both kind x W u w.outs) (skip-1 kind (suc x) y W q k ∙ waiting kind u V y c k w ∙ sym (zero-there kind x u)) in
         ap (λ j. place_term (values p) (suc x) W (signed j z)) (expo-split p (out (suc x) ∷ c))
         ∙ ap (λ j. place_term (values p) (suc x) W (signed (expo_in p (suc x ∷ W) (suc x ∷ j) + expo c) z)) w.ending
         ∙ u-law p (suc x) (suc x) W u (expo c) z g (w.outs x q) (r.outs x q)
@@ -208,7 +177,7 @@ module _ (h : List ℕ → ℤ) where
         let g : Good p (y ∷ W) (0 ∷ u) = r.good (y ∷ W) (0 ∷ u) (same-next kind y W u k w.outs) (occurs-self y W ∙ sym (occurs-self 0 u)) in
         ap (λ j. place_term (values p) y W (signed j z)) (expo-split p (next y ∷ c))
         ∙ ap (λ j. place_term (values p) y W (signed (expo_in p (y ∷ W) (0 ∷ j) + expo c) z)) w.ending
-        ∙ u-law p y 0 W u (expo c) z g (waits y u V c k w) r.here
+        ∙ u-law p y 0 W u (expo c) z g (waiting kind u V y c k w) r.here
         ∙ sym (ap (λ j. place_term (ends p) 0 u (signed j z)) (expo-split p c ∙ ap (λ j. expo_in p W j + expo c) w.ending))
 
     law_edge : (p : List Cell) (y : ℕ) (u V : List ℕ) (c : List Cell) → kind y ≡ 0 → Fresh kind p → IsWalk kind (0 ∷ u) V c →

@@ -19,12 +19,15 @@ walks (x ∷ u) [] f = pos 0
 walks (zero ∷ u) (y ∷ v) f = walks u (y ∷ v) (λ c. f (next y ∷ c)) +ℤ walks (zero ∷ u) v (λ c. f (edge y ∷ c))
 walks (suc x ∷ u) (y ∷ v) f = walks u (y ∷ v) (λ c. f (out (suc x) ∷ c))
 
+abbrev pub entry : Cell → ℕ
+entry (out x) = x
+entry (edge y) = y
+entry (next y) = y
+
 -- the entries of the term
 abbrev pub values : List Cell → List ℕ
 values [] = []
-values (out x ∷ c) = x ∷ values c
-values (edge y ∷ c) = y ∷ values c
-values (next y ∷ c) = y ∷ values c
+values (d ∷ c) = entry d ∷ values c
 
 -- the entries of u
 abbrev pub ends : List Cell → List ℕ
@@ -65,27 +68,13 @@ walks-sum (zero ∷ u) (y ∷ v) f g =
     omega (arith, ints)
 walks-sum (suc x ∷ u) (y ∷ v) f g = walks-sum u (y ∷ v) (λ c. f (out (suc x) ∷ c)) (λ c. g (out (suc x) ∷ c))
 
-pub walks-neg : (u v : List ℕ) (f : List Cell → ℤ) → walks u v (λ c. neg_ℤ (f c)) ≡ neg_ℤ (walks u v f)
-walks-neg [] [] f = refl
-walks-neg [] (y ∷ []) f = refl
-walks-neg [] (y ∷ z ∷ v) f = refl
-walks-neg (x ∷ u) [] f = refl
-walks-neg (zero ∷ u) (y ∷ v) f =
-    let a = walks-neg u (y ∷ v) (λ c. f (next y ∷ c)) in
-    let b = walks-neg (zero ∷ u) v (λ c. f (edge y ∷ c)) in
-    omega (arith, ints)
-walks-neg (suc x ∷ u) (y ∷ v) f = walks-neg u (y ∷ v) (λ c. f (out (suc x) ∷ c))
-
 pub walks-zero : (u v : List ℕ) → walks u v (λ c. pos 0) ≡ pos 0
-walks-zero [] [] = refl
-walks-zero [] (y ∷ []) = refl
-walks-zero [] (y ∷ z ∷ v) = refl
-walks-zero (x ∷ u) [] = refl
-walks-zero (zero ∷ u) (y ∷ v) =
-    let a = walks-zero u (y ∷ v) in
-    let b = walks-zero (zero ∷ u) v in
-    omega (arith, ints)
-walks-zero (suc x ∷ u) (y ∷ v) = walks-zero u (y ∷ v)
+walks-zero u v = let s : walks u v (λ c. pos 0) ≡ walks u v (λ c. pos 0) +ℤ walks u v (λ c. pos 0) = walks-sum u v (λ c. pos 0) (λ c. pos 0) in omega (arith, ints)
+
+pub walks-neg : (u v : List ℕ) (f : List Cell → ℤ) → walks u v (λ c. neg_ℤ (f c)) ≡ neg_ℤ (walks u v f)
+walks-neg u v f =
+    let z : walks u v (λ c. f c +ℤ neg_ℤ (f c)) ≡ pos 0 = (λ i. walks u v (λ c. (let e : f c +ℤ neg_ℤ (f c) ≡ pos 0 = omega (arith, ints) in e) i)) ∙ walks-zero u v in
+    omega (arith, ints, z, walks-sum u v f (λ c. neg_ℤ (f c)))
 
 pub walks-signed : (n : ℕ) (u v : List ℕ) (f : List Cell → ℤ) → walks u v (λ c. signed n (f c)) ≡ signed n (walks u v f)
 walks-signed zero u v f = refl

@@ -1,5 +1,5 @@
 -- The degree of a surjection is the number of its caesuras.
-use Rattle.std.proofs.Common.{◌≡◌, ℕ, zero, suc, ◌+◌, ◌*◌, cond, List, [], ◌∷◌, length, refl, sym, ◌∙◌, ap, arith, inl, inr, eq-eqb, ne_eqb}
+use Rattle.std.proofs.Common.{◌≡◌, ℕ, zero, suc, ◌+◌, ◌*◌, List, [], ◌∷◌, length, refl, sym, ◌∙◌, ap, arith, inl, inr, eq-eqb, ne_eqb}
 use Rattle.std.proofs.lemmas.Bool.Decides.{eqb_tells}
 use Rattle.signed_sum.proofs.Names.{numbers_from-distinct, occurs-later, occurs-mid}
 use Rattle.signed_sum.specs.Names.{IsDistinct, numbers_from, occurs}
@@ -17,18 +17,10 @@ values_in-cons (k ∷ ks) v u q =
     let ih = values_in-cons ks v u q.1 in
     elim (eqb_tells v k) [
       | inl e ↦
-          let a : occurs k (v ∷ u) ≡ 1 = ap (λ t. cond t 1 (occurs k u)) (eq-eqb k v (sym e.1)) in
-          let b : occurs v (k ∷ ks) ≡ 1 = ap (λ t. cond t 1 (occurs v ks)) e.0 in
-          let c : occurs v (k ∷ ks) * occurs v u ≡ 1 * occurs v u = ap (λ j. j * occurs v u) b in
           let z : occurs v ks ≡ 0 = ap (λ j. occurs j ks) e.1 ∙ q.0 in
           let y : occurs v ks * occurs v u ≡ 0 * occurs v u = ap (λ j. j * occurs v u) z in
-          let same : occurs v u ≡ occurs k u = ap (λ j. occurs j u) e.1 in
-          omega arith
-      | inr n ↦
-          let a : occurs k (v ∷ u) ≡ occurs k u = ap (λ t. cond t 1 (occurs k u)) (ne_eqb k v (λ e. n.1 (sym e))) in
-          let b : occurs v (k ∷ ks) ≡ occurs v ks = ap (λ t. cond t 1 (occurs v ks)) n.0 in
-          let c : occurs v (k ∷ ks) * occurs v u ≡ occurs v ks * occurs v u = ap (λ j. j * occurs v u) b in
-          omega arith
+          rw (e.0, eq-eqb k v (sym e.1)) (omega (arith, ap (λ j. occurs j u) e.1))
+      | inr n ↦ rw (n.0, ne_eqb k v (λ e. n.1 (sym e))) (omega arith)
     ]
 
 values_in-none : (ks : List ℕ) → values_in ks [] ≡ 0

@@ -1,4 +1,5 @@
 -- The tuples and the terms of a May element, and their number.
+use Rattle.signed_sum.proofs.Names.{length-numbers_from}
 use Rattle.std.proofs.Common.{◌≡◌, ℕ, zero, suc, ◌+◌, ◌-◌, ◌*◌, ◌^◌, ◌≤◌, false, List, [], ◌∷◌, ◌++◌, refl, sym, ◌∙◌, ap, arith, map, subst, inl, inr, ℤ, pos, length-append, All, flat_map, length}
 use Rattle.std.proofs.Math.Nat.{pow-succ', pow-zero}
 use Rattle.std.proofs.lemmas.Bool.{cases_Bool}
@@ -9,7 +10,6 @@ use Rattle.surjection_law.specs.Names.{IsOnto}
 use Rattle.table_reduction_law.proofs.MayBoundary.{lead-tuple, tuple-append}
 use Rattle.table_reduction_law.proofs.PowerPairs.{power-perm}
 use Rattle.table_reduction_law.proofs.ReducedLists.{reduced_lists-onto}
-use Rattle.table_reduction_law.proofs.ReductionBoundary.{numbers_from-length}
 use Rattle.table_reduction_law.proofs.RowCounts.{reduced_lists-length}
 use Rattle.table_reduction_law.specs.Names.{binomial, CandidateCountLaw, MayTermsLaw, ReducedListsLaw, cycle_power, pair_count, leading_entries, may_candidates, may_element, may_tuples, power_pairs, reduced_lists, IsTuple}
 
@@ -89,7 +89,7 @@ power_pairs-length p zero = sym (pow-zero p)
 power_pairs-length p (suc k) =
     length-flat_map_each (λ e. Unit {0}) (λ e. map (λ t. cycle_power p e ∷ cycle_power p (suc e) ∷ t) (power_pairs p k)) (p ^ k) (numbers_from 0 p)
     (λ e q. length-map (power_pairs p k) (λ t. cycle_power p e ∷ cycle_power p (suc e) ∷ t) ∙ power_pairs-length p k) (All-any (numbers_from 0 p))
-    ∙ ap (λ j. j * p ^ k) (numbers_from-length 0 p)
+    ∙ ap (λ j. j * p ^ k) (length-numbers_from 0 p)
     ∙ sym (pow-succ' p k)
 
 count-one : (p d : ℕ) (w : List (List ℕ)) → IsTuple (suc p) w → length w ≡ d + 1 → length (reduced_lists w) ≡ binomial (p + d) d

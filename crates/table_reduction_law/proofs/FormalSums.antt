@@ -1,15 +1,15 @@
 -- The laws on formal sums, from the laws on sums tested by functions.
-use Rattle.std.proofs.Common.{◌≡◌, ℕ, zero, suc, ◌+◌, ◌≤◌, Bool, cond, ◌==◌, ◌&&◌, ◌||◌, List, [], ◌∷◌, ◌++◌, map, refl, sym, ◌∙◌, ap, eq-eqb, arith, inl, inr, ℤ, pos, ◌+ℤ◌, neg_ℤ, flat_map}
+use Rattle.std.proofs.Common.{◌≡◌, ℕ, zero, suc, ◌+◌, ◌≤◌, Bool, cond, ◌==◌, ◌&&◌, ◌||◌, List, [], ◌∷◌, ◌++◌, map, refl, sym, ◌∙◌, ap, arith, inl, inr, ℤ, pos, ◌+ℤ◌, neg_ℤ, flat_map}
 use Rattle.std.proofs.lemmas.Int.{ints}
 use Rattle.std.proofs.lemmas.Bool.{cases_Bool}
-use native.Mathlib.Decide.{ℕ_discrete}
-use Rattle.signed_sum.proofs.Names.{without_one-terms, without_one-without_one, occurs-self, occurs-tail, fun_ext, restricted-gone, restricted-there, total-append, total-map, value_at-kept_terms, value_at-unit_terms}
+use Rattle.std.proofs.lemmas.Bool.Decides.{nat_tests}
+use Rattle.signed_sum.proofs.Names.{without_one_terms, without_one-without_one, occurs-self, occurs-tail, fun_ext, restricted-gone, restricted-there, total-append, total-map, value_at-kept_terms, value_at-unit_terms}
 use Rattle.signed_sum.specs.Names.{is_degenerate, is_same_list, numbers_from, occurs, unless_empty, IsNormalized, alternating_terms, kept_terms, normalized, restricted, total, unit_terms, value_at, without_each, without_one}
 use Rattle.surjection_law.proofs.BoundaryPlaces.{normalized-is, value_at-degenerate, value_at-surjection_boundary_places}
 use Rattle.surjection_law.specs.Names.{surjection_boundary, without_place, IsOnto, IsRelabelling}
 use Rattle.table_reduction_law.proofs.DegenerateTuples.{reduced-degenerate}
 use Rattle.table_reduction_law.proofs.MayBoundary.{boundary, even-lists, may-cong, odd-lists}
-use Rattle.table_reduction_law.proofs.Permutations.{Within, apart-test, map-within, moves-cycle, perm-within, place, reduced-moved, relabels, tuple-moved, uncycle, within-tail}
+use Rattle.table_reduction_law.proofs.Permutations.{Within, map-within, moves-cycle, perm-within, place, reduced-moved, relabels, tuple-moved, uncycle, within-tail}
 use Rattle.table_reduction_law.proofs.PowerPairs.{may_sum, may_tuple_sum, pair_sum, sum_below}
 use Rattle.table_reduction_law.proofs.ReductionBoundary.{boundary-cong, chain-law, face_sum, reduced-walked, reduction_sum, tuple_good, walked}
 use Rattle.table_reduction_law.proofs.ReductionWalks.{walk-cong}
@@ -27,7 +27,7 @@ value_at-table_reduction h w = value_at-kept_unit is_degenerate h (reduced_lists
 pub value_at-tuple_boundary : (h : List (List ℕ) → ℤ) (w : List (List ℕ)) → value_at h (tuple_boundary w) ≡ face_sum w (restricted is_degenerate_tuple h)
 value_at-tuple_boundary h w =
     value_at-kept_terms is_zero_tuple h (alternating_terms (without_each w))
-    ∙ sym (without_one-terms w (restricted is_zero_tuple h))
+    ∙ sym (without_one_terms w (restricted is_zero_tuple h))
     ∙ ap (without_one w) (fun_ext same)
   where
     same : (v : List (List ℕ)) → restricted is_zero_tuple h v ≡ unless_empty v (restricted is_degenerate_tuple h v)
@@ -38,7 +38,7 @@ total-flat_map : {X Y : Type 0} (f : Y → ℤ) (g : X → List Y) (xs : List X)
 total-flat_map f g [] = refl
 total-flat_map f g (x ∷ xs) = total-append f (g x) (flat_map g xs) ∙ ap (λ z. total f (g x) +ℤ z) (total-flat_map f g xs)
 
-sum_below-first : (n : ℕ) (f : ℕ → ℤ) → sum_below (suc n) f ≡ f 0 +ℤ sum_below n (λ e. f (suc e))
+pub sum_below-first : (n : ℕ) (f : ℕ → ℤ) → sum_below (suc n) f ≡ f 0 +ℤ sum_below n (λ e. f (suc e))
 sum_below-first zero f = omega (arith, ints)
 sum_below-first (suc n) f = let a = sum_below-first n f in omega (arith, ints)
 
@@ -113,10 +113,7 @@ within r u o v h = sym (o v) ∙ h
 
 test-moved : (r : ℕ) (t i : ℕ → ℕ) (x y : ℕ) → IsRelabelling r t i → occurs x (numbers_from 1 r) ≡ 1 → occurs y (numbers_from 1 r) ≡ 1 → (t x == t y) ≡ (x == y)
 test-moved r t i x y m h k =
-    elim (ℕ_discrete x y) [
-      | yes e ↦ eq-eqb (t x) (t y) (ap t e) ∙ sym (eq-eqb x y e)
-      | no n ↦ apart-test (t x) (t y) (λ q. n (sym (m.there_back x h) ∙ ap i q ∙ m.there_back y k)) ∙ sym (apart-test x y n)
-    ]
+    let n : t x ≡ t y → x ≡ y = λ q. sym (m.there_back x h) ∙ ap i q ∙ m.there_back y k in grind (arith, nat_tests, n)
 
 pub is_degenerate-map : (r : ℕ) (t i : ℕ → ℕ) (u : List ℕ) → IsRelabelling r t i → Within r u → is_degenerate (map t u) ≡ is_degenerate u
 is_degenerate-map r t i [] m k = refl

@@ -1,38 +1,13 @@
 -- Permutations as maps of values, and table reduction of a moved tuple.
-use Rattle.std.proofs.Common.{◌≡◌, ℕ, zero, suc, ◌+◌, ◌<◌, ◌≤◌, Bool, true, false, cond, List, [], ◌∷◌, ◌++◌, map, refl, sym, ◌∙◌, ap, arith, ◌==◌, inl, inr, subst, eqb-true, eq-eqb, take, ℤ, length, pred}
-use native.Mathlib.Decide.{ℕ_discrete}
+use Rattle.std.proofs.Common.{◌≡◌, ℕ, zero, suc, ◌+◌, ◌<◌, ◌≤◌, cond, List, [], ◌∷◌, ◌++◌, map, refl, sym, ◌∙◌, ap, arith, ◌==◌, inl, inr, eq-eqb, ne_eqb, take, ℤ, length, pred}
+use Rattle.std.proofs.lemmas.Bool.Decides.{eqb_tells, nat_tests}
 use Rattle.std.proofs.lemmas.List.{length-map, map-append, take-map}
-use Rattle.signed_sum.proofs.Names.{occurs-01, occurs-apart, occurs-self, occurs-tail, total-map}
+use Rattle.signed_sum.proofs.Names.{range-in, range-out, occurs-01, occurs-apart, occurs-self, occurs-tail, total-map}
 use Rattle.signed_sum.specs.Names.{IsDistinct, numbers_from, occurs, total}
 use Rattle.surjection_law.specs.Names.{IsRelabelling}
 use Rattle.table_reduction_law.proofs.ReductionBoundary.{permutation-length, reduction_sum}
 use Rattle.table_reduction_law.proofs.UnusedEntries.{unused-in, unused-out}
 use Rattle.table_reduction_law.specs.Names.{cycle, cons_if_zero, row_lengths, rows, unused, IsPermutationOf, IsTuple, entry_at}
-
-pub range-in : (v a m : ℕ) → a ≤ v → v < a + m → occurs v (numbers_from a m) ≡ 1
-range-in v a zero h g = absurd (omega (arith, h, g))
-range-in v a (suc m) h g =
-    elim (ℕ_discrete v a) [
-      | yes e ↦ subst (λ (j : ℕ). occurs j (a ∷ numbers_from (suc a) m) ≡ 1) (sym e) (occurs-self a (numbers_from (suc a) m))
-      | no e ↦ occurs-apart v a (numbers_from (suc a) m) e ∙ range-in v (suc a) m (omega (arith, h, e)) (omega (arith, g))
-    ]
-
-pub range-out : (v a m : ℕ) → occurs v (numbers_from a m) ≡ 1 → (a ≤ v) × (v < a + m)
-range-out v a zero h = absurd (omega (arith, h))
-range-out v a (suc m) h =
-    elim (ℕ_discrete v a) [
-      | yes e ↦ (omega (arith, e), omega (arith, e))
-      | no e ↦
-          let k = range-out v (suc a) m (sym (occurs-apart v a (numbers_from (suc a) m) e) ∙ h) in
-          (omega (arith, k.0), omega (arith, k.1))
-    ]
-
-pub apart-test : (x y : ℕ) → (x ≡ y → ⊥) → (x == y) ≡ false
-apart-test x y n = go (x == y) refl
-  where
-    go : (b : Bool) → (x == y) ≡ b → (x == y) ≡ false
-    go true e = absurd (n (eqb-true x y e))
-    go false e = e
 
 -- a list of values as a map
 
@@ -41,37 +16,16 @@ abbrev pub place : List ℕ → ℕ → ℕ
 place [] x = 0
 place (y ∷ t) x = cond (x == y) 1 (suc (place t x))
 
-pub pick-eq : {A : Type 0} (x y : ℕ) (a b : A) → x ≡ y → cond (x == y) a b ≡ a
-pick-eq x y a b e = ap (λ c. cond c a b) (eq-eqb x y e)
-
-pub pick-apart : {A : Type 0} (x y : ℕ) (a b : A) → (x ≡ y → ⊥) → cond (x == y) a b ≡ b
-pick-apart x y a b n = go (x == y) refl
-  where
-    go : (c : Bool) → (x == y) ≡ c → cond c a b ≡ b
-    go true e = absurd (n (eqb-true x y e))
-    go false e = refl
-
 place-range : (t : List ℕ) (x : ℕ) → occurs x t ≡ 1 → (1 ≤ place t x) × (place t x ≤ length t)
 place-range [] x h = absurd (omega (arith, h))
-place-range (y ∷ t) x h =
-    elim (ℕ_discrete x y) [
-      | yes e ↦ let p = pick-eq x y 1 (suc (place t x)) e in (omega (arith, p), omega (arith, p))
-      | no e ↦
-          let p = pick-apart x y 1 (suc (place t x)) e in
-          let k = place-range t x (sym (occurs-apart x y t e) ∙ h) in
-          (omega (arith, p, k.0), omega (arith, p, k.1))
-    ]
+place-range (y ∷ t) x h = (grind (arith, nat_tests), grind (arith, nat_tests, place-range t x))
 
 at-place : (t : List ℕ) (x : ℕ) → occurs x t ≡ 1 → entry_at t (place t x) ≡ x
 at-place [] x h = absurd (omega (arith, h))
-at-place (y ∷ t) x h =
-    elim (ℕ_discrete x y) [
-      | yes e ↦ ap (entry_at (y ∷ t)) (pick-eq x y 1 (suc (place t x)) e) ∙ sym e
-      | no e ↦
-          let m : occurs x t ≡ 1 = sym (occurs-apart x y t e) ∙ h in
-          let k = place-range t x m in
-          ap (entry_at (y ∷ t)) (pick-apart x y 1 (suc (place t x)) e) ∙ later (place t x) k.0 ∙ at-place t x m
-    ]
+at-place (y ∷ t) x h = elim (eqb_tells x y) [
+  | inl e ↦ rw e.0 (sym e.1)
+  | inr n ↦ let m : occurs x t ≡ 1 = sym (occurs-apart x y t n.1) ∙ h in rw n.0 (later (place t x) (place-range t x m).0 ∙ at-place t x m)
+]
   where
     later : (n : ℕ) → 1 ≤ n → entry_at (y ∷ t) (suc n) ≡ entry_at t n
     later zero k = absurd (omega (arith, k))
@@ -84,12 +38,10 @@ at-has (y ∷ t) (suc v) h = occurs-tail (entry_at t (suc v)) y t (at-has t v (o
 
 place-at : (t : List ℕ) (v : ℕ) → IsDistinct t → v < length t → place t (entry_at t (suc v)) ≡ suc v
 place-at [] v d h = absurd (omega (arith, h))
-place-at (y ∷ t) zero d h = pick-eq y y 1 (suc (place t y)) refl
+place-at (y ∷ t) zero d h = rw (eq-eqb y y refl) refl
 place-at (y ∷ t) (suc v) d h =
     let m : occurs (entry_at t (suc v)) t ≡ 1 = at-has t v (omega (arith, h)) in
-    let z : occurs y t ≡ 0 = d.0 in
-    let n : entry_at t (suc v) ≡ y → ⊥ = λ e. let k : occurs y t ≡ 1 = subst (λ (j : ℕ). occurs j t ≡ 1) e m in omega (arith, z, k) in
-    pick-apart (entry_at t (suc v)) y 1 (suc (place t (entry_at t (suc v)))) n ∙ ap suc (place-at t v d.1 (omega (arith, h)))
+    rw (ne_eqb (entry_at t (suc v)) y (λ e. omega (arith, d.0, m, ap (λ j. occurs j t) e))) (ap suc (place-at t v d.1 (omega (arith, h))))
 
 pub relabels : (r : ℕ) (t : List ℕ) → IsPermutationOf r t → IsRelabelling r (entry_at t) (place t)
 relabels r t k = record { there = go; back = home; there_back = round; back_there = λ v h. at-place t v (k.onto v ∙ h) }
@@ -123,34 +75,18 @@ pub moves-cycle : (p : ℕ) → IsRelabelling p (cycle p) (uncycle p)
 moves-cycle p = record { there = λ v h. go v (range-out v 1 p h); back = λ v h. home v (range-out v 1 p h); there_back = λ v h. round v (range-out v 1 p h); back_there = λ v h. about v (range-out v 1 p h) }
   where
     go : (v : ℕ) → (1 ≤ v) × (v < 1 + p) → occurs (cycle p v) (numbers_from 1 p) ≡ 1
-    go v h =
-        elim (ℕ_discrete v p) [
-          | yes e ↦ ap (λ j. occurs j (numbers_from 1 p)) (pick-eq v p 1 (suc v) e) ∙ range-in 1 1 p (omega arith) (omega (arith, h.0, h.1))
-          | no e ↦ ap (λ j. occurs j (numbers_from 1 p)) (pick-apart v p 1 (suc v) e) ∙ range-in (suc v) 1 p (omega arith) (omega (arith, h.0, h.1, e))
-        ]
+    go v h = let a = h.0 in let b = h.1 in range-in (cycle p v) 1 p (grind (arith, nat_tests)) (grind (arith, nat_tests))
 
     home : (v : ℕ) → (1 ≤ v) × (v < 1 + p) → occurs (uncycle p v) (numbers_from 1 p) ≡ 1
     home zero h = absurd (omega (arith, h.0))
-    home (suc v) h =
-        elim (ℕ_discrete (suc v) 1) [
-          | yes e ↦ ap (λ j. occurs j (numbers_from 1 p)) (pick-eq (suc v) 1 p v e) ∙ range-in p 1 p (omega (arith, h.0, h.1)) (omega arith)
-          | no e ↦ ap (λ j. occurs j (numbers_from 1 p)) (pick-apart (suc v) 1 p v e) ∙ range-in v 1 p (omega (arith, h.0, e)) (omega (arith, h.1))
-        ]
+    home (suc v) h = let b = h.1 in range-in (uncycle p (suc v)) 1 p (grind (arith, nat_tests)) (grind (arith, nat_tests))
 
     round : (v : ℕ) → (1 ≤ v) × (v < 1 + p) → uncycle p (cycle p v) ≡ v
-    round v h =
-        elim (ℕ_discrete v p) [
-          | yes e ↦ ap (uncycle p) (pick-eq v p 1 (suc v) e) ∙ sym e
-          | no e ↦ ap (uncycle p) (pick-apart v p 1 (suc v) e) ∙ pick-apart (suc v) 1 p v (λ q. absurd (omega (arith, h.0, q)))
-        ]
+    round v h = let a = h.0 in let b = h.1 in grind (arith, nat_tests)
 
     about : (v : ℕ) → (1 ≤ v) × (v < 1 + p) → cycle p (uncycle p v) ≡ v
     about zero h = absurd (omega (arith, h.0))
-    about (suc v) h =
-        elim (ℕ_discrete (suc v) 1) [
-          | yes e ↦ ap (cycle p) (pick-eq (suc v) 1 p v e) ∙ pick-eq p p 1 (suc p) refl ∙ sym e
-          | no e ↦ ap (cycle p) (pick-apart (suc v) 1 p v e) ∙ pick-apart v p 1 (suc v) (λ q. absurd (omega (arith, h.1, q)))
-        ]
+    about (suc v) h = let b = h.1 in grind (arith, nat_tests)
 
 -- moved lists
 
@@ -164,34 +100,19 @@ within-tail r x w k v h = k v (occurs-tail v x w h)
 pub perm-within : (r : ℕ) (w : List ℕ) → IsPermutationOf r w → Within r w
 perm-within r w k v h = sym (k.onto v) ∙ h
 
-map-in : (t : ℕ → ℕ) (x : ℕ) (w : List ℕ) → occurs x w ≡ 1 → occurs (t x) (map t w) ≡ 1
+pub map-in : (t : ℕ → ℕ) (x : ℕ) (w : List ℕ) → occurs x w ≡ 1 → occurs (t x) (map t w) ≡ 1
 map-in t x [] h = absurd (omega (arith, h))
-map-in t x (y ∷ w) h =
-    elim (ℕ_discrete x y) [
-      | yes e ↦ ap (λ j. occurs (t x) (t j ∷ map t w)) (sym e) ∙ occurs-self (t x) (map t w)
-      | no e ↦ occurs-tail (t x) (t y) (map t w) (map-in t x w (sym (occurs-apart x y w e) ∙ h))
-    ]
+map-in t x (y ∷ w) h = grind (arith, nat_tests, map-in t x w)
 
 pub map-within : (r : ℕ) (t i : ℕ → ℕ) (v : ℕ) (w : List ℕ) → IsRelabelling r t i → Within r w → occurs v (map t w) ≡ 1 → occurs v (numbers_from 1 r) ≡ 1
 map-within r t i v [] m k h = absurd (omega (arith, h))
-map-within r t i v (y ∷ w) m k h =
-    elim (ℕ_discrete v (t y)) [
-      | yes e ↦ ap (λ j. occurs j (numbers_from 1 r)) e ∙ m.there y (k y (occurs-self y w))
-      | no e ↦ map-within r t i v w m (within-tail r y w k) (sym (occurs-apart v (t y) (map t w) e) ∙ h)
-    ]
+map-within r t i v (y ∷ w) m k h = grind (arith, nat_tests, m.there y (k y (occurs-self y w)), map-within r t i v w m (within-tail r y w k))
 
 pub map-has : (r : ℕ) (t i : ℕ → ℕ) (x : ℕ) (w : List ℕ) → IsRelabelling r t i → occurs x (numbers_from 1 r) ≡ 1 → Within r w → occurs (t x) (map t w) ≡ occurs x w
 map-has r t i x [] m q k = refl
 map-has r t i x (y ∷ w) m q k =
-    elim (ℕ_discrete x y) [
-      | yes e ↦ map-in t x (y ∷ w) (is x y e) ∙ sym (is x y e)
-      | no e ↦
-          let n : t x ≡ t y → ⊥ = λ z. e (sym (m.there_back x q) ∙ ap i z ∙ m.there_back y (k y (occurs-self y w))) in
-          occurs-apart (t x) (t y) (map t w) n ∙ map-has r t i x w m q (within-tail r y w k) ∙ sym (occurs-apart x y w e)
-    ]
-  where
-    is : (x y : ℕ) → x ≡ y → occurs x (y ∷ w) ≡ 1
-    is x y e = ap (λ j. occurs x (j ∷ w)) (sym e) ∙ occurs-self x w
+    let n : t x ≡ t y → x ≡ y = λ z. sym (m.there_back x q) ∙ ap i z ∙ m.there_back y (k y (occurs-self y w)) in
+    grind (arith, nat_tests, n, map-has r t i x w m q (within-tail r y w k))
 
 map-distinct : (r : ℕ) (t i : ℕ → ℕ) (w : List ℕ) → IsRelabelling r t i → Within r w → IsDistinct w → IsDistinct (map t w)
 map-distinct r t i [] m k d = tt
@@ -231,8 +152,7 @@ within-unused r a w k v h =
     ]
 
 within-cons : (r x : ℕ) (w : List ℕ) → occurs x (numbers_from 1 r) ≡ 1 → Within r w → Within r (x ∷ w)
-within-cons r x w q k v h =
-    elim (ℕ_discrete v x) [ yes e ↦ ap (λ j. occurs j (numbers_from 1 r)) e ∙ q | no e ↦ k v (sym (occurs-apart v x w e) ∙ h) ]
+within-cons r x w q k v h = grind (arith, nat_tests, q, k v)
 
 within-take : (r n : ℕ) (w a : List ℕ) → Within r w → Within r a → Within r (take n w ++ a)
 within-take r zero w a k l = l

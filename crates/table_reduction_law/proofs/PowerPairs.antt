@@ -1,10 +1,10 @@
 -- May elements in tuples.
-use Rattle.std.proofs.Common.{◌≡◌, ℕ, zero, suc, ◌+◌, ◌%◌, ◌≤◌, List, [], ◌∷◌, ◌++◌, map, refl, sym, ◌∙◌, ap, arith, append_assoc, ℤ, pos, ◌+ℤ◌, neg_ℤ}
+use Rattle.std.proofs.Common.{◌≡◌, ℕ, zero, suc, ◌+◌, ◌%◌, ◌≤◌, List, [], ◌∷◌, ◌++◌, map, refl, sym, ◌∙◌, ap, arith, append_assoc, append-nil, cond, eq-eqb, ne_eqb, ◌<◌, ℤ, pos, ◌+ℤ◌, neg_ℤ}
 use Rattle.std.proofs.lemmas.Int.{ints}
 use Rattle.std.proofs.lemmas.List.{map-append}
 use Rattle.signed_sum.proofs.Names.{numbers_from-distinct}
 use Rattle.signed_sum.specs.Names.{numbers_from, unless_empty, without_one}
-use Rattle.table_reduction_law.proofs.Permutations.{moves-cycle, perm-moved, pick-apart, pick-eq}
+use Rattle.table_reduction_law.proofs.Permutations.{moves-cycle, perm-moved}
 use Rattle.table_reduction_law.proofs.ReductionBoundary.{face_sum, reduction_sum}
 use Rattle.table_reduction_law.specs.Names.{cycle, cycle_power, pair_count, leading_entries, IsPermutationOf, IsTuple}
 
@@ -36,20 +36,19 @@ may_sum p d h = may_tuple_sum p d (λ w. reduction_sum w h)
 
 -- powers of the cycle
 
+cycle-below : (p v : ℕ) → v < p → cycle p v ≡ suc v
+cycle-below p v h = ap (λ b. cond b 1 (suc v)) (ne_eqb v p (λ e. omega (arith, e, h)))
+
 turn-range : (p a m : ℕ) → a + m ≤ p → map (cycle p) (numbers_from a m) ≡ numbers_from (suc a) m
 turn-range p a zero h = refl
-turn-range p a (suc m) h = λ i. pick-apart a p 1 (suc a) (λ e. absurd (omega (arith, e, h))) i ∷ turn-range p (suc a) m (omega (arith, h)) i
+turn-range p a (suc m) h = λ i. cycle-below p a (omega (arith, h)) i ∷ turn-range p (suc a) m (omega (arith, h)) i
 
 turn-last : (p a m : ℕ) → a + m ≡ p → map (cycle p) (numbers_from a (suc m)) ≡ numbers_from (suc a) m ++ (1 ∷ [])
-turn-last p a zero h = let e : a ≡ p = omega (arith, h) in ap (λ j. j ∷ []) (pick-eq a p 1 (suc a) e)
-turn-last p a (suc m) h = λ i. pick-apart a p 1 (suc a) (λ e. absurd (omega (arith, e, h))) i ∷ turn-last p (suc a) m (omega (arith, h)) i
+turn-last p a zero h = let e : a ≡ p = omega (arith, h) in ap (λ b. cond b 1 (suc a) ∷ []) (eq-eqb a p e)
+turn-last p a (suc m) h = λ i. cycle-below p a (omega (arith, h)) i ∷ turn-last p (suc a) m (omega (arith, h)) i
 
 power-form : (p e m : ℕ) → e + m ≡ p → cycle_power p e ≡ numbers_from (suc e) m ++ numbers_from 1 e
-power-form p zero m h = let e : m ≡ p = omega (arith, h) in ap (λ j. numbers_from 1 j) (sym e) ∙ bare (numbers_from 1 m)
-  where
-    bare : (u : List ℕ) → u ≡ u ++ []
-    bare [] = refl
-    bare (x ∷ u) = ap (λ r. x ∷ r) (bare u)
+power-form p zero m h = let e : m ≡ p = omega (arith, h) in ap (λ j. numbers_from 1 j) (sym e) ∙ sym (append-nil (numbers_from 1 m))
 power-form p (suc e) m h =
     ap (λ u. map (cycle p) u) (power-form p e (suc m) (omega (arith, h)))
     ∙ map-append (cycle p) (numbers_from (suc e) (suc m)) (numbers_from 1 e)

@@ -1,7 +1,7 @@
 -- Table reduction is a chain map.
 use Rattle.std.proofs.Common.{◌≡◌, ℕ, zero, suc, ◌+◌, ◌≤◌, List, [], ◌∷◌, map, refl, sym, ◌∙◌, ap, arith, ℤ, pos, length}
 use Rattle.std.proofs.lemmas.Int.{ints}
-use Rattle.signed_sum.proofs.Names.{numbers_from-distinct, total-map}
+use Rattle.signed_sum.proofs.Names.{length-numbers_from, numbers_from-distinct, total-map}
 use Rattle.signed_sum.specs.Names.{numbers_from, unless_empty, total, without_one}
 use Rattle.surjection_law.specs.Names.{without_place}
 use Rattle.table_reduction_law.proofs.Pairing.{pairing, removals-last}
@@ -11,12 +11,8 @@ use Rattle.table_reduction_law.proofs.UnusedEntries.{unused-none}
 use Rattle.table_reduction_law.proofs.WalkBoundary.{places}
 use Rattle.table_reduction_law.specs.Names.{reduced_lists, row_lengths, rows, IsPermutationOf, IsTuple}
 
-pub numbers_from-length : (a m : ℕ) → length (numbers_from a m) ≡ m
-numbers_from-length a zero = refl
-numbers_from-length a (suc m) = ap suc (numbers_from-length (suc a) m)
-
 pub permutation-length : (r : ℕ) (w : List ℕ) → IsPermutationOf r w → length w ≡ r
-permutation-length r w k = count-alike w (numbers_from 1 r) k.distinct (numbers_from-distinct 1 r) k.onto ∙ numbers_from-length 1 r
+permutation-length r w k = count-alike w (numbers_from 1 r) k.distinct (numbers_from-distinct 1 r) k.onto ∙ length-numbers_from 1 r
 
 pub tuple_good : (r : ℕ) (w : List ℕ) (ws : List (List ℕ)) → IsPermutationOf r w → IsTuple r ws → Good ws w []
 tuple_good r w [] k t = k.distinct

@@ -1,6 +1,7 @@
 -- Table reduction entry by entry, and all removals from its lists.
-use Rattle.std.proofs.Common.{◌≡◌, ℕ, zero, suc, ◌+◌, cond, List, [], ◌∷◌, refl, sym, ◌∙◌, ap, arith, ◌==◌, ◌⊎◌, inl, inr, subst, eq-eqb, eqb-true, Bool, true, false, ℤ, pos, ◌+ℤ◌, neg_ℤ}
+use Rattle.std.proofs.Common.{◌≡◌, ℕ, zero, suc, ◌+◌, cond, List, [], ◌∷◌, refl, sym, ◌∙◌, ap, arith, ◌==◌, subst, eq-eqb, ne_eqb, ℤ, pos, ◌+ℤ◌, neg_ℤ}
 use native.Mathlib.Decide.{ℕ_discrete}
+use Rattle.std.proofs.lemmas.Bool.Decides.{nat_tests}
 use Rattle.std.proofs.lemmas.Int.{ints}
 use Rattle.signed_sum.proofs.Names.{Alike, Alike-cons, occurs-01, occurs-again, occurs-apart, occurs-head, occurs-self, occurs-swap, occurs-tail, signed-+}
 use Rattle.signed_sum.specs.Names.{IsDistinct, occurs, unless_zero, signed}
@@ -39,14 +40,7 @@ good-distinct (w ∷ ws) xs a g = good-distinct ws xs a g.2
 
 -- what is left of the next permutation has the same values
 pub left : (w : List ℕ) (ws : List (List ℕ)) (xs a : List ℕ) → Good (w ∷ ws) xs a → Alike (unused a w) xs
-left w ws xs a g v =
-    elim (occurs-01 v a) [
-      | inl e ↦ let k = g.1 v in let m = unused-out v a w e in omega (arith, k, m, e)
-      | inr e ↦
-          let k = g.1 v in
-          let m = unused-in v a w e in
-          elim (occurs-01 v w) [ inl z ↦ omega (arith, k, m, e, z) | inr z ↦ omega (arith, k, m, e, z) ]
-    ]
+left w ws xs a g v = grind (arith, occurs-01 v a, occurs-01 v w, g.1 v, unused-out v a w, unused-in v a w)
 
 good-swap : (ws : List (List ℕ)) (xs ys a : List ℕ) → Good ws xs a → Alike ys xs → IsDistinct ys → Good ws ys a
 good-swap [] xs ys a g h d = d
@@ -57,25 +51,10 @@ good-end w ws xs a g = good-swap ws xs (unused a w) a g.2 (left w ws xs a g) (un
 
 pub good-use : (ws : List (List ℕ)) (x : ℕ) (xs a : List ℕ) → Good ws (x ∷ xs) a → Good ws xs (x ∷ a)
 good-use [] x xs a g = g.1
-good-use (w ∷ ws) x xs a g = (g.0, step, good-use ws x xs a g.2)
-  where
-    n : occurs x xs ≡ 0
-    n = (good-distinct ws (x ∷ xs) a g.2).0
-
-    none : occurs x a ≡ 0
-    none = let k = g.1 x in let s = occurs-self x xs in elim (occurs-01 x w) [ inl z ↦ omega (arith, k, s, z) | inr z ↦ omega (arith, k, s, z) ]
-
-    step : (v : ℕ) → occurs v (x ∷ a) + occurs v xs ≡ occurs v w
-    step v =
-        elim (ℕ_discrete v x) [
-          | yes e ↦
-              let k = g.1 x in
-              let s = occurs-self x xs in
-              let s2 = occurs-self x a in
-              let q : occurs x (x ∷ a) + occurs x xs ≡ occurs x w = omega (arith, k, s, s2, n, none) in
-              subst (λ (j : ℕ). occurs j (x ∷ a) + occurs j xs ≡ occurs j w) (sym e) q
-          | no m ↦ let k = g.1 v in let s = occurs-apart v x xs m in let s2 = occurs-apart v x a m in omega (arith, k, s, s2)
-        ]
+good-use (w ∷ ws) x xs a g =
+    let n : occurs x xs ≡ 0 = (good-distinct ws (x ∷ xs) a g.2).0 in
+    let none : occurs x a ≡ 0 = grind (arith, g.1 x, occurs-self x xs, occurs-01 x w) in
+    (g.0, (λ v. grind (arith, nat_tests, g.1 v, n, none)), good-use ws x xs a g.2)
 
 -- only which values are used counts
 pub walk-used : (ws : List (List ℕ)) (xs a b : List ℕ) (h : List ℕ → ℤ) → Alike a b → walk ws xs a h ≡ walk ws xs b h
@@ -111,20 +90,12 @@ walk-sum (w ∷ ws) (x ∷ xs) a f g =
     omega (arith, ints)
 
 pub walk-zero : (ws : List (List ℕ)) (xs a : List ℕ) → walk ws xs a (λ u. pos 0) ≡ pos 0
-walk-zero [] xs a = refl
-walk-zero (w ∷ ws) [] a = refl
-walk-zero (w ∷ ws) (x ∷ xs) a =
-    let p = walk-zero ws (unused a w) a in
-    let q = walk-zero (w ∷ ws) xs (x ∷ a) in
-    omega (arith, ints)
+walk-zero ws xs a = let z : walk ws xs a (λ u. pos 0) ≡ walk ws xs a (λ u. pos 0) +ℤ walk ws xs a (λ u. pos 0) = walk-sum ws xs a (λ u. pos 0) (λ u. pos 0) in omega (arith, ints)
 
 pub walk-neg : (ws : List (List ℕ)) (xs a : List ℕ) (f : List ℕ → ℤ) → walk ws xs a (λ u. neg_ℤ (f u)) ≡ neg_ℤ (walk ws xs a f)
-walk-neg [] xs a f = refl
-walk-neg (w ∷ ws) [] a f = refl
-walk-neg (w ∷ ws) (x ∷ xs) a f =
-    let p = walk-neg ws (unused a w) a (λ u. f (x ∷ u)) in
-    let q = walk-neg (w ∷ ws) xs (x ∷ a) (λ u. f (x ∷ u)) in
-    omega (arith, ints)
+walk-neg ws xs a f =
+    let z : walk ws xs a (λ u. f u +ℤ neg_ℤ (f u)) ≡ pos 0 = (λ i. walk ws xs a (λ u. (let e : f u +ℤ neg_ℤ (f u) ≡ pos 0 = omega (arith, ints) in e) i)) ∙ walk-zero ws xs a in
+    omega (arith, ints, z, walk-sum ws xs a f (λ u. neg_ℤ (f u)))
 
 pub walk-signed : (n : ℕ) (ws : List (List ℕ)) (xs a : List ℕ) (f : List ℕ → ℤ) → walk ws xs a (λ u. signed n (f u)) ≡ signed n (walk ws xs a f)
 walk-signed zero ws xs a f = refl
@@ -140,26 +111,15 @@ pub put-here : (x n : ℕ) (t : ℕ → ℕ) → put x n t x ≡ n
 put-here x n t = ap (λ b. cond b n (t x)) (eq-eqb x x refl)
 
 pub put-apart : (v x n : ℕ) (t : ℕ → ℕ) → (v ≡ x → ⊥) → put x n t v ≡ t v
-put-apart v x n t m =
-    elim (test (v == x) refl) [ inl e ↦ absurd (m (eqb-true v x e)) | inr e ↦ ap (λ b. cond b n (t v)) e ]
-  where
-    test : (b : Bool) → (v == x) ≡ b → ((v == x) ≡ true) ⊎ ((v == x) ≡ false)
-    test true e = inl e
-    test false e = inr e
+put-apart v x n t m = ap (λ b. cond b n (t v)) (ne_eqb v x m)
 
 -- a later mark at the same value
 over : (v x m n l : ℕ) (t : ℕ → ℕ) → put x m (put x n t) v ≡ put x m (put x l t) v
-over v x m n l t = elim (v == x) as (λ b. cond b m (cond b n (t v)) ≡ cond b m (cond b l (t v))) [ true ↦ refl | false ↦ refl ]
+over v x m n l t = grind (arith, nat_tests)
 
 -- two marks in either order
 turn : (v y x m n : ℕ) (t : ℕ → ℕ) → (y ≡ x → ⊥) → put y m (put x n t) v ≡ put x n (put y m t) v
-turn v y x m n t e =
-    elim (ℕ_discrete v y) [
-      | yes q ↦ subst (λ (j : ℕ). put y m (put x n t) j ≡ put x n (put y m t) j) (sym q) (put-here y m (put x n t) ∙ sym (put-apart y x n (put y m t) e ∙ put-here y m t))
-      | no q ↦
-          put-apart v y m (put x n t) q
-          ∙ (elim (v == x) as (λ b. cond b n (t v) ≡ cond b n (put y m t v)) [ true ↦ refl | false ↦ sym (put-apart v y m t q) ])
-    ]
+turn v y x m n t e = grind (arith, nat_tests)
 
 -- marks that agree on the values that are left
 abbrev pub Agree : List ℕ → (ℕ → ℕ) → (ℕ → ℕ) → Type 0

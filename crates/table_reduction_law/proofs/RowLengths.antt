@@ -1,19 +1,18 @@
 -- The lists of row lengths.
-use Rattle.std.proofs.Common.{◌≡◌, ℕ, zero, suc, ◌+◌, ◌&&◌, cond, ◌==◌, List, [], ◌∷◌, map, refl, sym, ◌∙◌, ap, arith, eq-eqb, ℤ, pos, All, length, sum}
+use Rattle.std.proofs.Common.{◌≡◌, ℕ, zero, suc, ◌+◌, ◌&&◌, cond, ◌==◌, List, [], ◌∷◌, map, refl, ◌∙◌, ap, arith, ne_eqb, ℤ, pos, All, length, sum}
 use Rattle.std.proofs.lemmas.List.Elements.{All-append, All-cons, All-map, All-nil, All-weaker}
 use Rattle.std.proofs.lemmas.List.Sums.{sum_by-cons}
-use native.Mathlib.Decide.{ℕ_discrete}
+use Rattle.std.proofs.lemmas.Bool.Decides.{nat_tests}
 use Rattle.std.proofs.lemmas.Int.{ints}
 use Rattle.signed_sum.proofs.Names.{total-append, total-map, total-zero}
 use Rattle.signed_sum.specs.Names.{is_same_list, total}
-use Rattle.table_reduction_law.proofs.Permutations.{apart-test}
 use Rattle.table_reduction_law.proofs.RowsAsWalks.{total-positive}
 use Rattle.table_reduction_law.specs.Names.{ArePositive, RowLengthsLaw, row_lengths, with_longer_first}
 
-sum-cons : (n : ℕ) (ls : List ℕ) → sum (n ∷ ls) ≡ n + sum ls
+pub sum-cons : (n : ℕ) (ls : List ℕ) → sum (n ∷ ls) ≡ n + sum ls
 sum-cons n ls = sum_by-cons (λ x. x) n ls
 
-abbrev IsRight : ℕ → ℕ → List ℕ → Type 0
+abbrev pub IsRight : ℕ → ℕ → List ℕ → Type 0
 IsRight k n ls = ArePositive ls × (length ls ≡ k) × (sum ls ≡ n)
 
 right-first : (k n : ℕ) (ls : List ℕ) → IsRight k n ls → IsRight (suc k) (suc n) (1 ∷ ls)
@@ -23,7 +22,7 @@ right-longer : (k n : ℕ) (ls : List ℕ) → IsRight (suc k) n ls → IsRight 
 right-longer k n [] h = absurd (let e = h.1 in omega (arith, e))
 right-longer k n (m ∷ ls) h = ((omega arith, h.0.1), h.1, (let e = h.2 in omega (arith, e, sum-cons m ls, sum-cons (suc m) ls)))
 
-all-right : (k n : ℕ) → All (IsRight k n) (row_lengths k n)
+pub all-right : (k n : ℕ) → All (IsRight k n) (row_lengths k n)
 all-right zero zero = All-cons (IsRight 0 0) [] [] (tt, refl, refl) (All-nil (IsRight 0 0))
 all-right zero (suc n) = All-nil (IsRight 0 (suc n))
 all-right (suc k) zero = All-nil (IsRight (suc k) 0)
@@ -38,11 +37,7 @@ abbrev mark : List ℕ → List ℕ → ℤ
 mark ls l = cond (is_same_list ls l) (pos 1) (pos 0)
 
 suc-test : (x y : ℕ) → (suc x == suc y) ≡ (x == y)
-suc-test x y =
-    elim (ℕ_discrete x y) [
-      | yes e ↦ eq-eqb (suc x) (suc y) (ap suc e) ∙ sym (eq-eqb x y e)
-      | no n ↦ apart-test (suc x) (suc y) (λ q. n (omega (arith, q))) ∙ sym (apart-test x y n)
-    ]
+suc-test x y = grind (arith, nat_tests)
 
 -- by the first number
 once-first : (q k n : ℕ) (ls : List ℕ) → total (mark ls) (row_lengths k n) ≡ pos 1 → total (mark (suc q ∷ ls)) (row_lengths (suc k) (suc (q + n))) ≡ pos 1
@@ -53,7 +48,7 @@ once-first zero k n ls h =
     let a = total-append f (map (λ l. 1 ∷ l) (row_lengths k N)) (map with_longer_first (row_lengths (suc k) N)) in
     let b = total-map f (λ l. 1 ∷ l) (row_lengths k N) in
     let c = total-map f with_longer_first (row_lengths (suc k) N) in
-    let d = total-positive k N (λ l. f (with_longer_first l)) (λ l. pos 0) (λ q l. ap (λ b. cond (b && is_same_list ls l) (pos 1) (pos 0)) (apart-test 1 (suc (suc q)) (λ e. absurd (omega (arith, e))))) in
+    let d = total-positive k N (λ l. f (with_longer_first l)) (λ l. pos 0) (λ q l. ap (λ b. cond (b && is_same_list ls l) (pos 1) (pos 0)) (ne_eqb 1 (suc (suc q)) (λ e. absurd (omega (arith, e))))) in
     let z = total-zero (row_lengths (suc k) N) in
     let m : total (λ l. f (1 ∷ l)) (row_lengths k N) ≡ pos 1 = ap (λ j. total (mark ls) (row_lengths k j)) e ∙ h in
     omega (arith, ints)
@@ -65,7 +60,7 @@ once-first (suc q) k n ls h =
     let b = total-map f (λ l. 1 ∷ l) (row_lengths k N) in
     let c = total-map f with_longer_first (row_lengths (suc k) N) in
     let d = total-positive k N (λ l. f (with_longer_first l)) (mark (suc q ∷ ls)) (λ m l. ap (λ b. cond (b && is_same_list ls l) (pos 1) (pos 0)) (suc-test (suc q) (suc m))) in
-    let z : total (λ l. f (1 ∷ l)) (row_lengths k N) ≡ pos 0 = ap (λ g. total g (row_lengths k N)) (λ i l. cond (apart-test (suc (suc q)) 1 (λ e. absurd (omega (arith, e))) i && is_same_list ls l) (pos 1) (pos 0)) ∙ total-zero (row_lengths k N) in
+    let z : total (λ l. f (1 ∷ l)) (row_lengths k N) ≡ pos 0 = ap (λ g. total g (row_lengths k N)) (λ i l. cond (ne_eqb (suc (suc q)) 1 (λ e. absurd (omega (arith, e))) i && is_same_list ls l) (pos 1) (pos 0)) ∙ total-zero (row_lengths k N) in
     let m : total (mark (suc q ∷ ls)) (row_lengths (suc k) N) ≡ pos 1 = ap (λ j. total (mark (suc q ∷ ls)) (row_lengths (suc k) j)) e ∙ once-first q k n ls h in
     omega (arith, ints)
 

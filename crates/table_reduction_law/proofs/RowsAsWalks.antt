@@ -1,41 +1,31 @@
 -- The sum over the lists of row lengths is the sum entry by entry.
-use Rattle.std.proofs.Common.{◌≡◌, ℕ, zero, suc, ◌+◌, ◌<◌, cond, List, [], ◌∷◌, ◌++◌, map, refl, sym, ◌∙◌, ap, arith, ◌==◌, subst, take, ℤ, pos, ◌+ℤ◌, length, pred}
+use Rattle.std.proofs.Common.{◌≡◌, ℕ, zero, suc, ◌+◌, ◌<◌, cond, List, [], ◌∷◌, ◌++◌, map, refl, sym, ◌∙◌, ap, arith, ◌==◌, take, ℤ, pos, ◌+ℤ◌, length, pred}
 use native.Mathlib.Decide.{ℕ_discrete}
+use Rattle.std.proofs.lemmas.Bool.Decides.{nat_tests}
 use Rattle.std.proofs.lemmas.Int.{ints}
 use Rattle.signed_sum.proofs.Names.{Alike, Alike-append, occurs-apart, occurs-self, occurs-swap, total-append, total-map}
 use Rattle.signed_sum.specs.Names.{IsDistinct, occurs, total}
 use Rattle.table_reduction_law.proofs.ReductionWalks.{Good, good-distinct, good-end, good-use, left, walk}
 use Rattle.table_reduction_law.proofs.UnusedEntries.{unused-absent, unused-cong, unused-distinct, unused-in, unused-out}
-use Rattle.table_reduction_law.specs.Names.{cons_if_zero, row_lengths, rows, unused, with_longer_first}
+use Rattle.table_reduction_law.specs.Names.{row_lengths, rows, unused, with_longer_first}
 
 -- lists of the same values have the same length
 
 count-remove : (x : ℕ) (w : List ℕ) → IsDistinct w → occurs x w ≡ 1 → length w ≡ suc (length (unused (x ∷ []) w))
 count-remove x [] d h = absurd (omega (arith, h))
-count-remove x (y ∷ w) d h =
-    elim (ℕ_discrete y x) [
-      | yes e ↦
-          let z : occurs x w ≡ 0 = subst (λ (j : ℕ). occurs j w ≡ 0) e d.0 in
-          let k : occurs y (x ∷ []) ≡ 1 = subst (λ (j : ℕ). occurs j (x ∷ []) ≡ 1) (sym e) (occurs-self x []) in
-          ap suc (ap length (sym (unused-absent x w z))) ∙ sym (ap (λ j. suc (length (cons_if_zero j y (unused (x ∷ []) w)))) k)
-      | no e ↦
-          let ih = count-remove x w d.1 (sym (occurs-apart x y w (λ q. e (sym q))) ∙ h) in
-          ap suc ih ∙ sym (ap (λ j. suc (length (cons_if_zero j y (unused (x ∷ []) w)))) (occurs-apart y x [] e))
-    ]
+count-remove x (y ∷ w) d h = elim (ℕ_discrete y x) [
+  | yes e ↦
+      let k : occurs y (x ∷ []) ≡ 1 = ap (λ j. occurs j (x ∷ [])) e ∙ occurs-self x [] in
+      rw k (ap (λ r. suc (length r)) (sym (unused-absent x w (ap (λ j. occurs j w) (sym e) ∙ d.0))))
+  | no e ↦ rw (occurs-apart y x [] e) (ap suc (count-remove x w d.1 (sym (occurs-apart x y w (λ q. e (sym q))) ∙ h)))
+]
 
 pub count-alike : (u w : List ℕ) → IsDistinct u → IsDistinct w → Alike u w → length u ≡ length w
 count-alike [] [] d e a = refl
 count-alike [] (y ∷ w) d e a = absurd (let p = a y in let q = occurs-self y w in omega (arith, p, q))
 count-alike (x ∷ u) w d e a =
     let m : occurs x w ≡ 1 = sym (a x) ∙ occurs-self x u in
-    ap suc (count-alike u (unused (x ∷ []) w) d.1 (unused-distinct (x ∷ []) w e) rest) ∙ sym (count-remove x w e m)
-  where
-    rest : Alike u (unused (x ∷ []) w)
-    rest v =
-        elim (ℕ_discrete v x) [
-          | yes q ↦ subst (λ (j : ℕ). occurs j u ≡ occurs j (unused (x ∷ []) w)) (sym q) (d.0 ∙ sym (unused-in x (x ∷ []) w (occurs-self x [])))
-          | no q ↦ sym (occurs-apart v x u q) ∙ a v ∙ sym (unused-out v (x ∷ []) w (occurs-apart v x [] q))
-        ]
+    ap suc (count-alike u (unused (x ∷ []) w) d.1 (unused-distinct (x ∷ []) w e) (λ v. grind (arith, nat_tests, a v, d.0, unused-in v (x ∷ []) w, unused-out v (x ∷ []) w))) ∙ sym (count-remove x w e m)
 
 -- row lengths
 

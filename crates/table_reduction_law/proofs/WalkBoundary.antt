@@ -4,33 +4,10 @@ use native.Mathlib.Decide.{ℕ_discrete}
 use Rattle.std.proofs.lemmas.Int.{ints}
 use Rattle.signed_sum.proofs.Names.{Alike, Alike-append, Alike-cons, occurs-again, occurs-apart, occurs-before, occurs-head, occurs-later, occurs-self, occurs-swap}
 use Rattle.signed_sum.specs.Names.{if_zero, occurs, unless_zero, signed}
+use Rattle.surjection_law.proofs.PlaceLemmas.{among-cong, among-push, last-cong, last-here}
 use Rattle.surjection_law.specs.Names.{caesuras_among, caesuras_before_last, place_exponent, place_term, without_place}
 use Rattle.table_reduction_law.proofs.ReductionWalks.{Agree, Good, good-distinct, good-end, good-use, left, put, put-apart, put-here, removals, removals-agree, walk, walk-cong, walk-signed, walk-sum, walk-when}
 use Rattle.table_reduction_law.specs.Names.{unused}
-
-pub caesuras-cong : (p u w : List ℕ) → Alike u w → caesuras_among p u ≡ caesuras_among p w
-caesuras-cong [] u w e = refl
-caesuras-cong (y ∷ p) u w e = λ i. Alike-append p u w e y i + caesuras-cong p u w e i
-
-pub last-cong : (p : List ℕ) (v : ℕ) (u w : List ℕ) → Alike (v ∷ u) (v ∷ w) → caesuras_before_last p v u ≡ caesuras_before_last p v w
-last-cong [] v u w e = refl
-last-cong (y ∷ p) v u w e = λ i. if_zero (occurs v p) 0 (Alike-append p (v ∷ u) (v ∷ w) e y i + last-cong p v u w e i)
-
-pub caesuras-append : (p : List ℕ) (x : ℕ) (u : List ℕ) → caesuras_among (p ++ (x ∷ [])) u ≡ caesuras_among p (x ∷ u) + occurs x u
-caesuras-append [] x u = omega arith
-caesuras-append (y ∷ p) x u =
-    let ih = caesuras-append p x u in
-    let a : occurs y ((p ++ (x ∷ [])) ++ u) ≡ occurs y (p ++ (x ∷ u)) = ap (occurs y) (append_assoc p (x ∷ []) u) in
-    omega arith
-
-pub last-here : (p : List ℕ) (x : ℕ) (u : List ℕ) → caesuras_before_last (p ++ (x ∷ [])) x u ≡ caesuras_among p (x ∷ x ∷ u)
-last-here [] x u = refl
-last-here (y ∷ p) x u =
-    let ih = last-here p x u in
-    let a : occurs y ((p ++ (x ∷ [])) ++ (x ∷ u)) ≡ occurs y (p ++ (x ∷ x ∷ u)) = ap (occurs y) (append_assoc p (x ∷ []) (x ∷ u)) in
-    let b : if_zero (occurs x (p ++ (x ∷ []))) 0 (occurs y ((p ++ (x ∷ [])) ++ (x ∷ u)) + caesuras_before_last (p ++ (x ∷ [])) x u) ≡ occurs y ((p ++ (x ∷ [])) ++ (x ∷ u)) + caesuras_before_last (p ++ (x ∷ [])) x u =
-    ap (λ j. if_zero j 0 (occurs y ((p ++ (x ∷ [])) ++ (x ∷ u)) + caesuras_before_last (p ++ (x ∷ [])) x u)) (occurs-later x p (x ∷ []) (occurs-self x [])) in
-    omega arith
 
 last-apart : (p : List ℕ) (v x : ℕ) (u z : List ℕ) → (v ≡ x → ⊥) → Alike (x ∷ v ∷ u) (v ∷ z) → caesuras_before_last (p ++ (x ∷ [])) v u ≡ caesuras_before_last p v z
 last-apart [] v x u z n e = refl
@@ -63,7 +40,7 @@ end_term : (p : List ℕ) (x : ℕ) (u xs : List ℕ) (z : ℤ) → occurs x u �
 end_term p x u xs z n e =
     let m : occurs x (p ++ u) ≡ 1 = occurs-later x p u n in
     let s : place_exponent p x u ≡ caesuras_among p (x ∷ xs) =
-    ap (λ j. if_zero j (suc (caesuras_before_last p x u)) (caesuras_among p (x ∷ u))) n ∙ caesuras-cong p (x ∷ u) (x ∷ xs) e in
+    ap (λ j. if_zero j (suc (caesuras_before_last p x u)) (caesuras_among p (x ∷ u))) n ∙ among-cong p (x ∷ u) (x ∷ xs) e in
     λ i. unless_zero (m i) (signed (s i) z)
 
 -- the marks after an entry that is used
@@ -90,7 +67,7 @@ mark_end p x u xs e v q =
     is_same_list : mark (p ++ (x ∷ [])) u x ≡ put x (suc (caesuras_among p (x ∷ xs))) (mark p (x ∷ xs)) x
     is_same_list =
         ap (λ j. if_zero j 0 (suc (caesuras_before_last (p ++ (x ∷ [])) x u))) (occurs-later x p (x ∷ []) (occurs-self x []))
-        ∙ ap suc (last-here p x u ∙ caesuras-cong p (x ∷ x ∷ u) (x ∷ xs) (λ k. occurs-again k x (x ∷ u) (occurs-self x u) ∙ occurs-again k x u (e x ∙ occurs-self x xs) ∙ e k))
+        ∙ ap suc (last-here p x u ∙ among-cong p (x ∷ x ∷ u) (x ∷ xs) (λ k. occurs-again k x (x ∷ u) (occurs-self x u) ∙ occurs-again k x u (e x ∙ occurs-self x xs) ∙ e k))
         ∙ sym (put-here x (suc (caesuras_among p (x ∷ xs))) (mark p (x ∷ xs)))
 
 -- the boundary of the lists, where p stands before them
@@ -103,7 +80,7 @@ places [] (x ∷ xs) a p h g =
     let u = used_term p x xs xs (h xs) g.0 (λ v. sym (occurs-again v x (x ∷ xs) (occurs-self x xs))) in
     let ih = places [] xs (x ∷ a) pn hx g.1 in
     let r = removals-agree [] xs (x ∷ a) (mark pn xs) (mark p (x ∷ xs)) (caesuras_among pn xs) hx g.1 (mark_used p x xs g.0) in
-    let c : caesuras_among pn xs ≡ caesuras_among p (x ∷ xs) = (let q = caesuras-append p x xs in let n = g.0 in omega arith) in
+    let c : caesuras_among pn xs ≡ caesuras_among p (x ∷ xs) = (let q = among-push p x xs in let n = g.0 in omega arith) in
     let rr = ap (λ k. removals [] xs (x ∷ a) (mark p (x ∷ xs)) k hx) c in
     omega (arith, ints)
 places (w ∷ ws) [] a p h g = refl
@@ -124,7 +101,7 @@ places (w ∷ ws) (x ∷ xs) a p h g =
     let e3 = walk-signed k ws y a h in
     let e4 = places ws y a pn hx ge in
     let e5 = removals-agree ws y a (mark pn y) (put x (suc k) t) (caesuras_among pn y) hx ge (mark_end p x y xs l) in
-    let ec : caesuras_among pn y ≡ suc k = (let q = caesuras-append p x y in let q2 = caesuras-cong p (x ∷ y) (x ∷ xs) (λ v. occurs-again v x y m ∙ l v) in omega (arith, m, q, q2)) in
+    let ec : caesuras_among pn y ≡ suc k = (let q = among-push p x y in let q2 = among-cong p (x ∷ y) (x ∷ xs) (λ v. occurs-again v x y m ∙ l v) in omega (arith, m, q, q2)) in
     let e6 = ap (λ j. removals ws y a (put x (suc k) t) j hx) ec in
     -- x is used
     let u1 = walk-sum (w ∷ ws) xs (x ∷ a) (λ u. place_term p x u (h u)) (λ u. without_place pn u hx) in
@@ -133,6 +110,6 @@ places (w ∷ ws) (x ∷ xs) a p h g =
     let u3 = walk-when (t x) (w ∷ ws) xs (x ∷ a) (λ u. signed (t x) (h u)) ∙ ap (λ z. unless_zero (t x) z) (walk-signed (t x) (w ∷ ws) xs (x ∷ a) h) in
     let u4 = places (w ∷ ws) xs (x ∷ a) pn hx gu in
     let u5 = removals-agree (w ∷ ws) xs (x ∷ a) (mark pn xs) t (caesuras_among pn xs) hx gu (mark_used p x xs n) in
-    let uc : caesuras_among pn xs ≡ k = (let q = caesuras-append p x xs in omega (arith, n, q)) in
+    let uc : caesuras_among pn xs ≡ k = (let q = among-push p x xs in omega (arith, n, q)) in
     let u6 = ap (λ j. removals (w ∷ ws) xs (x ∷ a) t j hx) uc in
     omega (arith, ints)
