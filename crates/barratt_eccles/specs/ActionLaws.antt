@@ -4,11 +4,11 @@ use Rattle.std.specs.Prelude.{ℤ}
 use Rattle.std.proofs.lemmas.List.{length-map, map-id}
 use Rattle.std.proofs.lemmas.Simd.{map-map}
 use Rattle.signed_sum.specs.Names.{numbers_from, occurs, entry_at, value_at}
-use Rattle.signed_sum.proofs.Names.{occurs-01, occurs-self}
+use Rattle.signed_sum.proofs.Names.{occurs-01, occurs-self, range-out}
 use Rattle.operad_law.specs.Permutations.{IsPerm, composed, identity}
 use Rattle.operad_law.proofs.PermLemmas.{All-occurs, numbers_from-has, perm-has}
 use Rattle.table_reduction_law.proofs.FormalSums.{is_degenerate_tuple-map, tuple_action_law}
-use Rattle.table_reduction_law.proofs.Permutations.{Within, perm-within, place, range-out, relabels, within-tail}
+use Rattle.table_reduction_law.proofs.Permutations.{Within, perm-within, place, relabels, within-tail}
 use Rattle.table_reduction_law.specs.Names.{IsPermutationOf, IsTuple, permuted_tuple, tuple_boundary, tuple_arity, tuple_degree}
 use Rattle.barratt_eccles.specs.Generators.{IsGenerator}
 

@@ -3,9 +3,8 @@ use Rattle.std.proofs.Common.{◌≡◌, ℕ, ◌+◌, ◌-◌, ◌<◌, ◌≤�
 use Rattle.std.specs.Prelude.{flat_map, nat_lt}
 use Rattle.std.proofs.lemmas.Bool.{cases_Bool, cases_eq, eq-eqb, ne_eqb}
 use Rattle.signed_sum.specs.Names.{IsDistinct, numbers_from, occurs}
-use Rattle.signed_sum.proofs.Names.{occurs-01, occurs-cons, occurs-later, occurs-more, occurs-none, occurs-self}
+use Rattle.signed_sum.proofs.Names.{occurs-01, occurs-cons, occurs-later, occurs-more, occurs-none, occurs-self, range-in, range-out}
 use Rattle.operad_law.proofs.PermLemmas.{IsDistinct-map}
-use Rattle.table_reduction_law.proofs.Permutations.{range-in, range-out}
 use Rattle.table_reduction_law.proofs.ReductionBoundary.{permutation-length}
 use Rattle.table_reduction_law.specs.Names.{IsPermutationOf}
 use Rattle.composition_law.specs.Tuples.{inserted, replaced}

@@ -5,6 +5,4 @@
 pub mod composing;
 pub mod cyclic;
 mod symmetric;
-#[cfg(test)]
-mod tests;
 pub mod tuple;

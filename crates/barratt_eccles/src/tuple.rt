@@ -172,7 +172,7 @@ impl SignedBasis for Tuple {
 
     ghost no_boundary = { no_boundary_law };
 
-    ghost boundary_twice = { tuple_boundary_law };
+    ghost boundary_twice = { λ phi x v. tuple_boundary_law phi x };
 
     ghost boundary_weight = { boundary_weight_law };
 }

@@ -20,16 +20,3 @@ pub fn binomial_up_to(n: u32, k: u32, most: u64) -> u64
     }
     count.min(most)
 }
-
-#[cfg(test)]
-mod tests {
-    use super::binomial_up_to;
-
-    #[test]
-    fn counts(rt: HostRuntime) {
-        assert_eq!(rt; binomial_up_to(5, 2, 1000), 10);
-        assert_eq!(rt; binomial_up_to(7, 0, 1000), 1);
-        assert_eq!(rt; binomial_up_to(16, 12, 1000), 1000);
-        assert_eq!(rt; binomial_up_to(231, 200, u64::MAX), u64::MAX);
-    }
-}

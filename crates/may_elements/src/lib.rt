@@ -4,7 +4,5 @@
 pub mod elements;
 mod pairs;
 pub mod terms;
-#[cfg(test)]
-mod tests;
 
 pub use elements::{MayRefused, MayTable};

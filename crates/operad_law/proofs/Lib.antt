@@ -8,3 +8,4 @@ pub mod PermLemmas
 pub mod TurnSums
 pub mod ListOrder
 pub mod Merging
+pub mod PairSums

@@ -12,7 +12,8 @@ use Rattle.signed_sum.specs.Names.{value_at, weight_of, is_zero}
 use Rattle.operad_law.specs.FormalSums.{IsBelow, IsAscending, IsNonzero, IsFormalSum, IsPlusScaled, with_term}
 use Rattle.operad_law.specs.Places.{IsAbove, first_order}
 use Rattle.operad_law.proofs.PlusTerm.{value_at-with_term, weight_of-with_term, IsBelow-less, abs_sum}
-use Rattle.operad_law.proofs.ScaledSums.{weight_of-append, abs-mul}
+use Rattle.operad_law.proofs.ScaledSums.{abs-mul}
+use Rattle.signed_sum.proofs.Names.{weight_of-append}
 use Rattle.operad_law.proofs.TermPlaces.{weight_at}
 
 -- `out` is what is merged of `first` and `by` times `other`, and `xs` and `ys` what is left of them

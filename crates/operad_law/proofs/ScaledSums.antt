@@ -2,13 +2,9 @@
 use Rattle.std.proofs.Common.{◌≡◌, ℕ, ◌+◌, ◌*◌, ◌≤◌, List, [], ◌∷◌, ◌++◌, take, drop, refl, ap, arith, ℤ, pos, ◌*ℤ◌, nat_abs, take-append-drop}
 use Rattle.std.proofs.lemmas.Int.{ints, unsigned_abs-mul}
 use Rattle.std.proofs.Math.Nat.{mul-le-mul_left}
-use Rattle.signed_sum.proofs.Names.{one-mul, value_at-append}
+use Rattle.signed_sum.proofs.Names.{one-mul, value_at-append, weight_of-append}
 use Rattle.signed_sum.specs.Names.{value_at, weight_of}
 use Rattle.operad_law.specs.FormalSums.{IsPlusScaled, IsSameSum, SumsBoundaries}
-
-pub weight_of-append : {X : Type 0} (s t : List (X × ℤ)) → weight_of (s ++ t) ≡ weight_of s + weight_of t
-weight_of-append [] t = omega arith
-weight_of-append (u ∷ s) t = omega (arith, weight_of-append s t)
 
 pub abs-mul : (a b : ℤ) → nat_abs (a *ℤ b) ≡ nat_abs a * nat_abs b
 abs-mul a b = unsigned_abs-mul a b

@@ -41,7 +41,7 @@ pub trait SignedBasis: Ord + Drop {
     ghost no_boundary: { (x : Self) → is_valid x → degree x ≡ 0 → boundary x ≡ [] };
 
     // The boundary of a boundary is zero, at every function of the elements.
-    ghost boundary_twice: { (phi : Self → ℤ) (x : Self) → value_at (λ y. value_at phi (boundary y)) (boundary x) ≡ pos 0 };
+    ghost boundary_twice: { (phi : Self → ℤ) (x : Self) → is_valid x → value_at (λ y. value_at phi (boundary y)) (boundary x) ≡ pos 0 };
 
     ghost boundary_weight: { (x : Self) → is_valid x → weight_of (boundary x) ≤ 510 };
 }

@@ -8,9 +8,8 @@ pub mod composing;
 pub mod cyclic;
 pub mod formal_sum;
 pub mod odd_word;
+pub mod pair;
 pub mod perm;
 mod scaled;
 pub mod symmetric;
-#[cfg(test)]
-mod tests;
 pub mod word;

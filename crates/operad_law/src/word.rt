@@ -79,7 +79,7 @@ impl<const P: u32> SignedBasis for Word<P> {
 
     ghost no_boundary = { λ x v. no_boundary_law P x };
 
-    ghost boundary_twice = { boundary_twice_law P };
+    ghost boundary_twice = { λ phi x v. boundary_twice_law P phi x };
 
     ghost boundary_weight = { λ x v. le_trans (boundary_weight_law P x v) (lit≤ tt) };
 }

@@ -75,7 +75,7 @@ pub abs-signed : (n : ℕ) (z : ℤ) → nat_abs (signed n z) ≡ nat_abs z
 abs-signed zero z = refl
 abs-signed (suc n) z = let h = abs-signed n z in omega (arith, ints)
 
-weight-map : {X Y : Type 0} (f : X × ℤ → Y × ℤ) (ts : List (X × ℤ)) → ((t : X × ℤ) → nat_abs (f t).1 ≡ nat_abs t.1) → weight_of (map f ts) ≡ weight_of ts
+pub weight-map : {X Y : Type 0} (f : X × ℤ → Y × ℤ) (ts : List (X × ℤ)) → ((t : X × ℤ) → nat_abs (f t).1 ≡ nat_abs t.1) → weight_of (map f ts) ≡ weight_of ts
 weight-map f [] e = refl
 weight-map f (t ∷ ts) e = let a = e t in let h = weight-map f ts e in omega arith
 

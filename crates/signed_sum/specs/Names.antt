@@ -6,4 +6,5 @@ pub use Rattle.signed_sum.specs.Inversions.{count_before, inversion_count, rearr
 pub use Rattle.signed_sum.specs.Turns.{IsSign, after_turns, difference, power_sum}
 pub use Rattle.signed_sum.specs.Permutations.{cycle, cycle_power, entry_at, turned}
 pub use Rattle.signed_sum.specs.Words.{IsWord, behind_letter, last_letter, letter_count, letter_degree, letters, letters_before_last, mask_boundary, mask_degree, mask_of, mask_turn, parity, word_boundary, word_degree, word_turn}
+pub use Rattle.signed_sum.specs.Pairs.{pair_boundary, pair_degree, pair_turn, paired_before, paired_behind}
 pub use Rattle.signed_sum.specs.Laws.{RingLaws, SignLaws, WithoutOneLaw, WithoutTwoLaw}

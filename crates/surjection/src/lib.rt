@@ -5,5 +5,3 @@ mod composition;
 pub mod cyclic;
 pub mod surj;
 mod symmetric;
-#[cfg(test)]
-mod tests;

@@ -202,7 +202,7 @@ impl SignedBasis for Surj {
 
     ghost no_boundary = { no_boundary_law };
 
-    ghost boundary_twice = { surjection_boundary-surjection_boundary };
+    ghost boundary_twice = { λ phi x v. surjection_boundary-surjection_boundary phi x };
 
     ghost boundary_weight = { boundary_weight_law };
 }

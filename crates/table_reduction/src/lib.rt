@@ -2,6 +2,4 @@
 #![tactic(auto)]
 
 pub mod reduction;
-#[cfg(test)]
-mod tests;
 mod walk;

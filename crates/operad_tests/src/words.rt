@@ -1,23 +1,31 @@
-use crate::basis::SignedBasis;
-use crate::cyclic::CyclicModel;
-use crate::formal_sum::{FormalSum, MOST_WEIGHT, SumEnd};
-use crate::odd_word::{OddWord, WordRefused, sign_of};
-use crate::perm::{Perm, PermRefused};
-use crate::word::Word;
+use crate::generic::{boundary_and_copy, turn_and_sums};
+use counting::binomial_up_to;
+use operad_law::formal_sum::{FormalSum, MOST_WEIGHT, SumEnd};
+use operad_law::odd_word::{OddWord, WordRefused, sign_of};
+use operad_law::perm::{Perm, PermRefused};
+use operad_law::word::Word;
 use std::test::Fail;
+
+#[test]
+fn sets_are_counted(rt: HostRuntime) {
+    assert_eq!(rt; binomial_up_to(5, 2, 1000), 10);
+    assert_eq!(rt; binomial_up_to(7, 0, 1000), 1);
+    assert_eq!(rt; binomial_up_to(16, 12, 1000), 1000);
+    assert_eq!(rt; binomial_up_to(231, 200, u64::MAX), u64::MAX);
+}
 
 #[test]
 fn permutations_compose_and_faults_have_places(rt: HostRuntime) -> Result<(), Fail> {
     let alloc = rt.alloc();
-    let cycle = Perm::cycle(alloc, 3, 1)?;
+    let cycle = Perm::cycle(alloc, 3, 7)?;
     assert_eq!(rt; cycle.copy(alloc)?.as_slice(), [2, 3, 1].as_slice());
     assert_eq!(rt;
         cycle.compose(alloc, &cycle)?.as_slice(),
         [3, 1, 2].as_slice()
     );
-    assert_eq!(rt; Perm::cycle(alloc, 3, 7)?.as_slice(), [2, 3, 1].as_slice());
     assert_eq!(rt; (cycle.len(), cycle.at(3)), (3, 1));
-    let cases: [(&[u8], usize); 5] = [
+    let cases: [(&[u8], usize); 6] = [
+        (&[2, 1, 3], 9),
         (&[2, 2], 2),
         (&[], 0),
         (&[1; 33], 0),
@@ -26,14 +34,11 @@ fn permutations_compose_and_faults_have_places(rt: HostRuntime) -> Result<(), Fa
     ];
     for (values, want) in cases {
         match Perm::new(alloc, values) {
+            Ok(permutation) => assert_eq!(rt; permutation.as_slice(), values),
             Err(PermRefused::NotAPermutation { place }) => assert_eq!(rt; place, want),
-            _ => panic!(rt; "a list that is no permutation was taken"),
+            _ => panic!(rt; "out of memory"),
         }
     }
-    assert_eq!(rt;
-        Perm::new(alloc, &[2, 1, 3])?.as_slice(),
-        [2, 1, 3].as_slice()
-    );
     Ok(())
 }
 
@@ -47,8 +52,7 @@ fn exchanged_symbols_have_the_sign_minus_one(rt: HostRuntime) -> Result<(), Fail
         ([3, 2, 1], -1),
         ([1, 2, 3], 1),
     ] {
-        let other = OddWord::new(alloc, &symbols)?;
-        assert_eq!(rt; sign_of(&word, &other), sign);
+        assert_eq!(rt; sign_of(&word, &OddWord::new(alloc, &symbols)?), sign);
     }
     match OddWord::new(alloc, &[5, 7, 5]) {
         Err(WordRefused::Repeated { place }) => assert_eq!(rt; place, 3),
@@ -78,16 +82,17 @@ fn sums_are_in_order_and_keep_no_zero(rt: HostRuntime) -> Result<(), Fail> {
 #[test]
 fn words_turn_and_have_boundaries(rt: HostRuntime) -> Result<(), Fail> {
     let alloc = rt.alloc();
-    let faces = Word::<3>::new(0, true).boundary(alloc)?;
+    let (faces, same) = boundary_and_copy(alloc, &Word::<3>::new(0, true))?;
+    assert!(rt; same == Word::new(0, true));
     assert_eq!(rt; (faces.len(), faces.weight()), (3, 3));
     for (mask, sign) in [(1, 1), (2, -1), (4, 1)] {
         assert_eq!(rt; faces.coefficient(&Word::new(mask, true)), sign);
     }
-    let (turned, sign) = Word::<3>::new(1, true).turn(alloc)?;
+    let ((turned, sign), _, _) = turn_and_sums(alloc, &Word::<3>::new(1, true))?;
     assert!(rt; turned == Word::new(2, true) && sign == -1);
     let full = Word::<3>::new(7, true);
-    assert!(rt; full.copy(alloc)? == full && full.t(alloc)?.is_empty());
-    let norm = full.norm(alloc)?;
+    let (_, difference, norm) = turn_and_sums(alloc, &full)?;
+    assert!(rt; difference.is_empty());
     assert_eq!(rt; (norm.len(), norm.coefficient(&full)), (1, 3));
     Ok(())
 }

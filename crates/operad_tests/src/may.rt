@@ -1,22 +1,7 @@
-use crate::elements::{MayRefused, MayTable};
-use crate::terms::Terms;
-use operad_law::formal_sum::FormalSum;
-use std::process::Abort;
+use crate::spelled::surjections;
+use may_elements::terms::Terms;
+use may_elements::{MayRefused, MayTable};
 use std::test::Fail;
-use surjection::surj::Surj;
-
-// Checks that the terms of a sum are these, each once, in order.
-fn expect_lists(rt: &impl Abort, sum: &FormalSum<Surj>, want: &[&[u8]]) {
-    assert_eq!(rt; sum.len(), want.len());
-    let mut k = 0;
-    for values in want {
-        assert!(rt; k < sum.len());
-        let (element, by) = sum.term(k);
-        assert_eq!(rt; element.as_slice(), *values);
-        assert_eq!(rt; by, 1);
-        k += 1;
-    }
-}
 
 #[test]
 fn the_element_of_degree_two_at_three(rt: HostRuntime) -> Result<(), Fail> {
@@ -26,7 +11,7 @@ fn the_element_of_degree_two_at_three(rt: HostRuntime) -> Result<(), Fail> {
     let mut few = Terms::new(17);
     match table.grow_to(2, &mut few) {
         Err(MayRefused::TooManyTerms(over)) => assert_eq!(rt; (over.count, over.limit), (18, 17)),
-        _ => assert!(rt; false),
+        _ => panic!(rt; "the limit was passed"),
     }
     assert_eq!(rt; few.used(), 0);
     let mut terms = Terms::new(18);
@@ -34,10 +19,9 @@ fn the_element_of_degree_two_at_three(rt: HostRuntime) -> Result<(), Fail> {
     table.grow_to(2, &mut terms)?;
     assert_eq!(rt; terms.used(), 18);
     let element = table.element(2).ok_or("not stored")?;
-    expect_lists(
-        &rt,
-        element,
-        &[&[1, 2, 3, 1, 2], &[1, 2, 3, 2, 3], &[1, 3, 1, 2, 3]],
+    assert_eq!(rt;
+        surjections(alloc, element)?.as_str(),
+        "1 [1, 2, 3, 1, 2];1 [1, 2, 3, 2, 3];1 [1, 3, 1, 2, 3];"
     );
     assert!(rt; table.element(3).is_none());
     Ok(())
@@ -49,6 +33,9 @@ fn at_two_there_is_one_list(rt: HostRuntime) -> Result<(), Fail> {
     assert_eq!(rt; MayTable::<5>::candidates(16), 1_892_578_125);
     assert_eq!(rt; MayTable::<5>::candidates(60), 1_000_000_000_000_000);
     let element = MayTable::<2>::build(alloc, 3)?;
-    expect_lists(&rt, &element, &[&[1, 2, 1, 2, 1]]);
+    assert_eq!(rt;
+        surjections(alloc, &element)?.as_str(),
+        "1 [1, 2, 1, 2, 1];"
+    );
     Ok(())
 }
