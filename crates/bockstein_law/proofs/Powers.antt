@@ -5,7 +5,7 @@ use Rattle.std.specs.List.{AllZip}
 use Rattle.std.proofs.Math.IntN.{pos-*ℤ-pos, *ℤ-zero}
 use Rattle.std.proofs.Math.Nat.{zero-div}
 use Rattle.std.proofs.lemmas.Int.{ints}
-use Rattle.linear_law.proofs.Names.{Congruent_of, Congruent_trans, coordinates-apart, length-copies}
+use Rattle.linear_law.proofs.Names.{multiple_in, Congruent_of, Congruent_trans, coordinates-apart, length-copies}
 use Rattle.linear_law.specs.Names.{Congruent, IsField, negated, Each, copies, matrix_times}
 use Rattle.signed_sum.proofs.Names.{mul-add, mul-neg, mul_comm}
 use Rattle.simplicial_law.proofs.Names.{coboundaries, cocycles, integral_congruence_law, negated_whole, CongruentInt-neg, CongruentInt-scale, CongruentInt-sum, CongruentInt_from, CongruentInt_multiple, CongruentInt_of, CongruentInt_sym, CongruentInt_trans}
@@ -151,9 +151,7 @@ bockstein-of-power facets (suc k) s q z b c field cocycle x y =
 module _ (p : ℕ) (field : IsField p) (facets : List (List ℕ)) where
   scaled-closed : (n d c q : ℕ) (z b : Cochain) → IsCocycle facets q p z → AgreesOnSimplices facets n p b (scaled_operation p d c q z) → IsCocycle facets n p b
   scaled-closed n d c q z b h same =
-      let m = cocycles facets n p (above_one p field) in
-      m.alike b (λ t. 0 + c * may_operation p d q z t) (record { at = λ t on. Congruent_trans (same.at t on) (Congruent_of (omega arith)) })
-      (m.plus c (λ t. 0) (may_operation p d q z) m.zero_in (may_operation-closed p field facets d q n z h))
+      (cocycles facets n p (above_one p field)).alike b (scaled_operation p d c q z) same (multiple_in (cocycles facets n p (above_one p field)) c (may_operation p d q z) (may_operation-closed p field facets d q n z h))
 
   module _ (s q : ℕ) (vs : List Cochain) (basis : IsCohomologyBasis facets (q + 2 * s * (p - 1) + 1) p vs) where
     column-is : (us : List Cochain) (columns : List (List ℕ)) → Each (IsCocycle facets (q + 2 * s * (p - 1)) p) us →

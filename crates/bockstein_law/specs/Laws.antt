@@ -1,8 +1,7 @@
 -- The laws of the Bockstein.
 use Rattle.std.specs.Prelude.{◌≡◌, ℕ, ◌+◌, ◌*◌, ◌-◌, cond, List, [], ◌∷◌, length, map, ℤ, pos, ◌*ℤ◌}
-use Rattle.std.specs.List.{AllZip}
 use Rattle.signed_sum.specs.Names.{is_same_list}
-use Rattle.linear_law.specs.Names.{IsField, negated, Each, copies, matrix_times, combination}
+use Rattle.linear_law.specs.Names.{CarriesCoordinates, IsField, IsMatrixOf, negated, Each, copies, matrix_times, combination}
 use Rattle.simplicial_law.specs.Names.{IsSimplex, Cochain, HasCoordinates, IsCoboundary, IsCocycle, IsCohomologyBasis, CongruentInt, integral_coboundary}
 use Rattle.steenrod_law.specs.Names.{IsBocksteinPower, IsPower, residue}
 use Rattle.bockstein_law.specs.Bockstein.{bockstein}
@@ -22,13 +21,9 @@ pub record ClassLaw : Type 0 where
   pub linear : (facets : List (List ℕ)) (p q : ℕ) (zs : List Cochain) (z : Cochain) (cs : List ℕ) → IsField p →
       Each (IsCocycle facets q p) zs → HasCoordinates facets q p zs z cs →
       IsCoboundary facets (q + 1) p (λ s. bockstein p z s + negated p (combination cs (map (bockstein p) zs) s))
-  -- Its matrix carries the coordinates of each cocycle to those of its Bockstein: column j are the coordinates of the
-  -- Bockstein of the j-th of the cocycles zs.
-  pub matrix : (facets : List (List ℕ)) (p q : ℕ) (zs ws : List Cochain) (columns : List (List ℕ)) → IsField p →
-      Each (IsCocycle facets q p) zs →
-      AllZip (λ column z. HasCoordinates facets (q + 1) p ws (bockstein p z) column) columns zs →
-      (z : Cochain) (cs : List ℕ) → HasCoordinates facets q p zs z cs →
-      HasCoordinates facets (q + 1) p ws (bockstein p z) (matrix_times p (length ws) columns cs)
+  -- its matrix carries the coordinates of each cocycle to those of its Bockstein
+  pub matrix : (facets : List (List ℕ)) (p q : ℕ) → IsField p →
+      CarriesCoordinates p (IsCocycle facets q p) (IsCoboundary facets q p) (IsCoboundary facets (q + 1) p) (bockstein p)
 
 -- Bockstein powers are Bocksteins of powers, for a cocycle z of degree q, where p is odd and 2 * s is below q.
 pub record PowerLaw : Type 0 where
@@ -41,7 +36,7 @@ pub record PowerLaw : Type 0 where
   -- `bocksteins`, the coordinates of its Bockstein for vs.
   pub product : (facets : List (List ℕ)) (p s q : ℕ) (us vs : List Cochain) (bocksteins : List (List ℕ)) → IsField p →
       Each (IsCocycle facets (q + 2 * s * (p - 1)) p) us → IsCohomologyBasis facets (q + 2 * s * (p - 1) + 1) p vs →
-      AllZip (λ column u. HasCoordinates facets (q + 2 * s * (p - 1) + 1) p vs (bockstein p u) column) bocksteins us →
+      IsMatrixOf p (IsCoboundary facets (q + 2 * s * (p - 1) + 1) p) (bockstein p) us vs bocksteins →
       (z b c : Cochain) (power both : List ℕ) → IsCocycle facets q p z → IsPower facets p s q z b → IsBocksteinPower facets p s q z c →
       HasCoordinates facets (q + 2 * s * (p - 1)) p us b power → HasCoordinates facets (q + 2 * s * (p - 1) + 1) p vs c both →
       both ≡ matrix_times p (length vs) bocksteins power

@@ -9,15 +9,13 @@ use Rattle.simplicial_law.proofs.Names.{CongruentInt-neg, CongruentInt-signed, C
 use Rattle.simplicial_law.specs.Names.{CongruentInt, HasDegree, integral_coboundary}
 use Rattle.steenrod_law.proofs.AdditiveMaps.{adds-coboundary, adds-neg, adds-over, adds-scale, adds-signed, adds-zero}
 use Rattle.steenrod_law.proofs.Binomials.{difference, difference-prime}
-use Rattle.table_reduction_law.proofs.PowerPairs.{sum_below}
 use Rattle.steenrod_law.proofs.ClosedValues.{closed-law}
 use Rattle.steenrod_law.proofs.Degrees.{degree-even, of-power}
-use Rattle.steenrod_law.proofs.Forms.{AreTerms, IsFaceClosed, IsIntegralCocycle, IsMayFamily, IsPrime, SurjectionTerm, boundary_over, operation_of, value_over, word_sum}
-use Rattle.steenrod_law.proofs.Primes.{two-or-odd}
-use Rattle.steenrod_law.proofs.Staircase.{Alike, back-alike, minus-alike, sign-turn}
+use Rattle.steenrod_law.proofs.Forms.{AreTerms, IsFaceClosed, IsIntegralCocycle, IsMayFamily, IsPrime, IsWeakFace, SurjectionTerm, boundary_over, drop, none, operation_of, take, value_over, word_sum}
+use Rattle.steenrod_law.proofs.Staircase.{Alike, back-alike, minus-alike, norms-alike, sign-turn}
 use Rattle.steenrod_law.proofs.WordBoundary.{letters-copies, letters-first, relation}
 use Rattle.steenrod_law.proofs.WordCochains.{over-same, over-sum, word-cycle}
-use Rattle.steenrod_law.proofs.WordLemmas.{back-sum, minus-sum, power-back}
+use Rattle.steenrod_law.proofs.WordLemmas.{back-sum, minus-sum, norm-sum_below, power-back}
 use Rattle.steenrod_law.specs.Names.{cycle_less_one_power, opposite_sum, orbit_sum, sum_above, sum_value, turned_sum, word_cochains, HaveLength, IsOrbitTable, all_words, choice, copies, norm, step, turn_back, turn_back_less_one, turn_back_power, word_degree}
 use Rattle.table_reduction_law.specs.Names.{cycle}
 
@@ -50,10 +48,6 @@ module _ (deg : Bool → ℕ) where
       let e = t-difference k h w in
       omega (arith, ints)
 
-  norm-below : (k : ℕ) (h : List Bool → ℤ) (w : List Bool) → norm deg k h w ≡ sum_below k (λ i. turn_back_power deg i h w)
-  norm-below zero h w = refl
-  norm-below (suc k) h w = ap (λ z. z +ℤ turn_back_power deg k h w) (norm-below k h w)
-
   -- T^(p-1) is N
   t-norm : (p : ℕ) → IsPrime p → (k : ℕ) → suc k ≡ p → (h : List Bool → ℤ) (w : List Bool) → CongruentInt p (t_words deg k h w) (norm deg p h w)
   t-norm zero prime k e h w = absurd (omega (arith, e))
@@ -63,7 +57,7 @@ module _ (deg : Bool → ℕ) where
       CongruentInt_trans
       (CongruentInt_of (ap (λ j. t_words deg j h w) q ∙ t-difference n h w))
       (CongruentInt_trans (difference-prime n a prime)
-      (CongruentInt_of (sym (norm-below (suc n) h w))))
+      (CongruentInt_of (sym (norm-sum_below deg (suc n) h w))))
 
 -- powers of T on sums of surjections
 
@@ -100,18 +94,22 @@ power-words p deg a b da db t le m x o (suc k) w e =
 
 -- coboundaries modulo p
 
-without_one-same : (p : ℕ) (s : List ℕ) (h g : List ℕ → ℤ) → ((t : List ℕ) → CongruentInt p (h t) (g t)) → CongruentInt p (without_one s h) (without_one s g)
-without_one-same p [] h g e = CongruentInt_refl (pos 0)
-without_one-same p (x ∷ s) h g e =
-    CongruentInt-sum (e s)
-    (CongruentInt-neg (without_one-same p s (λ r. h (x ∷ r)) (λ r. g (x ∷ r)) (λ r. e (x ∷ r))))
+weak-refl : (s : List ℕ) → IsWeakFace s s
+weak-refl [] = none
+weak-refl (x ∷ s) = take (drop (weak-refl s))
 
-coboundary-same : (p : ℕ) (s : List ℕ) (a b : List ℕ → ℤ) → ((t : List ℕ) → CongruentInt p (a t) (b t)) → CongruentInt p (integral_coboundary a s) (integral_coboundary b s)
-coboundary-same p s a b e = without_one-same p s (λ g. unless_empty g (a g)) (λ g. unless_empty g (b g)) part
+without_one-faces : (p : ℕ) (s : List ℕ) (h g : List ℕ → ℤ) → ((t : List ℕ) → IsWeakFace t s → CongruentInt p (h t) (g t)) → CongruentInt p (without_one s h) (without_one s g)
+without_one-faces p [] h g e = CongruentInt_refl (pos 0)
+without_one-faces p (x ∷ s) h g e =
+    CongruentInt-sum (e s (drop (weak-refl s)))
+    (CongruentInt-neg (without_one-faces p s (λ r. h (x ∷ r)) (λ r. g (x ∷ r)) (λ r w. e (x ∷ r) (take (drop w)))))
+
+pub coboundary-faces : (p : ℕ) (s : List ℕ) (a b : List ℕ → ℤ) → ((t : List ℕ) → IsWeakFace t s → CongruentInt p (a t) (b t)) → CongruentInt p (integral_coboundary a s) (integral_coboundary b s)
+coboundary-faces p s a b e = without_one-faces p s (λ g. unless_empty g (a g)) (λ g. unless_empty g (b g)) part
   where
-    part : (g : List ℕ) → CongruentInt p (unless_empty g (a g)) (unless_empty g (b g))
-    part [] = CongruentInt_refl (pos 0)
-    part (x ∷ g) = e (x ∷ g)
+    part : (g : List ℕ) → IsWeakFace g s → CongruentInt p (unless_empty g (a g)) (unless_empty g (b g))
+    part [] w = CongruentInt_refl (pos 0)
+    part (x ∷ g) w = e (x ∷ g) w
 
 -- turns without signs
 
@@ -127,17 +125,9 @@ plain-back p q prime h (l ∷ w) e =
     (CongruentInt_of (ap (λ j. signed (q * j) z) (degree-even q w)))
     (sign-turn p (length w) q z prime e)))
 
-plain-power : (p q : ℕ) → (p ≡ 2) ⊎ (p % 2 ≡ 1) → (k : ℕ) (h : List Bool → ℤ) → Alike p p (turn_back_power (λ l. 0) k h) (turn_back_power (λ l. q) k h)
-plain-power p q prime zero h w e = CongruentInt_refl (h w)
-plain-power p q prime (suc k) h w e =
-    CongruentInt_trans
-    (plain-back p q prime (turn_back_power (λ l. 0) k h) w e)
-    (back-alike p (λ l. q) p (turn_back_power (λ l. 0) k h) (turn_back_power (λ l. q) k h) (plain-power p q prime k h) w e)
-
 plain-norm : (p q : ℕ) → (p ≡ 2) ⊎ (p % 2 ≡ 1) → (k : ℕ) (h : List Bool → ℤ) → Alike p p (norm (λ l. 0) k h) (norm (λ l. q) k h)
-plain-norm p q prime zero h w e = CongruentInt_refl (pos 0)
-plain-norm p q prime (suc k) h w e =
-    CongruentInt-sum (plain-norm p q prime k h w e) (plain-power p q prime k h w e)
+plain-norm p q prime k h =
+    norms-alike (λ w. length w ≡ p) p (λ l. 0) (λ l. q) (λ f g a w e. CongruentInt_trans (plain-back p q prime f w e) (back-alike p (λ l. q) p f g a w e)) k h h (λ w e. CongruentInt_refl (h w))
 
 -- the sum over an orbit is a coboundary
 
@@ -184,8 +174,8 @@ module _ (K : List ℕ → Type 0) (fc : IsFaceClosed K) (p d q : ℕ) (x : ℕ 
           CongruentInt_trans
           (CongruentInt_of
           (adds-coboundary (λ f. t_words (λ l. q) k f w) (λ f g. t-sum (λ l. q) k f g w) (λ v t. sum_value p (x (suc d)) (word_cochains a c v) t) s))
-          (coboundary-same p s (λ t. t_words (λ l. q) k (λ v. sum_value p (x (suc d)) (word_cochains a c v) t) w) (sum_value p y (word_cochains a c w))
-          (λ t. CongruentInt_sym
+          (coboundary-faces p s (λ t. t_words (λ l. q) k (λ v. sum_value p (x (suc d)) (word_cochains a c v) t) w) (sum_value p y (word_cochains a c w))
+          (λ t v. CongruentInt_sym
           (power-words p (λ l. q) a c ca.cochain.degree cc.cochain.degree t pos_p (suc d) (x (suc d)) (may.terms (suc d)) k w e))) in
           CongruentInt_trans
           (CongruentInt_sym (t-norm (λ l. q) p prime (suc k) size here w))
@@ -226,11 +216,11 @@ expand p x a c s = ap (value_over x) (λ i u. one u i) ∙ adds-all (value_over 
     one : (u : List ℕ) → operation_value p u (copies p (λ f. a f +ℤ c f)) s ≡ all_words p (λ w. operation_value p u (word_cochains a c w) s)
     one u = ap (λ phi. cut_sum phi p u s) (λ i fs. product-words a c p fs i) ∙ adds-all (λ phi. cut_sum phi p u s) (cut_sum-sum p u s) p (λ w fs. value_product (word_cochains a c w) fs)
 
-word_sum-sum : (ms : List (List Bool)) (h g : List Bool → ℤ) → word_sum ms (λ w. h w +ℤ g w) ≡ word_sum ms h +ℤ word_sum ms g
+pub word_sum-sum : (ms : List (List Bool)) (h g : List Bool → ℤ) → word_sum ms (λ w. h w +ℤ g w) ≡ word_sum ms h +ℤ word_sum ms g
 word_sum-sum [] h g = refl
 word_sum-sum (w ∷ ms) h g = let a = word_sum-sum ms h g in omega (arith, ints)
 
-word_sum-same : (p : ℕ) (ms : List (List Bool)) (h g : List Bool → ℤ) → HaveLength p ms → Alike p p h g → CongruentInt p (word_sum ms h) (word_sum ms g)
+pub word_sum-same : (p : ℕ) (ms : List (List Bool)) (h g : List Bool → ℤ) → HaveLength p ms → Alike p p h g → CongruentInt p (word_sum ms h) (word_sum ms g)
 word_sum-same p [] h g k e = CongruentInt_refl (pos 0)
 word_sum-same p (w ∷ ms) h g k e = CongruentInt-sum (e w k.0) (word_sum-same p ms h g k.1 e)
 
@@ -244,7 +234,7 @@ additive K p d q x ms a c s fc prime may orbits ca cc ks hs =
     (CongruentInt_of (λ i. sum_value p (x d) (letters-first a c p i) s +ℤ sum_value p (x d) (letters-copies a c p i) s))
     (CongruentInt_trans
     (word_sum-same p ms (norm (λ l. 0) p v) g orbits.long
-    (λ w e. CongruentInt_trans (plain-norm p q (two-or-odd p prime) p v w e) (orbit K fc p d q x a c s prime may ca cc ks (let t = prime.two in omega arith) hs w e)))
+    (λ w e. CongruentInt_trans (plain-norm p q prime.parity p v w e) (orbit K fc p d q x a c s prime may ca cc ks (let t = prime.two in omega arith) hs w e)))
     (CongruentInt_of
     (adds-signed (word_sum ms) (word_sum-sum ms) d (λ w. integral_coboundary (sum_value p (sum_above p d x) (word_cochains a c w)) s)
     ∙ ap (signed d) (adds-coboundary (word_sum ms) (word_sum-sum ms) (λ w t. sum_value p (sum_above p d x) (word_cochains a c w) t) s)))))

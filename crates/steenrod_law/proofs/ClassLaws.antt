@@ -1,50 +1,27 @@
 -- The laws of operations and products on classes of cochains of residues.
-use Rattle.std.proofs.Common.{◌≡◌, ℕ, zero, suc, ◌+◌, ◌*◌, ◌≤◌, ◌-◌, inl, inr, Bool, cond, List, [], ◌∷◌, ◌++◌, map, length, refl, sym, ◌∙◌, ap, arith, subst, ℤ, pos, ◌+ℤ◌, ◌*ℤ◌, neg_ℤ, length-append}
+use Rattle.std.proofs.Common.{◌≡◌, ℕ, zero, suc, ◌+◌, ◌*◌, ◌≤◌, ◌-◌, Bool, List, [], ◌∷◌, ◌++◌, map, length, refl, sym, ◌∙◌, ap, arith, ℤ, pos, ◌+ℤ◌, ◌*ℤ◌, length-append}
 use Rattle.std.specs.List.{AllZip}
 use Rattle.std.proofs.Math.IntN.{pos-*ℤ-pos}
 use Rattle.std.proofs.lemmas.Int.{ints}
-use Rattle.std.proofs.lemmas.Bool.{cases_Bool}
 use Rattle.std.proofs.lemmas.List.{length-map}
 use Rattle.interval_cut_law.proofs.CochainLaws.{naturality_law}
-use Rattle.linear_law.proofs.Names.{Congruent_of, Congruent_trans, from_columns}
-use Rattle.linear_law.specs.Names.{Congruent, IsField, negated, Each, matrix_times, IsSubspace, combination}
-use Rattle.signed_sum.specs.Names.{is_degenerate}
-use Rattle.simplicial_law.proofs.Names.{coboundaries, cocycles, integral_congruence_law, CongruentInt-scale, CongruentInt-sum, CongruentInt_from, CongruentInt_of, CongruentInt_refl, CongruentInt_sym, CongruentInt_trans}
-use Rattle.simplicial_law.specs.Names.{Cochain, HasCoordinates, IsCoboundary, IsCocycle, coboundary, CongruentInt, integral_coboundary, IsSimplex}
-use Rattle.steenrod_law.proofs.Classes.{cocycle-combination, on-classes}
-use Rattle.steenrod_law.proofs.Complexes.{IsNoSimplex, coboundary-extended, coboundary-residues, difference-same, extended-cochain, extended-cocycle, extended-simplex, residue_cochain-empty, residue_cochain-same, simplex_or_none, weak-closed, weak_of_simplex}
-use Rattle.steenrod_law.proofs.Forms.{AllCocycles, Cohomologous, InClass, IsCochain, Part, cup, operations, part_sum, products, products_with}
-use Rattle.steenrod_law.proofs.OperationLaws.{above_one, family_here, prime_here, pulled, residue-none, to_residues, value-same, vertices, whole_operation}
-use Rattle.steenrod_law.proofs.Products.{cup-closed, cup-degree, cup-on-classes}
-use Rattle.steenrod_law.proofs.WordCochains.{coboundary-cochain}
-use Rattle.steenrod_law.specs.Names.{IsWeakSimplex, cochain_products, coefficient_products, cup_product, extended, may_operation, pull_back, residue_cochain, scaled_operation, IsOrbitTable}
+use Rattle.linear_law.proofs.Names.{IsLinearOnClasses, IsSameClass, class_combination, class_matrix, class_of, class_trans, member_of, multiple_in, nothing, on_classes, Congruent_add, Congruent_from, Congruent_of, Congruent_refl, Congruent_scale, Congruent_trans, add-negated, each_map, from_columns}
+use Rattle.linear_law.specs.Names.{AgreesOn, Congruent, IsField, negated, Each, matrix_times, IsSubspace, combination}
+use Rattle.fp_field.specs.Element.{sign_power}
+use Rattle.signed_sum.proofs.Names.{fun_ext}
+use Rattle.signed_sum.specs.Names.{signed}
+pub use Rattle.simplicial_law.proofs.Names.{coboundary-vertex}
+use Rattle.simplicial_law.proofs.Names.{bounds_close, coboundaries, cocycles, CongruentInt-scale, CongruentInt-sum, CongruentInt_of, CongruentInt_refl, CongruentInt_sym, CongruentInt_trans}
+use Rattle.simplicial_law.specs.Names.{AgreesOnSimplices, Cochain, HasCoordinates, IsCoboundary, IsCocycle, coboundary, CongruentInt, integral_coboundary, IsSimplex}
+use Rattle.steenrod_law.proofs.AdditiveMaps.{adds-scale}
+use Rattle.steenrod_law.proofs.Complexes.{coboundary-residues, extended-coboundary, extended-cochain, extended-cocycle, extended-same, residue_cochain-empty, residue_cochain-same, weak-closed, weak_of_simplex}
+use Rattle.steenrod_law.proofs.Forms.{IsWeakFace, cup}
+use Rattle.steenrod_law.proofs.OperationLaws.{above_one, additivity-law, extended-add, extended-scale, family_here, positive_here, prime_here, pulled, pulled-value, residue-none, scaling-law, to_residues, value-same, vertices, whole_operation}
+use Rattle.steenrod_law.proofs.Products.{cup-closed, cup-degree, cup-left, cup-mod, cup-right, left-bound, right-bound}
+use Rattle.steenrod_law.proofs.Representatives.{representatives}
+use Rattle.steenrod_law.proofs.ValuesOnFaces.{operation-mod}
+use Rattle.steenrod_law.specs.Names.{IsWeakSimplex, cochain_products, coefficient_products, cup_product, extended, may_operation, orbit_primitive, orbit_sum, pull_back, residue_cochain, scaled_operation, staircase_sum, IsOrbitTable}
 use Rattle.table_reduction_law.specs.Names.{may_element}
-
--- in degree 0 a coboundary is 0
-pub coboundary-vertex : (p : ℕ) (y : Cochain) (f : List ℕ) → length f ≡ 1 → y [] ≡ 0 → coboundary p y f ≡ 0
-coboundary-vertex p y [] l e = absurd (omega (arith, l))
-coboundary-vertex p y (v ∷ []) l e = omega (arith, e)
-coboundary-vertex p y (v ∷ w ∷ f) l e = absurd (omega (arith, l))
-
--- the multiples of extended cochains
-abbrev pub parts : ℕ → List ℕ → List Cochain → List Part
-parts q [] zs = []
-parts q (c ∷ cs) [] = []
-parts q (c ∷ cs) (z ∷ zs) = record { times = pos c; of = extended q z } ∷ parts q cs zs
-
-parts-sum : (facets : List (List ℕ)) (q : ℕ) (cs : List ℕ) (zs : List Cochain) (f : List ℕ) → IsSimplex facets q f → part_sum (parts q cs zs) f ≡ pos (combination cs zs f)
-parts-sum facets q [] zs f k = refl
-parts-sum facets q (c ∷ cs) [] f k = refl
-parts-sum facets q (c ∷ cs) (z ∷ zs) f k =
-    let a : pos c *ℤ extended q z f ≡ pos (c * z f) = ap (λ y. pos c *ℤ y) (extended-simplex facets q z f k) ∙ pos-*ℤ-pos c (z f) in
-    let b = parts-sum facets q cs zs f k in
-    omega (arith, ints)
-
-pub zip-map : {A X Y : Type 0} (R : A → Y → Type 0) (f : X → Y) (rs : List A) (xs : List X) → AllZip (λ a x. R a (f x)) rs xs → AllZip R rs (map f xs)
-zip-map R f [] [] h = h
-zip-map R f [] (x ∷ xs) h = absurd h
-zip-map R f (a ∷ rs) [] h = absurd h
-zip-map R f (a ∷ rs) (x ∷ xs) h = (h.0, zip-map R f rs xs h.1)
 
 -- combinations of products
 combination-append : (cs ds : List ℕ) (Fs Gs : List Cochain) (s : List ℕ) → length cs ≡ length Fs → combination (cs ++ ds) (Fs ++ Gs) s ≡ combination cs Fs s + combination ds Gs s
@@ -82,155 +59,151 @@ products-length p q k (c ∷ cs) ds (z ∷ zs) ws e g =
     omega arith
 
 module _ (p : ℕ) (field : IsField p) (facets : List (List ℕ)) where
-  parts-cocycles : (q : ℕ) (cs : List ℕ) (zs : List Cochain) → Each (IsCocycle facets q p) zs → AllCocycles (IsWeakSimplex facets) p q (parts q cs zs)
-  parts-cocycles q [] zs h = tt
-  parts-cocycles q (c ∷ cs) [] h = tt
-  parts-cocycles q (c ∷ cs) (z ∷ zs) h = (extended-cocycle facets q p z (above_one p field) h.0, parts-cocycles q cs zs h.1)
-
-  parts-cochain : (q : ℕ) (cs : List ℕ) (zs : List Cochain) → Each (IsCocycle facets q p) zs → IsCochain q (part_sum (parts q cs zs))
-  parts-cochain q cs zs h = (cocycle-combination (IsWeakSimplex facets) p q (parts q cs zs) (parts-cocycles q cs zs h)).cochain
-
-  -- z less its combination, at a simplex
-  rest-same : (q : ℕ) (zs : List Cochain) (z : Cochain) (cs : List ℕ) (f : List ℕ) (b : ℕ) → IsSimplex facets q f → Congruent p (z f + negated p (combination cs zs f)) b →
-      CongruentInt p (extended q z f) (part_sum (parts q cs zs) f +ℤ pos b)
-  rest-same q zs z cs f b s h =
-      let e = extended-simplex facets q z f s in
-      let g = parts-sum facets q cs zs f s in
-      let k = difference-same p (z f) (combination cs zs f) (pos (z f)) (pos (combination cs zs f)) (above_one p field) (CongruentInt_refl (pos (z f))) (CongruentInt_refl (pos (combination cs zs f))) in
-      CongruentInt_from (CongruentInt_trans (CongruentInt_sym k) (integral_congruence_law.whole p (z f + negated p (combination cs zs f)) b h)) (omega (arith, ints))
-
-  nothing-there : (q : ℕ) (zs : List Cochain) (z : Cochain) (cs : List ℕ) (f : List ℕ) (b : ℤ) → Each (IsCocycle facets q p) zs → IsNoSimplex q f → b ≡ pos 0 →
-      extended q z f ≡ part_sum (parts q cs zs) f +ℤ b
-  nothing-there q zs z cs f b cocycles n e =
-      let x = n.zero_there (extended q z) (extended-cochain q z) in
-      let y = n.zero_there (part_sum (parts q cs zs)) (parts-cochain q cs zs cocycles) in
-      omega (arith, ints)
-
-  in_class : (q : ℕ) (zs : List Cochain) (z : Cochain) (cs : List ℕ) → Each (IsCocycle facets q p) zs → HasCoordinates facets q p zs z cs → InClass (IsWeakSimplex facets) p q (parts q cs zs) (extended q z)
-  in_class zero zs z cs cocycles h = record {
-    cocycles = parts-cocycles zero cs zs cocycles;
-    rest = λ f. pos 0;
-    boundary = λ f k. refl;
-    equal = λ f k. elim (simplex_or_none facets zero f k) [
-      | inl s ↦ rest-same zero zs z cs f 0 s (Congruent_trans (h.rest.same.at f s) (Congruent_of (coboundary-vertex p h.rest.below f (let l = s.size in omega arith) h.rest.nothing)))
-      | inr n ↦ CongruentInt_of (nothing-there zero zs z cs f (pos 0) cocycles n refl)
-    ];
-  }
-  in_class (suc m) zs z cs cocycles h =
-      let b : List ℕ → ℤ = integral_coboundary (extended m h.rest.below) in
-      record {
-        cocycles = parts-cocycles (suc m) cs zs cocycles;
-        rest = b;
-        boundary = record { below = extended m h.rest.below; cochain = extended-cochain m h.rest.below; is = λ f k. refl };
-        equal = λ f k. elim (simplex_or_none facets (suc m) f k) [
-          | inl s ↦ CongruentInt_trans (rest-same (suc m) zs z cs f (coboundary p h.rest.below f) s (h.rest.same.at f s))
-              (CongruentInt-sum (CongruentInt_refl (part_sum (parts (suc m) cs zs) f))
-              (CongruentInt_sym (coboundary-extended facets m p h.rest.below f (above_one p field) (let e : suc m ≡ m + 1 = omega arith in subst (λ (j : ℕ). IsSimplex facets j f) e s))))
-          | inr n ↦ CongruentInt_of (nothing-there (suc m) zs z cs f (b f) cocycles n (n.zero_there b (coboundary-cochain m (extended m h.rest.below) (extended-cochain m h.rest.below))))
-        ];
-      }
-
-  -- from cohomologous cochains with whole values
-  is_coboundary : (n k m : ℕ) (a b : List ℕ → ℤ) (G : Cochain) → Cohomologous (IsWeakSimplex facets) p k m a b →
-      ((s : List ℕ) → IsSimplex facets n s → 1 ≤ length s → CongruentInt p (pos (G s)) (a s +ℤ neg_ℤ (b s))) → IsCoboundary facets n p G
-  is_coboundary n k m a b G x g = record {
-    below = residue_cochain p x.by;
-    nothing = residue_cochain-empty p x.by;
-    same = record { at = λ s on. at s on (vertices p field facets n s on) };
-  }
-    where
-      at : (s : List ℕ) → IsSimplex facets n s → 1 ≤ length s → Congruent p (G s) (coboundary p (residue_cochain p x.by) s)
-      at s on h = to_residues p field
-          (CongruentInt_trans (g s on h)
-          (CongruentInt_trans (CongruentInt_from (x.equal s (weak_of_simplex facets n s on) h) (omega (arith, ints)))
-          (coboundary-residues p x.by s (above_one p field))))
-
-  operations-same : (d q : ℕ) (cs : List ℕ) (zs : List Cochain) (s : List ℕ) → 1 ≤ length s →
-      CongruentInt p (pos (combination cs (map (may_operation p d q) zs) s)) (operations p (may_element p d) (parts q cs zs) s)
-  operations-same d q [] zs s h = CongruentInt_refl (pos 0)
-  operations-same d q (c ∷ cs) [] s h = CongruentInt_refl (pos 0)
-  operations-same d q (c ∷ cs) (z ∷ zs) s h =
-      let x : ℕ = may_operation p d q z s in
-      let y : ℕ = combination cs (map (may_operation p d q) zs) s in
-      let m = pos-*ℤ-pos c x in
-      let e : pos (c * x + y) ≡ (pos c *ℤ pos x) +ℤ pos y = omega (arith, ints) in
-      CongruentInt_trans (CongruentInt_of e) (CongruentInt-sum (CongruentInt-scale (pos c) (value-same p field d q z s h)) (operations-same d q cs zs s h))
-
-  linear-may : (d q n : ℕ) (ms : List (List Bool)) (zs : List Cochain) (z : Cochain) (cs : List ℕ) → IsOrbitTable p ms → Each (IsCocycle facets q p) zs → HasCoordinates facets q p zs z cs →
-      IsCoboundary facets n p (λ s. may_operation p d q z s + negated p (combination cs (map (may_operation p d q) zs) s))
-  linear-may d q n ms zs z cs orbits cocycles h =
-      is_coboundary n (suc d) (p * q) (whole_operation p d (extended q z)) (operations p (may_element p d) (parts q cs zs)) (λ s. may_operation p d q z s + negated p (combination cs (map (may_operation p d q) zs) s))
-      (on-classes (IsWeakSimplex facets) p d q (may_element p) ms (extended q z) (parts q cs zs) (weak-closed facets) (prime_here p field) (family_here p field) orbits (in_class q zs z cs cocycles h))
-      (λ s on l. difference-same p (may_operation p d q z s) (combination cs (map (may_operation p d q) zs) s) (whole_operation p d (extended q z) s) (operations p (may_element p d) (parts q cs zs) s) (above_one p field)
-      (value-same p field d q z s l) (operations-same d q cs zs s l))
-
-  -- multiples
-
   spaces : (n : ℕ) → IsSubspace p (IsSimplex facets n) (IsCoboundary facets n p)
   spaces n = coboundaries facets n p (above_one p field)
 
-  multiple : (n c : ℕ) (w v : Cochain) → IsCoboundary facets n p w → ((s : List ℕ) → v s ≡ c * w s) → IsCoboundary facets n p v
-  multiple n c w v h e =
-      (spaces n).alike v (λ s. 0 + c * w s) (record { at = λ s on. Congruent_of (e s ∙ omega arith) }) ((spaces n).plus c (λ s. 0) w (spaces n).zero_in h)
+  -- what sees cochains up to agreement takes coboundaries to members of C, if it does so with those in degrees above 0
+  pub bound-cases : {At : ℕ → List ℕ → Type 0} {C : ℕ → Cochain → Type 0} (in_c : (q : ℕ) → IsSubspace p (At q) (C q)) (F : ℕ → Cochain → Cochain) →
+      ((m : ℕ) (y : Cochain) → y [] ≡ 0 → C (suc m) (F (suc m) (coboundary p y))) → (q : ℕ) →
+      ((v w : Cochain) → AgreesOnSimplices facets q p v w → AgreesOn p (At q) (F q v) (F q w)) → C q (F q (λ t. 0)) → (b : Cochain) → IsCoboundary facets q p b → C q (F q b)
+  bound-cases in_c F exact zero alike nothing b h =
+      (in_c zero).alike (F zero b) (F zero (λ t. 0))
+      (alike b (λ t. 0) (record { at = λ s on. Congruent_trans (h.same.at s on) (Congruent_of (coboundary-vertex p h.below s (let l = on.size in omega arith) h.nothing)) })) nothing
+  bound-cases in_c F exact (suc m) alike nothing b h = (in_c (suc m)).alike (F (suc m) b) (F (suc m) (coboundary p h.below)) (alike b (coboundary p h.below) h.same) (exact m h.below h.nothing)
 
-  combination-scaled : (d c q : ℕ) (cs : List ℕ) (zs : List Cochain) (s : List ℕ) → combination cs (map (scaled_operation p d c q) zs) s ≡ c * combination cs (map (may_operation p d q) zs) s
-  combination-scaled d c q [] zs s = omega arith
-  combination-scaled d c q (e ∷ cs) [] s = omega arith
-  combination-scaled d c q (e ∷ cs) (z ∷ zs) s = let h = combination-scaled d c q cs zs s in omega arith
+  -- the residues F of a map G of cochains with whole values that sees the values on the faces modulo p
+  module _ (F : ℕ → Cochain → Cochain) (G : (List ℕ → ℤ) → List ℕ → ℤ) (same : (q : ℕ) (a : Cochain) (s : List ℕ) → 1 ≤ length s → CongruentInt p (pos (F q a s)) (G (extended q a) s))
+      (faces : (h g : List ℕ → ℤ) (s : List ℕ) → 1 ≤ length s → ((f : List ℕ) → IsWeakFace f s → CongruentInt p (h f) (g f)) → CongruentInt p (G h s) (G g s)) where
+    values-alike : (n q : ℕ) (a b : Cochain) → AgreesOnSimplices facets q p a b → AgreesOnSimplices facets n p (F q a) (F q b)
+    values-alike n q a b k = record {
+      at = λ s on. (
+          let h = vertices p field facets n s on in
+          to_residues p field (CongruentInt_trans (same q a s h)
+          (CongruentInt_trans (faces (extended q a) (extended q b) s h (λ f w. extended-same facets q p a b f k (weak-closed facets f s w (weak_of_simplex facets n s on)))) (CongruentInt_sym (same q b s h)))));
+    }
+
+    values-exact : (n m : ℕ) (y : Cochain) (by : List ℕ → ℤ) → ((s : List ℕ) → IsWeakSimplex facets s → 1 ≤ length s → CongruentInt p (G (integral_coboundary (extended m y)) s) (integral_coboundary by s)) →
+        IsCoboundary facets n p (F (suc m) (coboundary p y))
+    values-exact n m y by e = record {
+      below = residue_cochain p by;
+      nothing = residue_cochain-empty p by;
+      same = record {
+        at = λ s on. (
+            let h = vertices p field facets n s on in
+            let k = weak_of_simplex facets n s on in
+            to_residues p field (CongruentInt_trans (same (suc m) (coboundary p y) s h)
+            (CongruentInt_trans (faces (extended (suc m) (coboundary p y)) (integral_coboundary (extended m y)) s h (λ f w. extended-coboundary facets m p y f (above_one p field) (weak-closed facets f s w k)))
+            (CongruentInt_trans (e s k h) (coboundary-residues p by s (above_one p field))))));
+      };
+    }
+
+    values-linear : (n q : ℕ) → ((s : List ℕ) (h g : List ℕ → ℤ) → G (λ t. h t +ℤ g t) s ≡ G h s +ℤ G g s) → (by : ℕ → Cochain → List ℕ → ℤ) →
+        ((m : ℕ) (y : Cochain) (s : List ℕ) → IsWeakSimplex facets s → 1 ≤ length s → CongruentInt p (G (integral_coboundary (extended m y)) s) (integral_coboundary (by m y) s)) →
+        IsLinearOnClasses p (IsSimplex facets q) (IsSimplex facets n) (IsCocycle facets q p) (IsCoboundary facets q p) (IsCoboundary facets n p) (F q)
+    values-linear n q adds by e = record {
+      alike = values-alike n q;
+      plus = plus;
+      bound = bound-cases (λ j. spaces n) F (λ m y z. values-exact n m y (by m y) (e m y)) q (values-alike n q) (nothing p (above_one p field) (spaces n) (cocycles facets q p (above_one p field)) (F q) (values-alike n q) plus);
+    }
+      where
+        plus : (k : ℕ) (a b : Cochain) → IsCocycle facets q p a → IsCocycle facets q p b → IsSameClass p (IsCoboundary facets n p) (F q (λ t. a t + k * b t)) (λ s. F q a s + k * F q b s)
+        plus k a b za zb = class_of p (above_one p field) (spaces n) (F q (λ t. a t + k * b t)) (λ s. F q a s + k * F q b s) (record {
+          at = λ s on. (
+              let h = vertices p field facets n s on in
+              let sum = ap (λ g. G g s) (fun_ext (λ f. extended-add p field q a (λ t. k * b t) f ∙ ap (λ z. extended q a f +ℤ z) (extended-scale p field q k b f))) in
+              let times = adds-scale (λ g. G g s) (adds s) (pos k) (extended q b) in
+              let split = adds s (extended q a) (λ f. pos k *ℤ extended q b f) in
+              let product = pos-*ℤ-pos k (F q b s) in
+              to_residues p field (CongruentInt_trans (same q (λ t. a t + k * b t) s h)
+              (CongruentInt_trans (CongruentInt_of (sum ∙ split ∙ ap (λ z. G (extended q a) s +ℤ z) times))
+              (CongruentInt_trans (CongruentInt-sum (CongruentInt_sym (same q a s h)) (CongruentInt-scale (pos k) (CongruentInt_sym (same q b s h))))
+              (CongruentInt_of (omega (arith, ints)))))));
+        })
+
+  -- operations
+
+  operation-faces-mod : (d : ℕ) (h g : List ℕ → ℤ) (s : List ℕ) → 1 ≤ length s → ((f : List ℕ) → IsWeakFace f s → CongruentInt p (h f) (g f)) → CongruentInt p (whole_operation p d h s) (whole_operation p d g s)
+  operation-faces-mod d h g s l e = operation-mod p d (may_element p d) h g s ((family_here p field).terms d) (positive_here p field) l e
+
+  -- operations see the values on simplices modulo p alone
+  pub operation-alike : (d c q n : ℕ) (a b : Cochain) → AgreesOnSimplices facets q p a b → AgreesOnSimplices facets n p (scaled_operation p d c q a) (scaled_operation p d c q b)
+  operation-alike d c q n a b h = record { at = λ s on. Congruent_scale c ((values-alike (may_operation p d) (whole_operation p d) (value-same p field d) (operation-faces-mod d) n q a b h).at s on) }
+
+  pub operation-linear : (d c q n : ℕ) (ms : List (List Bool)) → IsOrbitTable p ms →
+      IsLinearOnClasses p (IsSimplex facets q) (IsSimplex facets n) (IsCocycle facets q p) (IsCoboundary facets q p) (IsCoboundary facets n p) (scaled_operation p d c q)
+  operation-linear d c q n ms orbits = record {
+    alike = operation-alike d c q n;
+    plus = plus;
+    bound = bound-cases (λ j. spaces n) (scaled_operation p d c) exact q (operation-alike d c q n) (nothing p (above_one p field) (spaces n) (cocycles facets q p (above_one p field)) (scaled_operation p d c q) (operation-alike d c q n) plus);
+  }
+    where
+      plus : (k : ℕ) (a b : Cochain) → IsCocycle facets q p a → IsCocycle facets q p b →
+          IsSameClass p (IsCoboundary facets n p) (scaled_operation p d c q (λ t. a t + k * b t)) (λ s. scaled_operation p d c q a s + k * scaled_operation p d c q b s)
+      plus k a b za zb =
+          let y : Cochain = orbit_primitive p d q ms a (λ t. k * b t) in
+          let sum = additivity-law p field facets d q n ms a (λ t. k * b t) orbits za (multiple_in (cocycles facets q p (above_one p field)) k b zb) in
+          (spaces n).alike (λ s. scaled_operation p d c q (λ t. a t + k * b t) s + negated p (scaled_operation p d c q a s + k * scaled_operation p d c q b s)) (λ s. (c * sign_power p d) * coboundary p y s)
+          (record {
+            at = λ s on.
+                Congruent_from
+                (Congruent_add (Congruent_scale c (sum.at s on))
+                (Congruent_add (Congruent_scale c (scaling-law p field d q k b s (vertices p field facets n s on)))
+                (add-negated p (scaled_operation p d c q a s + k * scaled_operation p d c q b s) (above_one p field))))
+                (omega arith);
+          })
+          (multiple_in (spaces n) (c * sign_power p d) (coboundary p y)
+          (record { below = y; nothing = residue_cochain-empty p (orbit_sum p d (may_element p) ms (extended q a) (extended q (λ t. k * b t))); same = record { at = λ s on. Congruent_refl (coboundary p y s) } }))
+
+      exact : (m : ℕ) (y : Cochain) → y [] ≡ 0 → IsCoboundary facets n p (scaled_operation p d c (suc m) (coboundary p y))
+      exact m y z =
+          multiple_in (spaces n) c (may_operation p d (suc m) (coboundary p y))
+          (values-exact (may_operation p d) (whole_operation p d) (value-same p field d) (operation-faces-mod d) n m y (staircase_sum p m d (may_element p) (extended m y))
+          (λ s k h. representatives p d m (may_element p) (extended m y) s (prime_here p field) (family_here p field) (extended-cochain m y) h))
 
   pub linearity-law : (d c q n : ℕ) (ms : List (List Bool)) (zs : List Cochain) (z : Cochain) (cs : List ℕ) → IsOrbitTable p ms → Each (IsCocycle facets q p) zs → HasCoordinates facets q p zs z cs →
       IsCoboundary facets n p (λ s. scaled_operation p d c q z s + negated p (combination cs (map (scaled_operation p d c q) zs) s))
-  linearity-law d c q n ms zs z cs orbits cocycles h =
-      multiple n c (λ s. may_operation p d q z s + negated p (combination cs (map (may_operation p d q) zs) s))
-      (λ s. scaled_operation p d c q z s + negated p (combination cs (map (scaled_operation p d c q) zs) s))
-      (linear-may d q n ms zs z cs orbits cocycles h)
-      (λ s. let e = combination-scaled d c q cs zs s in ap (λ j. c * may_operation p d q z s + (p - 1) * j) e ∙ omega arith)
-
-  -- matrices
+  linearity-law d c q n ms zs z cs orbits =
+      on_classes p (above_one p field) (spaces n) (cocycles facets q p (above_one p field)) (bounds_close facets q p (above_one p field)) (scaled_operation p d c q) (operation-linear d c q n ms orbits) zs z cs
 
   pub matrix-law : (d c q n : ℕ) (ms : List (List Bool)) (zs ws : List Cochain) (As : List (List ℕ)) → IsOrbitTable p ms → Each (IsCocycle facets q p) zs →
       AllZip (λ column z. HasCoordinates facets n p ws (scaled_operation p d c q z) column) As zs → (z : Cochain) (cs : List ℕ) → HasCoordinates facets q p zs z cs →
       HasCoordinates facets n p ws (scaled_operation p d c q z) (matrix_times p (length ws) As cs)
-  matrix-law d c q n ms zs ws As orbits cocycles h z cs k =
-      from_columns p (above_one p field) (spaces n) ws (map (scaled_operation p d c q) zs) As cs (scaled_operation p d c q z) (k.count ∙ sym (length-map zs (scaled_operation p d c q)))
-      (zip-map (λ column F. HasCoordinates facets n p ws F column) (scaled_operation p d c q) As zs h) (linearity-law d c q n ms zs z cs orbits cocycles k)
+  matrix-law d c q n ms zs ws As orbits =
+      class_matrix p (above_one p field) (spaces n) (cocycles facets q p (above_one p field)) (bounds_close facets q p (above_one p field)) (scaled_operation p d c q) (operation-linear d c q n ms orbits) zs ws As
 
   -- products
 
   cup-same : (q k : ℕ) (a b : Cochain) (s : List ℕ) → 1 ≤ length s → CongruentInt p (pos (cup_product p q k a b s)) (cup (extended q a) (extended k b) s)
   cup-same q k a b s h = residue_cochain-same p (cup (extended q a) (extended k b)) s (above_one p field) h
 
-  products-with-same : (q k : ℕ) (a : Cochain) (ds : List ℕ) (ws : List Cochain) (s : List ℕ) → 1 ≤ length s →
-      CongruentInt p (pos (combination ds (map (cup_product p q k a) ws) s)) (products_with (extended q a) (parts k ds ws) s)
-  products-with-same q k a [] ws s h = CongruentInt_refl (pos 0)
-  products-with-same q k a (c ∷ ds) [] s h = CongruentInt_refl (pos 0)
-  products-with-same q k a (c ∷ ds) (w ∷ ws) s h =
-      let x : ℕ = cup_product p q k a w s in
-      let y : ℕ = combination ds (map (cup_product p q k a) ws) s in
-      let m = pos-*ℤ-pos c x in
-      let e : pos (c * x + y) ≡ (pos c *ℤ pos x) +ℤ pos y = omega (arith, ints) in
-      CongruentInt_trans (CongruentInt_of e) (CongruentInt-sum (CongruentInt-scale (pos c) (cup-same q k a w s h)) (products-with-same q k a ds ws s h))
+  left-linear : (q k n : ℕ) (w : Cochain) → IsCocycle facets k p w →
+      IsLinearOnClasses p (IsSimplex facets q) (IsSimplex facets n) (IsCocycle facets q p) (IsCoboundary facets q p) (IsCoboundary facets n p) (λ a. cup_product p q k a w)
+  left-linear q k n w zw =
+      values-linear (λ j a. cup_product p j k a w) (λ h s. cup h (extended k w) s) (λ j a s h. cup-same j k a w s h)
+      (λ h g s l e. cup-mod p h (extended k w) g (extended k w) s l e (λ f v. CongruentInt_refl (extended k w f)))
+      n q (cup-left (extended k w)) (λ m y. cup (extended m y) (extended k w))
+      (λ m y s on h. left-bound (IsWeakSimplex facets) p m k (extended m y) (extended k w) s (weak-closed facets) (extended-cochain m y) (extended-cocycle facets k p w (above_one p field) zw) on h)
 
-  products-same : (q k : ℕ) (cs : List ℕ) (zs : List Cochain) (ds : List ℕ) (ws : List Cochain) (s : List ℕ) → 1 ≤ length s →
-      CongruentInt p (pos (combination cs (map (λ a. combination ds (map (cup_product p q k a) ws)) zs) s)) (products (parts q cs zs) (parts k ds ws) s)
-  products-same q k [] zs ds ws s h = CongruentInt_refl (pos 0)
-  products-same q k (c ∷ cs) [] ds ws s h = CongruentInt_refl (pos 0)
-  products-same q k (c ∷ cs) (z ∷ zs) ds ws s h =
-      let x : ℕ = combination ds (map (cup_product p q k z) ws) s in
-      let y : ℕ = combination cs (map (λ a. combination ds (map (cup_product p q k a) ws)) zs) s in
-      let m = pos-*ℤ-pos c x in
-      let e : pos (c * x + y) ≡ (pos c *ℤ pos x) +ℤ pos y = omega (arith, ints) in
-      CongruentInt_trans (CongruentInt_of e) (CongruentInt-sum (CongruentInt-scale (pos c) (products-with-same q k z ds ws s h)) (products-same q k cs zs ds ws s h))
+  right-linear : (q k n : ℕ) (a : Cochain) → IsCocycle facets q p a →
+      IsLinearOnClasses p (IsSimplex facets k) (IsSimplex facets n) (IsCocycle facets k p) (IsCoboundary facets k p) (IsCoboundary facets n p) (cup_product p q k a)
+  right-linear q k n a za =
+      values-linear (λ j w. cup_product p q j a w) (λ h s. cup (extended q a) h s) (λ j w s h. cup-same q j a w s h)
+      (λ h g s l e. cup-mod p (extended q a) h (extended q a) g s l (λ f v. CongruentInt_refl (extended q a f)) e)
+      n k (cup-right (extended q a)) (λ m y t. signed q (cup (extended q a) (extended m y) t))
+      (λ m y s on h. right-bound (IsWeakSimplex facets) p q m (extended q a) (extended m y) s (weak-closed facets) (extended-cocycle facets q p a (above_one p field) za) (extended-cochain m y) on h)
 
   pub bilinear-law : (q k n : ℕ) (zs ws : List Cochain) (z w : Cochain) (cs ds : List ℕ) → Each (IsCocycle facets q p) zs → Each (IsCocycle facets k p) ws →
       HasCoordinates facets q p zs z cs → HasCoordinates facets k p ws w ds →
       IsCoboundary facets n p (λ s. cup_product p q k z w s + negated p (combination cs (map (λ a. combination ds (map (cup_product p q k a) ws)) zs) s))
   bilinear-law q k n zs ws z w cs ds cz cw hz hw =
-      is_coboundary n 1 (q + k) (cup (extended q z) (extended k w)) (products (parts q cs zs) (parts k ds ws))
-      (λ s. cup_product p q k z w s + negated p (combination cs (map (λ a. combination ds (map (cup_product p q k a) ws)) zs) s))
-      (cup-on-classes (IsWeakSimplex facets) p q k (extended q z) (extended k w) (parts q cs zs) (parts k ds ws) (weak-closed facets) (in_class q zs z cs cz hz) (in_class k ws w ds cw hw))
-      (λ s on l. difference-same p (cup_product p q k z w s) (combination cs (map (λ a. combination ds (map (cup_product p q k a) ws)) zs) s) (cup (extended q z) (extended k w) s) (products (parts q cs zs) (parts k ds ws) s) (above_one p field)
-      (cup-same q k z w s l) (products-same q k cs zs ds ws s l))
+      let large = above_one p field in
+      let left : Cochain → Cochain = λ a. cup_product p q k a w in
+      let right : Cochain → Cochain = λ a. combination ds (map (cup_product p q k a) ws) in
+      let zw = member_of p large (spaces n) (cocycles facets k p large) (bounds_close facets k p large) ws w ds cw hw in
+      class_trans p large (spaces n) (cup_product p q k z w) (combination cs (map left zs)) (combination cs (map right zs))
+      (on_classes p large (spaces n) (cocycles facets q p large) (bounds_close facets q p large) left (left-linear q k n w zw) zs z cs cz hz)
+      (class_combination p large (spaces n) left right cs zs
+      (each_map (λ a za. on_classes p large (spaces n) (cocycles facets k p large) (bounds_close facets k p large) (cup_product p q k a) (right-linear q k n a za) ws w ds cw hw) zs cz))
 
   pub product-matrix : (q k n : ℕ) (zs ws us : List Cochain) (As : List (List ℕ)) → Each (IsCocycle facets q p) zs → Each (IsCocycle facets k p) ws →
       AllZip (λ column u. HasCoordinates facets n p us u column) As (cochain_products p q k zs ws) → (z w : Cochain) (cs ds : List ℕ) → HasCoordinates facets q p zs z cs → HasCoordinates facets k p ws w ds →
@@ -257,18 +230,9 @@ module _ (p : ℕ) (field : IsField p) (facets : List (List ℕ)) where
       ((cup-degree q k (suc (q + k)) (extended q a) (extended k b) (extended-cochain q a) (extended-cochain k b) refl).other s (vertices p field facets n s on) (λ e. ne (omega arith)))
 
 pub pull_back-product : (p : ℕ) → IsField p → (f : ℕ → ℕ) (q k : ℕ) (a b : Cochain) (s : List ℕ) → 1 ≤ length s → Congruent p (cup_product p q k (pull_back f a) (pull_back f b) s) (pull_back f (cup_product p q k a b) s)
-pull_back-product p field f q k a b s h = elim (cases_Bool (is_degenerate (map f s))) [
-  | inl e ↦ to_residues p field
-      (CongruentInt_trans here (CongruentInt_of
-      ((cup-degree q k (suc (q + k)) (extended q a) (extended k b) (extended-cochain q a) (extended-cochain k b) refl).plain (map f s) e
-      ∙ ap pos (sym (ap (λ t. cond t 0 (cup_product p q k a b (map f s))) e)))))
-  | inr e ↦ to_residues p field
-      (CongruentInt_trans here (CongruentInt_trans (CongruentInt_sym (cup-same p field [] q k a b (map f s) (let l = length-map s f in omega arith)))
-      (CongruentInt_of (ap pos (sym (ap (λ t. cond t 0 (cup_product p q k a b (map f s))) e))))))
-]
-  where
-    here : CongruentInt p (pos (cup_product p q k (pull_back f a) (pull_back f b) s)) (cup (extended q a) (extended k b) (map f s))
-    here =
-        CongruentInt_trans (cup-same p field [] q k (pull_back f a) (pull_back f b) s h)
-        (CongruentInt_of ((λ i. cup (λ g. sym (pulled f q a g) i) (λ g. sym (pulled f k b g) i) s)
-        ∙ sym (naturality_law f 2 (1 ∷ 2 ∷ []) s (extended q a ∷ extended k b ∷ []) h (omega arith))))
+pull_back-product p field f q k a b s h =
+    pulled-value p field f (cup_product p q k a b) (cup (extended q a) (extended k b)) (cup_product p q k (pull_back f a) (pull_back f b) s) s
+    (CongruentInt_trans (cup-same p field [] q k (pull_back f a) (pull_back f b) s h)
+    (CongruentInt_of ((λ i. cup (λ g. sym (pulled f q a g) i) (λ g. sym (pulled f k b g) i) s) ∙ sym (naturality_law f 2 (1 ∷ 2 ∷ []) s (extended q a ∷ extended k b ∷ []) h (omega arith)))))
+    ((cup-degree q k (suc (q + k)) (extended q a) (extended k b) (extended-cochain q a) (extended-cochain k b) refl).plain (map f s))
+    (λ e. CongruentInt_sym (cup-same p field [] q k a b (map f s) (let l = length-map s f in omega arith)))

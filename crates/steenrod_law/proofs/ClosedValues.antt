@@ -9,7 +9,6 @@ use Rattle.simplicial_law.specs.Names.{CongruentInt, integral_coboundary}
 use Rattle.linear_law.proofs.Names.{length-copies}
 use Rattle.steenrod_law.proofs.AdditiveMaps.{adds-zero}
 use Rattle.steenrod_law.proofs.Forms.{AreTerms, IsCochain, IsFaceClosed, IsIntegralCocycle, IsMayFamily, IsPrime, SurjectionTerm, boundary_over, operation_of, value_over}
-use Rattle.steenrod_law.proofs.Primes.{two-or-odd}
 use Rattle.steenrod_law.proofs.Staircase.{top-step}
 use Rattle.steenrod_law.proofs.ValuesOnFaces.{value-none-at}
 use Rattle.steenrod_law.proofs.WordBoundary.{letters-copies, letters-normalized, relation, relation-first, some, sum-law}
@@ -51,7 +50,7 @@ boundary-top p (suc m) q x a s prime may ca hs =
     (relation p (λ l. q) a a ca ca s le hs x may m (copies p true) (length-copies p true))
     (CongruentInt_trans
     (CongruentInt_of (ap (λ j. step (λ l. q) p (suc m) g (copies j true)) (sym size)))
-    (top-step p (λ l. q) (two-or-odd p prime) (p - 1) size g (suc m)))
+    (top-step p (λ l. q) prime.parity (p - 1) size g (suc m)))
 
 -- the operation of a cocycle is closed
 pub closed : (K : List ℕ → Type 0) (p d q : ℕ) (x : ℕ → List SurjectionTerm) (a : List ℕ → ℤ) (s : List ℕ) → IsFaceClosed K → IsPrime p → IsMayFamily p x → IsIntegralCocycle K p q a → K s → 1 ≤ length s →

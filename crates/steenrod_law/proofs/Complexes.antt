@@ -4,12 +4,12 @@ use Rattle.std.proofs.Math.Nat.{zero-mod}
 use Rattle.std.proofs.lemmas.Int.{ints}
 use Rattle.std.proofs.lemmas.Bool.{cases_Bool, cases_eq}
 use native.Mathlib.Decide.{ℕ_discrete}
-use Rattle.linear_law.proofs.Names.{Congruent_mod}
+use Rattle.linear_law.proofs.Names.{Congruent_mod, each_map}
 use Rattle.linear_law.specs.Names.{negated, Among, Each, IsAscending}
 use Rattle.signed_sum.proofs.Names.{fun_ext}
 use Rattle.signed_sum.specs.Names.{is_degenerate, unless_empty, without_one}
 use Rattle.simplicial_law.proofs.Names.{integral_coboundary_law, integral_congruence_law, negated_whole, CongruentInt-neg, CongruentInt-sum, CongruentInt_of, CongruentInt_refl, CongruentInt_sym, CongruentInt_trans}
-use Rattle.simplicial_law.specs.Names.{Cochain, IsCocycle, coboundary, CongruentInt, integral_coboundary, IsSimplex}
+use Rattle.simplicial_law.specs.Names.{AgreesOnSimplices, Cochain, IsCocycle, coboundary, CongruentInt, integral_coboundary, IsSimplex}
 use Rattle.steenrod_law.proofs.Forms.{IsCochain, IsFaceClosed, IsIntegralCocycle, IsWeakFace, drop, none, take}
 use Rattle.steenrod_law.proofs.WordCochains.{coboundary-cochain}
 use Rattle.steenrod_law.specs.Names.{IsNondecreasing, IsWeakSimplex, extended, residue, residue_cochain}
@@ -32,22 +32,14 @@ weak-closed facets f s w k = record {
   within = Each-weak (λ v. Among v k.facet) f s w k.within;
 }
 
-Each-le : (v : ℕ) (vs : List ℕ) → Each (λ w. v < w) vs → Each (λ w. v ≤ w) vs
-Each-le v [] h = tt
-Each-le v (w ∷ vs) h = (let k = h.0 in omega arith, Each-le v vs h.1)
-
 rising-ascending : (s : List ℕ) → IsAscending s → IsNondecreasing s
 rising-ascending [] h = tt
-rising-ascending (v ∷ vs) h = (Each-le v vs h.0, rising-ascending vs h.1)
+rising-ascending (v ∷ vs) h = (each_map (λ w k. omega arith) vs h.0, rising-ascending vs h.1)
 
 pub weak_of_simplex : (facets : List (List ℕ)) (n : ℕ) (s : List ℕ) → IsSimplex facets n s → IsWeakSimplex facets s
 weak_of_simplex facets n s k = record { rising = rising-ascending s k.ascending; facet = k.facet; listed = k.listed; within = k.within }
 
 -- a rising list with no equal neighbours is ascending
-Each-lt : (v w : ℕ) (vs : List ℕ) → v < w → Each (λ u. w ≤ u) vs → Each (λ u. v < u) vs
-Each-lt v w [] l h = tt
-Each-lt v w (u ∷ vs) l h = (let k = h.0 in omega arith, Each-lt v w vs l h.1)
-
 ascending_of : (s : List ℕ) → IsNondecreasing s → is_degenerate s ≡ false → IsAscending s
 ascending_of [] h d = tt
 ascending_of (v ∷ []) h d = (tt, tt)
@@ -57,7 +49,7 @@ ascending_of (v ∷ w ∷ vs) h d = go (eqb v w) refl d (ascending_of (w ∷ vs)
     go true e q ih = absurd (cc)
     go false e q ih =
         let l : v < w = (let k = h.0.0 in elim (cases_eq v w) [ inl z ↦ absurd (let y : eqb v w ≡ true = (let t : eqb w w ≡ true = eq-eqb w w refl in subst (λ (j : ℕ). eqb j w ≡ true) (sym z) t) in cc) | inr n ↦ omega (arith, k, n) ]) in
-        ((l, Each-lt v w vs l h.1.0), ih q)
+        ((l, each_map (λ u k. omega arith) vs h.1.0), ih q)
 
 pub simplex_of_weak : (facets : List (List ℕ)) (n : ℕ) (f : List ℕ) → IsWeakSimplex facets f → length f ≡ suc n → is_degenerate f ≡ false → IsSimplex facets n f
 simplex_of_weak facets n f k l d = record { ascending = ascending_of f k.rising d; size = omega (arith, l); facet = k.facet; listed = k.listed; within = k.within }
@@ -102,6 +94,13 @@ simplex_or_none facets q f k = elim (ℕ_discrete (length f) (suc q)) [
 
 pub extended-simplex : (facets : List (List ℕ)) (q : ℕ) (a : Cochain) (s : List ℕ) → IsSimplex facets q s → extended q a s ≡ pos (a s)
 extended-simplex facets q a s k = extended-there q a s (let z = k.size in omega arith) (ascending-plain s k.ascending)
+
+pub extended-same : (facets : List (List ℕ)) (q p : ℕ) (a b : Cochain) (f : List ℕ) → AgreesOnSimplices facets q p a b → IsWeakSimplex facets f → CongruentInt p (extended q a f) (extended q b f)
+extended-same facets q p a b f h k = elim (simplex_or_none facets q f k) [
+  | inl s ↦ CongruentInt_trans (CongruentInt_of (extended-simplex facets q a f s))
+      (CongruentInt_trans (integral_congruence_law.whole p (a f) (b f) (h.at f s)) (CongruentInt_of (sym (extended-simplex facets q b f s))))
+  | inr n ↦ CongruentInt_of (n.zero_there (extended q a) (extended-cochain q a) ∙ sym (n.zero_there (extended q b) (extended-cochain q b)))
+]
 
 -- functions that agree on the faces of an ascending list have the same alternating sum over them
 faces-agree : (f : List ℕ) (h g : List ℕ → ℤ) → IsAscending f →

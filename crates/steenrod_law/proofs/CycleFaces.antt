@@ -4,15 +4,13 @@ use native.Mathlib.Decide.{ℕ_discrete}
 use Rattle.std.proofs.Math.IntN.{zero-*ℤ, *ℤ-zero, *ℤ_comm}
 use Rattle.std.proofs.lemmas.List.{length-map}
 use Rattle.interval_cut_law.proofs.CochainLaws.{cut_sum-signed}
-use Rattle.interval_cut_law.proofs.GapWords.{less-yes}
 use Rattle.interval_cut_law.proofs.Relabellings.{relabelling_law}
 use Rattle.interval_cut_law.specs.Names.{cut_faces, cut_sum, cuts, sign_exponent, vertex_at, operation_value, value_product, degrees_passed, exchange_exponent, face_at, relabelled_faces}
-use Rattle.signed_sum.proofs.Names.{less-no, occurs-01, occurs-cons, occurs-later, occurs-mid, mul_assoc, signed-signed, signed-zero}
+use Rattle.signed_sum.proofs.Names.{less-no, occurs-01, mul_assoc, signed-zero, less-yes, length-numbers_from}
 use Rattle.signed_sum.specs.Names.{less, numbers_from, occurs, signed, total}
 use Rattle.simplicial_law.specs.Names.{HasDegree, HaveDegrees, degree}
 use Rattle.surjection_law.specs.Names.{IsOnto, IsRelabelling}
-use Rattle.table_reduction_law.proofs.Permutations.{moves-cycle, uncycle}
-use Rattle.table_reduction_law.proofs.ReductionBoundary.{numbers_from-length}
+use Rattle.table_reduction_law.proofs.Permutations.{map-in, map-within, moves-cycle, uncycle}
 use Rattle.table_reduction_law.specs.Names.{cycle}
 
 cycle-last : (p : ℕ) → cycle p p ≡ 1
@@ -28,22 +26,6 @@ uncycle-other : (p v : ℕ) → (v ≡ 1 → ⊥) → uncycle p v ≡ pred v
 uncycle-other p v n = ap (λ t. cond t p (pred v)) (ne_eqb v 1 n)
 
 -- a turned surjection takes the same values
-has-map : (t : ℕ → ℕ) (w : ℕ) (u : List ℕ) → occurs w u ≡ 1 → occurs (t w) (map t u) ≡ 1
-has-map t w [] h = absurd (omega (arith, h))
-has-map t w (v ∷ u) h =
-    elim (occurs-cons w v u) [
-      | inl e ↦ ap (λ j. occurs j (t v ∷ map t u)) (ap t e) ∙ occurs-mid (t v) [] (map t u)
-      | inr e ↦ occurs-later (t w) (t v ∷ []) (map t u) (has-map t w u (sym e ∙ h))
-    ]
-
-pub map-in : (t : ℕ → ℕ) (ks : List ℕ) (v : ℕ) (u : List ℕ) → ((w : ℕ) → occurs w u ≡ 1 → occurs (t w) ks ≡ 1) → occurs v (map t u) ≡ 1 → occurs v ks ≡ 1
-map-in t ks v [] s h = absurd (omega (arith, h))
-map-in t ks v (w ∷ u) s h =
-    elim (occurs-cons v (t w) (map t u)) [
-      | inl e ↦ ap (λ j. occurs j ks) e ∙ s w (occurs-mid w [] u)
-      | inr e ↦ map-in t ks v u (λ z y. s z (occurs-later z (w ∷ []) u y)) (sym e ∙ h)
-    ]
-
 pub onto-cycle : (p : ℕ) (u : List ℕ) → 1 ≤ p → IsOnto p u → IsOnto p (map (cycle p) u)
 onto-cycle p u le onto v = go (occurs-01 v (map (cycle p) u)) (occurs-01 v (numbers_from 1 p))
   where
@@ -51,10 +33,10 @@ onto-cycle p u le onto v = go (occurs-01 v (map (cycle p) u)) (occurs-01 v (numb
     mv = moves-cycle p
 
     up : occurs v (map (cycle p) u) ≡ 1 → occurs v (numbers_from 1 p) ≡ 1
-    up h = map-in (cycle p) (numbers_from 1 p) v u (λ w y. mv.there w (sym (onto w) ∙ y)) h
+    up h = map-within p (cycle p) (uncycle p) v u mv (λ w y. sym (onto w) ∙ y) h
 
     down : occurs v (numbers_from 1 p) ≡ 1 → occurs v (map (cycle p) u) ≡ 1
-    down h = ap (λ j. occurs j (map (cycle p) u)) (sym (mv.back_there v h)) ∙ has-map (cycle p) (uncycle p v) u (onto (uncycle p v) ∙ mv.back v h)
+    down h = ap (λ j. occurs j (map (cycle p) u)) (sym (mv.back_there v h)) ∙ map-in (cycle p) (uncycle p v) u (onto (uncycle p v) ∙ mv.back v h)
 
     go : (occurs v (map (cycle p) u) ≡ 0) ⊎ (occurs v (map (cycle p) u) ≡ 1) → (occurs v (numbers_from 1 p) ≡ 0) ⊎ (occurs v (numbers_from 1 p) ≡ 1) → occurs v (map (cycle p) u) ≡ occurs v (numbers_from 1 p)
     go (inl a) (inl b) = a ∙ sym b
@@ -82,7 +64,7 @@ moved-cycle gs f =
     let p : ℕ = suc (length gs) in
     (λ i. (ap (face_at (gs ++ (f ∷ []))) (uncycle-first p) ∙ nth-mid gs f []) i ∷ pick-up p [] gs f 0 refl i)
 
-face_degrees : List (List ℕ) → ℕ
+abbrev pub face_degrees : List (List ℕ) → ℕ
 face_degrees [] = 0
 face_degrees (g ∷ gs) = degree g + face_degrees gs
 
@@ -98,7 +80,6 @@ passing-cycle p m b (g ∷ gs) f e h l =
     omega arith
 
 turned-cycle : (p b : ℕ) (gs : List (List ℕ)) (f : List ℕ) → b + length gs ≡ p → 1 ≤ b → exchange_exponent (cycle p) b (gs ++ (f ∷ [])) ≡ face_degrees gs * degree f
-unfolding face_degrees
 turned-cycle p b [] f e h = omega arith
 turned-cycle p b (g ∷ gs) f e h =
     let q : cycle p b ≡ suc b = cycle-other p b (λ z. absurd (omega arith)) in
@@ -119,67 +100,45 @@ abbrev pub sum_of : List ℕ → ℕ
 sum_of [] = 0
 sum_of (q ∷ qs) = q + sum_of qs
 
--- where the product is not nothing, the faces have the degrees of the cochains
-sign-one : (q m : ℕ) (c : List ℕ → ℤ) (f : List ℕ) (z : ℤ) → HasDegree q c → signed (m * degree f) (z *ℤ c f) ≡ signed (m * q) (z *ℤ c f)
-sign-one q m c f z d = go (ℕ_discrete (length f) (suc q))
-  where
-    go : Dec (length f ≡ suc q) → signed (m * degree f) (z *ℤ c f) ≡ signed (m * q) (z *ℤ c f)
-    go (yes e) = ap (λ j. signed (m * pred j) (z *ℤ c f)) e
-    go (no n) =
-        let y : z *ℤ c f ≡ pos 0 = ap (λ j. z *ℤ j) (d.other f n) ∙ *ℤ-zero z in
-        ap (signed (m * degree f)) y ∙ signed-zero (m * degree f) ∙ sym (signed-zero (m * q)) ∙ sym (ap (signed (m * q)) y)
+-- the places of faces
+abbrev pub counts : List (List ℕ) → ℕ
+counts [] = 0
+counts (f ∷ fs) = length f + counts fs
 
-sign-all : (qs : List ℕ) (cs : List (List ℕ → ℤ)) (gs : List (List ℕ)) (m : ℕ) (z : ℤ) → HaveDegrees qs cs → signed (m * face_degrees gs) (z *ℤ value_product cs gs) ≡ signed (m * sum_of qs) (z *ℤ value_product cs gs)
-unfolding face_degrees
-sign-all [] [] [] m z d = refl
-sign-all [] [] (g ∷ gs) m z d = ap (signed (m * (degree g + face_degrees gs))) (*ℤ-zero z) ∙ signed-zero (m * (degree g + face_degrees gs)) ∙ sym (signed-zero (m * 0)) ∙ sym (ap (signed (m * 0)) (*ℤ-zero z))
-sign-all [] (a ∷ cs) gs m z d = absurd d
-sign-all (q ∷ qs) [] gs m z d = absurd d
-sign-all (q ∷ qs) (a ∷ cs) [] m z d = ap (signed (m * 0)) (*ℤ-zero z) ∙ signed-zero (m * 0) ∙ sym (signed-zero (m * (q + sum_of qs))) ∙ sym (ap (signed (m * (q + sum_of qs))) (*ℤ-zero z))
-sign-all (q ∷ qs) (a ∷ cs) (g ∷ gs) m z d =
-    let x : ℤ = value_product cs gs in
-    let y : ℤ = z *ℤ (a g *ℤ x) in
-    let e1 : m * (degree g + face_degrees gs) ≡ m * degree g + m * face_degrees gs = omega arith in
-    let e2 : m * q + m * sum_of qs ≡ m * (q + sum_of qs) = omega arith in
-    let ih = sign-all qs cs gs m (z *ℤ a g) d.1 in
-    let s1 : signed (m * face_degrees gs) y ≡ signed (m * sum_of qs) y = ap (signed (m * face_degrees gs)) (sym (mul_assoc z (a g) x)) ∙ ih ∙ ap (signed (m * sum_of qs)) (mul_assoc z (a g) x) in
-    let sw : (z *ℤ x) *ℤ a g ≡ y = mul_assoc z x (a g) ∙ ap (λ j. z *ℤ j) (*ℤ_comm x (a g)) in
-    let s2 : signed (m * degree g) y ≡ signed (m * q) y = ap (signed (m * degree g)) (sym sw) ∙ sign-one q m a g (z *ℤ x) d.0 ∙ ap (signed (m * q)) sw in
-    ap (λ j. signed j y) e1
-    ∙ sym (signed-signed (m * degree g) (m * face_degrees gs) y)
-    ∙ ap (signed (m * degree g)) s1
-    ∙ signed-signed (m * degree g) (m * sum_of qs) y
-    ∙ ap (λ j. signed j y) swap
-    ∙ sym (signed-signed (m * sum_of qs) (m * degree g) y)
-    ∙ ap (signed (m * sum_of qs)) s2
-    ∙ signed-signed (m * sum_of qs) (m * q) y
-    ∙ ap (λ j. signed j y) swap2
-    ∙ ap (λ j. signed j y) e2
-  where
-    swap : m * degree g + m * sum_of qs ≡ m * sum_of qs + m * degree g
-    swap = omega arith
-
-    swap2 : m * sum_of qs + m * q ≡ m * q + m * sum_of qs
-    swap2 = omega arith
+-- the product is nothing, or the faces have the degrees of the cochains
+pub degrees-or-zero : (qs : List ℕ) (cs : List (List ℕ → ℤ)) (gs : List (List ℕ)) → HaveDegrees qs cs → (value_product cs gs ≡ pos 0) ⊎ ((face_degrees gs ≡ sum_of qs) × (counts gs ≡ sum_of qs + length qs))
+degrees-or-zero [] [] [] d = inr (refl, refl)
+degrees-or-zero [] [] (g ∷ gs) d = inl refl
+degrees-or-zero [] (a ∷ cs) gs d = absurd d
+degrees-or-zero (q ∷ qs) [] gs d = absurd d
+degrees-or-zero (q ∷ qs) (a ∷ cs) [] d = inl refl
+degrees-or-zero (q ∷ qs) (a ∷ cs) (g ∷ gs) d = elim (ℕ_discrete (length g) (suc q)) [
+  | no n ↦ inl (ap (λ z. z *ℤ value_product cs gs) (d.0.other g n) ∙ zero-*ℤ (value_product cs gs))
+  | yes e ↦ elim (degrees-or-zero qs cs gs d.1) [
+    | inl z ↦ inl (ap (λ y. a g *ℤ y) z ∙ *ℤ-zero (a g))
+    | inr s ↦ inr ((λ i. pred (e i) + s.0 i), (let k = s.1 in omega arith))
+  ]
+]
 
 turn-product : (q : ℕ) (qs : List ℕ) (c : List ℕ → ℤ) (cs : List (List ℕ → ℤ)) (gs : List (List ℕ)) (f : List ℕ) → HasDegree q c → HaveDegrees qs cs →
     signed (exchange_exponent (cycle (suc (length gs))) 1 (gs ++ (f ∷ []))) (value_product (c ∷ cs) (relabelled_faces (uncycle (suc (length gs))) (suc (length gs)) (gs ++ (f ∷ []))))
     ≡ signed (q * sum_of qs) (value_product (cs ++ (c ∷ [])) (gs ++ (f ∷ [])))
 turn-product q qs c cs gs f d ds =
-    let y : ℤ = c f *ℤ value_product cs gs in
-    let t = turned-cycle (suc (length gs)) 1 gs f (omega arith) (omega arith) in
-    let sw = *ℤ_comm (c f) (value_product cs gs) in
-    let e1 : face_degrees gs * degree f ≡ degree f * face_degrees gs = omega arith in
-    let e2 : degree f * sum_of qs ≡ sum_of qs * degree f = omega arith in
-    let e3 : sum_of qs * q ≡ q * sum_of qs = omega arith in
-    (λ i. signed (t i) (value_product (c ∷ cs) (moved-cycle gs f i)))
-    ∙ ap (λ j. signed j y) e1
-    ∙ sign-all qs cs gs (degree f) (c f) ds
-    ∙ ap (λ j. signed j y) e2
-    ∙ ap (signed (sum_of qs * degree f)) sw
-    ∙ sign-one q (sum_of qs) c f (value_product cs gs) d
-    ∙ ap (λ j. signed j (value_product cs gs *ℤ c f)) e3
-    ∙ ap (signed (q * sum_of qs)) (sym (product-end cs c gs f))
+    (λ i. signed (turned-cycle (suc (length gs)) 1 gs f (omega arith) (omega arith) i) (value_product (c ∷ cs) (moved-cycle gs f i)))
+    ∙ signs
+    ∙ ap (signed (q * sum_of qs)) (*ℤ_comm (c f) (value_product cs gs) ∙ sym (product-end cs c gs f))
+  where
+    both : c f *ℤ value_product cs gs ≡ pos 0 → signed (face_degrees gs * degree f) (c f *ℤ value_product cs gs) ≡ signed (q * sum_of qs) (c f *ℤ value_product cs gs)
+    both z = ap (signed (face_degrees gs * degree f)) z ∙ signed-zero (face_degrees gs * degree f) ∙ sym (ap (signed (q * sum_of qs)) z ∙ signed-zero (q * sum_of qs))
+
+    signs : signed (face_degrees gs * degree f) (c f *ℤ value_product cs gs) ≡ signed (q * sum_of qs) (c f *ℤ value_product cs gs)
+    signs = elim (ℕ_discrete (length f) (suc q)) [
+      | no n ↦ both (ap (λ z. z *ℤ value_product cs gs) (d.other f n) ∙ zero-*ℤ (value_product cs gs))
+      | yes e ↦ elim (degrees-or-zero qs cs gs ds) [
+        | inl z ↦ both (ap (λ y. c f *ℤ y) z ∙ *ℤ-zero (c f))
+        | inr s ↦ let k : sum_of qs * q ≡ q * sum_of qs = omega arith in ap (λ j. signed j (c f *ℤ value_product cs gs)) ((λ i. s.0 i * pred (e i)) ∙ k)
+      ]
+    ]
 
 record LastForm (k : ℕ) (fs : List (List ℕ)) : Type 0 where
   front : List (List ℕ)
@@ -203,7 +162,7 @@ pub cut_sum-cong : (r : ℕ) (u s : List ℕ) (phi psi : List (List ℕ) → ℤ
 cut_sum-cong r u s phi psi e =
     ap (λ h. total h (cuts u (pred (length s))))
     (λ i p. signed (sign_exponent u 0 p)
-    (e (map (λ f. map (λ m. vertex_at s m) f) (cut_faces (numbers_from 1 r) u p)) (length-map (cut_faces (numbers_from 1 r) u p) (λ f. map (λ m. vertex_at s m) f) ∙ length-faces (numbers_from 1 r) u p ∙ numbers_from-length 1 r) i))
+    (e (map (λ f. map (λ m. vertex_at s m) f) (cut_faces (numbers_from 1 r) u p)) (length-map (cut_faces (numbers_from 1 r) u p) (λ f. map (λ m. vertex_at s m) f) ∙ length-faces (numbers_from 1 r) u p ∙ length-numbers_from 1 r) i))
 
 -- turning the surjection back is turning the cochains
 pub value-cycle : (k q : ℕ) (u s qs : List ℕ) (c : List ℕ → ℤ) (cs : List (List ℕ → ℤ)) → IsOnto (suc k) u → HasDegree q c → HaveDegrees qs cs →

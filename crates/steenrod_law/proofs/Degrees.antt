@@ -1,7 +1,6 @@
 -- The degrees of D and of the primitives.
-use Rattle.std.proofs.Common.{◌≡◌, ℕ, zero, suc, ◌+◌, ◌-◌, ◌*◌, ◌%◌, ◌≤◌, true, false, Bool, cond, ◌==◌, List, [], ◌∷◌, ◌++◌, map, length, refl, sym, ◌∙◌, ap, arith, inl, inr, length-append, eq-eqb, ℤ, pos, ◌*ℤ◌, ne_eqb}
-use native.Mathlib.Decide.{ℕ_discrete}
-use Rattle.std.proofs.Math.IntN.{zero-*ℤ, *ℤ-zero}
+use Rattle.std.proofs.Common.{◌≡◌, ℕ, zero, suc, ◌+◌, ◌-◌, ◌*◌, ◌%◌, ◌≤◌, true, false, Bool, cond, ◌==◌, List, [], ◌∷◌, ◌++◌, map, length, refl, sym, ◌∙◌, ap, arith, inl, inr, length-append, eq-eqb, ℤ, pos, ne_eqb}
+use Rattle.std.proofs.Math.IntN.{*ℤ-zero}
 use Rattle.std.proofs.lemmas.Int.{ints}
 use Rattle.std.proofs.lemmas.Bool.Decides.{eqb_tells}
 use Rattle.std.proofs.lemmas.List.{length-map}
@@ -14,14 +13,17 @@ use Rattle.interval_cut_law.proofs.Walks.{Cell, cell_value, cell_values, cell_ve
 use Rattle.interval_cut_law.specs.Names.{operation_value, value_product}
 use Rattle.signed_sum.proofs.Names.{numbers_from-distinct, occurs-later, occurs-mid, occurs-self, one_if, signed-zero, degree-append}
 use Rattle.signed_sum.specs.Names.{IsDistinct, is_degenerate, numbers_from, occurs, signed}
+use Rattle.simplicial_law.proofs.Names.{CongruentInt-signed, CongruentInt_of}
 use Rattle.simplicial_law.specs.Names.{HaveDegrees, integral_coboundary}
 use Rattle.linear_law.proofs.Names.{length-copies}
-use Rattle.steenrod_law.proofs.CycleFaces.{onto-cycle, sum_of}
+use Rattle.steenrod_law.proofs.AdditiveMaps.{adds-zero}
+use Rattle.steenrod_law.proofs.CycleFaces.{counts, degrees-or-zero, onto-cycle, sum_of}
 use Rattle.steenrod_law.proofs.Forms.{AreTerms, HasDegreeBelow, IsCochain, IsMayFamily, IsPrime, SurjectionTerm, operation_of, value_over, word_sum}
-use Rattle.steenrod_law.proofs.Staircase.{degree-copies}
+use Rattle.steenrod_law.proofs.Staircase.{AlikeOn, degree-copies, steps-alike}
 use Rattle.steenrod_law.proofs.WordBoundary.{letters-copies, letters-normalized, some}
-use Rattle.steenrod_law.proofs.WordCochains.{coboundary-cochain, degree-sum, degrees-letters}
-use Rattle.steenrod_law.specs.Names.{cycle_less_one_power, opposite_sum, orbit_sum, staircase_sum, sum_above, sum_to, sum_value, turned_sum, word_cochains, HaveLength, IsOrbitTable, choice, contraction, copies, letter_degree, norm, staircase, step, turn_back, turn_back_less_one, turn_back_power, word_degree}
+use Rattle.steenrod_law.proofs.WordCochains.{coboundary-cochain, degree-sum, degrees-letters, over-equal, over-sum}
+use Rattle.steenrod_law.proofs.WordLemmas.{step-sum}
+use Rattle.steenrod_law.specs.Names.{cycle_less_one_power, opposite_sum, orbit_sum, staircase_sum, sum_above, sum_to, sum_value, turned_sum, word_cochains, HaveLength, IsOrbitTable, choice, contraction, copies, letter_degree, staircase, step, turn_back, word_degree}
 use Rattle.surjection_law.proofs.Caesuras.{caesura_law}
 use Rattle.surjection_law.specs.Names.{caesura_count, IsOnto}
 use Rattle.table_reduction_law.specs.Names.{cycle}
@@ -70,27 +72,13 @@ face_total-cells ks (next v x ∷ c) q s =
 
 -- products
 
-counts : List (List ℕ) → ℕ
-counts [] = 0
-counts (f ∷ fs) = length f + counts fs
-
 counts-faces : (ks : List ℕ) (c : List Cell) → counts (walk_faces ks c) ≡ face_total ks c
-unfolding counts face_total
+unfolding face_total
 counts-faces [] c = refl
 counts-faces (k ∷ ks) c = ap (λ j. length (walk_face k c) + j) (counts-faces ks c)
 
 product-degree : (qs : List ℕ) (cs : List (List ℕ → ℤ)) (fs : List (List ℕ)) → HaveDegrees qs cs → (sum_of qs + length qs ≡ counts fs → ⊥) → value_product cs fs ≡ pos 0
-unfolding counts
-product-degree [] [] [] d ne = absurd (ne refl)
-product-degree [] [] (f ∷ fs) d ne = refl
-product-degree [] (a ∷ cs) fs d ne = absurd d
-product-degree (q ∷ qs) [] fs d ne = absurd d
-product-degree (q ∷ qs) (a ∷ cs) [] d ne = refl
-product-degree (q ∷ qs) (a ∷ cs) (f ∷ fs) d ne =
-    elim (ℕ_discrete (length f) (suc q)) [
-      | yes e ↦ ap (λ z. a f *ℤ z) (product-degree qs cs fs d.1 (λ h. ne (omega (arith, h, e)))) ∙ *ℤ-zero (a f)
-      | no n ↦ ap (λ z. z *ℤ value_product cs fs) (d.0.other f n) ∙ zero-*ℤ (value_product cs fs)
-    ]
+product-degree qs cs fs d ne = elim (degrees-or-zero qs cs fs d) [ inl z ↦ z | inr s ↦ absurd (ne (sym s.1)) ]
 
 -- values
 
@@ -121,11 +109,7 @@ value-size r (v ∷ u) (x ∷ s) qs cs onto le hs d lq ne =
         omega arith
 
 pub over-none : (p m : ℕ) (x : List SurjectionTerm) (h : List ℕ → ℤ) → AreTerms p m x → ((u : List ℕ) → IsOnto p u → caesura_count u ≡ m → h u ≡ pos 0) → value_over x h ≡ pos 0
-over-none p m [] h k e = refl
-over-none p m (t ∷ x) h k e =
-    let a = ap (λ z. t.1 *ℤ z) (e t.0 k.0 k.1) ∙ *ℤ-zero t.1 in
-    let b = over-none p m x h k.2 e in
-    omega (arith, ints)
+over-none p m x h k e = over-equal p m x h (λ u. pos 0) k e ∙ adds-zero (value_over x) (over-sum x)
 
 module _ (p m : ℕ) (deg : Bool → ℕ) (x : List SurjectionTerm) (k : AreTerms p m x) (a b : List ℕ → ℤ) (ca : IsCochain (deg false) a) (cb : IsCochain (deg true) b) (le : 1 ≤ p) (w : List Bool) (size : length w ≡ p) where
   word-size : (s : List ℕ) → 1 ≤ length s → (length s + m ≡ suc (word_degree deg w) → ⊥) → sum_value p x (word_cochains a b w) s ≡ pos 0
@@ -172,29 +156,22 @@ of-upper p d x le may = go (d % 2)
 
 -- stairs
 
-abbrev Nothing : (Bool → ℕ) → ℕ → ℕ → (List Bool → ℤ) → Type 0
-Nothing deg m d h = (w : List Bool) → length w ≡ m → word_degree deg w ≡ d → h w ≡ pos 0
-
-module _ (deg : Bool → ℕ) (m d : ℕ) where
-  back-none : (h : List Bool → ℤ) → Nothing deg m d h → Nothing deg m d (turn_back deg h)
-  back-none h a [] e q = a [] e q
-  back-none h a (l ∷ w) e q =
-      ap (signed (deg l * word_degree deg w)) (a (w ++ (l ∷ [])) (let y = length-append w (l ∷ []) in omega arith) (let y = degree-append deg w (l ∷ []) in omega arith)) ∙ signed-zero (deg l * word_degree deg w)
-
-  power-none : (k : ℕ) (h : List Bool → ℤ) → Nothing deg m d h → Nothing deg m d (turn_back_power deg k h)
-  power-none zero h a = a
-  power-none (suc k) h a = back-none (turn_back_power deg k h) (power-none k h a)
-
-  norm-none : (k : ℕ) (h : List Bool → ℤ) → Nothing deg m d h → Nothing deg m d (norm deg k h)
-  norm-none zero h a w e q = refl
-  norm-none (suc k) h a w e q = let x = norm-none k h a w e q in let y = power-none k h a w e q in omega (arith, ints)
-
-  step-none : (p r : ℕ) (h : List Bool → ℤ) → Nothing deg m d h → Nothing deg m d (step deg p r h)
-  step-none p r h a w e q = go (r % 2)
-    where
-      go : (c : ℕ) → choice c (norm deg p h w) (turn_back_less_one deg h w) ≡ pos 0
-      go zero = norm-none p h a w e q
-      go (suc c) = let x = back-none h a w e q in let y = a w e q in omega (arith, ints)
+step-none : (deg : Bool → ℕ) (m d p r : ℕ) (h : List Bool → ℤ) → ((w : List Bool) → length w ≡ m → word_degree deg w ≡ d → h w ≡ pos 0) →
+    (w : List Bool) → length w ≡ m → word_degree deg w ≡ d → step deg p r h w ≡ pos 0
+step-none deg m d p r h a w e q =
+    let none = adds-zero (λ f. step deg p r f w) (λ f g. step-sum deg p r f g w) in
+    let c = steps-alike (λ v. (length v ≡ m) × (word_degree deg v ≡ d)) 0 deg deg back p r h (λ v. pos 0) (λ v o. CongruentInt_of (a v o.0 o.1)) w (e, q) in
+    let z = *ℤ-zero c.multiple in
+    omega (arith, ints)
+  where
+    back : (f g : List Bool → ℤ) → AlikeOn (λ v. (length v ≡ m) × (word_degree deg v ≡ d)) 0 f g → AlikeOn (λ v. (length v ≡ m) × (word_degree deg v ≡ d)) 0 (turn_back deg f) (turn_back deg g)
+    back f g a [] o = a [] o
+    back f g a (l ∷ w) o =
+        let long = o.0 in
+        let total = o.1 in
+        let x = length-append w (l ∷ []) in
+        let y = degree-append deg w (l ∷ []) in
+        CongruentInt-signed (deg l * word_degree deg w) (a (w ++ (l ∷ [])) (omega arith, omega arith))
 
 pub stair-only : (p n d : ℕ) → 1 ≤ p → (j : ℕ) (h : List Bool → ℤ) → ((w : List Bool) → length w ≡ p → word_degree (letter_degree n) w + suc j ≡ p * suc n → h w ≡ pos 0) → staircase p n d j h ≡ pos 0
 stair-only zero n d le j h a = absurd (omega (arith, le))

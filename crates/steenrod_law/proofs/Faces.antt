@@ -1,5 +1,5 @@
 -- Operations go with maps of vertices.
-use Rattle.std.proofs.Common.{◌≡◌, ℕ, zero, suc, ◌≤◌, List, [], ◌∷◌, map, length, refl, ◌∙◌, ap, arith, ℤ}
+use Rattle.std.proofs.Common.{◌≡◌, ℕ, zero, suc, ◌≤◌, List, ◌∷◌, map, length, refl, ◌∙◌, ap, arith, ℤ}
 use Rattle.interval_cut_law.proofs.CochainLaws.{naturality_law}
 use Rattle.interval_cut_law.specs.Names.{operation_value}
 use Rattle.steenrod_law.proofs.Forms.{IsMayFamily, IsPrime, SurjectionTerm, operation_of}

@@ -76,55 +76,6 @@ pub record HasDegreeBelow (k m : ℕ) (a : List ℕ → ℤ) : Type 0 where
   pub other : (s : List ℕ) → 1 ≤ length s → (length s + k ≡ suc m → ⊥) → a s ≡ pos 0
   pub plain : IsNormalized a
 
--- a and b differ by a coboundary modulo p, of a cochain of degree m - k
-pub record Cohomologous (K : List ℕ → Type 0) (p k m : ℕ) (a b : List ℕ → ℤ) : Type 0 where
-  pub by : List ℕ → ℤ
-  pub degree : HasDegreeBelow k m by
-  pub equal : (s : List ℕ) → K s → 1 ≤ length s → CongruentInt p (a s) (b s +ℤ integral_coboundary by s)
-
--- a sum of multiples of cochains
-pub record Part : Type 0 where
-  pub times : ℤ
-  pub of : List ℕ → ℤ
-
-abbrev pub part_sum : List Part → List ℕ → ℤ
-part_sum [] f = pos 0
-part_sum (z ∷ zs) f = (z.times *ℤ z.of f) +ℤ part_sum zs f
-
-abbrev pub operations : ℕ → List SurjectionTerm → List Part → List ℕ → ℤ
-operations p x [] s = pos 0
-operations p x (z ∷ zs) s = (z.times *ℤ operation_of p x z.of s) +ℤ operations p x zs s
-
-abbrev pub AllCocycles : (List ℕ → Type 0) → ℕ → ℕ → List Part → Type 0
-AllCocycles K p q [] = Unit {0}
-AllCocycles K p q (z ∷ zs) = IsIntegralCocycle K p q z.of × AllCocycles K p q zs
-
--- b is the coboundary of a cochain of degree n
-pub record IsBoundedBy (K : List ℕ → Type 0) (n : ℕ) (b : List ℕ → ℤ) : Type 0 where
-  pub below : List ℕ → ℤ
-  pub cochain : IsCochain n below
-  pub is : (f : List ℕ) → K f → b f ≡ integral_coboundary below f
-
--- b is a coboundary of degree q
-abbrev pub IsBoundary : (List ℕ → Type 0) → ℕ → (List ℕ → ℤ) → Type 0
-IsBoundary K zero b = (f : List ℕ) → K f → b f ≡ pos 0
-IsBoundary K (suc n) b = IsBoundedBy K n b
-
--- z is the sum of the multiples of cocycles `zs` plus a coboundary, modulo p
-pub record InClass (K : List ℕ → Type 0) (p q : ℕ) (zs : List Part) (z : List ℕ → ℤ) : Type 0 where
-  pub cocycles : AllCocycles K p q zs
-  pub rest : List ℕ → ℤ
-  pub boundary : IsBoundary K q rest
-  pub equal : (f : List ℕ) → K f → CongruentInt p (z f) (part_sum zs f +ℤ rest f)
-
 -- the cup product
 abbrev pub cup : (List ℕ → ℤ) → (List ℕ → ℤ) → List ℕ → ℤ
 cup a b s = operation_value 2 (1 ∷ 2 ∷ []) (a ∷ b ∷ []) s
-
-abbrev pub products_with : (List ℕ → ℤ) → List Part → List ℕ → ℤ
-products_with a [] s = pos 0
-products_with a (w ∷ ws) s = (w.times *ℤ cup a w.of s) +ℤ products_with a ws s
-
-abbrev pub products : List Part → List Part → List ℕ → ℤ
-products [] ws s = pos 0
-products (z ∷ zs) ws s = (z.times *ℤ products_with z.of ws s) +ℤ products zs ws s

@@ -1,18 +1,18 @@
 -- Pull-backs along order-preserving simplicial maps.
-use Rattle.std.proofs.Common.{Bool, ◌≡◌, ℕ, zero, suc, ◌+◌, ◌*◌, ◌-◌, inl, inr, cond, List, [], ◌∷◌, map, length, refl, sym, ◌∙◌, ap, arith, subst, true, false, ℤ, pos}
+use Rattle.std.proofs.Common.{Bool, ◌≡◌, ℕ, suc, ◌+◌, ◌*◌, inl, inr, cond, List, [], ◌∷◌, map, length, refl, sym, ◌∙◌, ap, arith, subst, true, false, ℤ, pos}
 use Rattle.std.specs.List.{AllZip}
 use Rattle.std.proofs.lemmas.Int.{ints}
 use Rattle.std.proofs.lemmas.Bool.{cases_Bool}
 use Rattle.std.proofs.lemmas.List.{length-map}
-use Rattle.linear_law.proofs.Names.{Congruent_of, Congruent_scale, Congruent_sym, Congruent_trans, coordinates-alike, from_columns}
-use Rattle.linear_law.specs.Names.{Congruent, IsField, negated, Each, matrix_times, combination}
+use Rattle.linear_law.proofs.Names.{IsLinearOnClasses, class_of, multiple_in, on_classes, Congruent_of, Congruent_scale, Congruent_sym, Congruent_trans, coordinates-alike, from_columns}
+use Rattle.linear_law.specs.Names.{Congruent, IsField, Each, IsSubspace, matrix_times}
 use Rattle.signed_sum.proofs.Names.{fun_ext}
 use Rattle.signed_sum.specs.Names.{is_degenerate, unless_empty, without_one}
 use Rattle.simplicial_law.proofs.Names.{coboundaries, cocycles, CongruentInt_of, CongruentInt_sym, CongruentInt_trans}
 use Rattle.simplicial_law.specs.Names.{AgreesOnSimplices, Cochain, HasCoordinates, IsCoboundary, IsCocycle, IsCohomologyBasis, coboundary, CongruentInt, integral_coboundary, IsSimplex}
-use Rattle.steenrod_law.proofs.ClassLaws.{coboundary-vertex, matrix-law}
+use Rattle.steenrod_law.proofs.ClassLaws.{bound-cases, matrix-law}
 use Rattle.steenrod_law.proofs.Complexes.{coboundary-extended, extended-cochain, simplex_of_weak}
-use Rattle.steenrod_law.proofs.OperationLaws.{above_one, may_operation-closed, pull_back-operation, pulled, to_residues, vertices}
+use Rattle.steenrod_law.proofs.OperationLaws.{above_one, may_operation-closed, pull_back-operation, pulled, pulled-value, vertices}
 use Rattle.steenrod_law.proofs.WordCochains.{coboundary-cochain}
 use Rattle.steenrod_law.specs.Names.{IsSimplicial, extended, may_operation, pull_back, scaled_operation, IsOrbitTable}
 
@@ -33,16 +33,10 @@ module _ (f : ℕ → ℕ) (from to : List (List ℕ)) (p : ℕ) (field : IsFiel
   pull_back-coboundary q y = record { at = at }
     where
       at : (s : List ℕ) → IsSimplex from (q + 1) s → Congruent p (coboundary p (pull_back f y) s) (pull_back f (coboundary p y) s)
-      at s on = elim (cases_Bool (is_degenerate (map f s))) [
-        | inl d ↦ to_residues p field (CongruentInt_trans here (CongruentInt_of
-            ((coboundary-cochain q (extended q y) (extended-cochain q y)).plain (map f s) d ∙ ap pos (sym (ap (λ b. cond b 0 (coboundary p y (map f s))) d)))))
-        | inr d ↦
-            let e : q + 1 ≡ suc q = omega arith in
-            let l : length (map f s) ≡ suc (q + 1) = (let a = on.size in let b = length-map s f in omega arith) in
-            to_residues p field (CongruentInt_trans here (CongruentInt_trans
-            (coboundary-extended to q p y (map f s) (above_one p field) (simplex_of_weak to (q + 1) (map f s) (simplicial (q + 1) s on) l d))
-            (CongruentInt_of (ap pos (sym (ap (λ b. cond b 0 (coboundary p y (map f s))) d))))))
-      ]
+      at s on =
+          pulled-value p field f (coboundary p y) (integral_coboundary (extended q y)) (coboundary p (pull_back f y) s) s here
+          ((coboundary-cochain q (extended q y) (extended-cochain q y)).plain (map f s))
+          (λ d. coboundary-extended to q p y (map f s) (above_one p field) (simplex_of_weak to (q + 1) (map f s) (simplicial (q + 1) s on) (let a = on.size in let b = length-map s f in omega arith) d))
         where
           here : CongruentInt p (pos (coboundary p (pull_back f y) s)) (integral_coboundary (extended q y) (map f s))
           here = CongruentInt_trans (CongruentInt_sym (coboundary-extended from q p (pull_back f y) s (above_one p field) on))
@@ -78,59 +72,41 @@ module _ (f : ℕ → ℕ) (from to : List (List ℕ)) (p : ℕ) (field : IsFiel
         (Congruent_trans ((pull_back-agrees (q + 1) (coboundary p a) (λ s. 0) z).at s on) (Congruent_of (pull_back-nothing s)));
   }
 
-  pull_back-bound : (n : ℕ) (b : Cochain) → IsCoboundary to n p b → IsCoboundary from n p (pull_back f b)
-  pull_back-bound zero b h = record {
-    below = pull_back f h.below;
-    nothing = h.nothing;
-    same = record { at = λ s on. Congruent_trans ((pull_back-agrees zero b (coboundary p h.below) h.same).at s on) (Congruent_of (vertex s (let l = on.size in omega arith))) };
+  pull_back-linear : (q : ℕ) → IsLinearOnClasses p (IsSimplex to q) (IsSimplex from q) (λ a. Unit {0}) (IsCoboundary to q p) (IsCoboundary from q p) (pull_back f)
+  pull_back-linear q = record {
+    alike = pull_back-agrees q;
+    plus = λ k a b _ _. class_of p (above_one p field) (bounds q) (pull_back f (λ t. a t + k * b t)) (λ s. pull_back f a s + k * pull_back f b s) (record { at = λ s on. Congruent_of (sum k a b s) });
+    bound = bound-cases p field to bounds (λ j. pull_back f) exact q (pull_back-agrees q) ((bounds q).alike (pull_back f (λ t. 0)) (λ t. 0) (record { at = λ s on. Congruent_of (pull_back-nothing s) }) (bounds q).zero_in);
   }
     where
-      vertex : (s : List ℕ) → length s ≡ 1 → pull_back f (coboundary p h.below) s ≡ coboundary p (pull_back f h.below) s
-      vertex s l =
-          let a = coboundary-vertex p (pull_back f h.below) s l h.nothing in
-          let b = coboundary-vertex p h.below (map f s) (length-map s f ∙ l) h.nothing in
-          ap (λ j. cond (is_degenerate (map f s)) 0 j) b ∙ pull_back-nothing s ∙ sym a
-  pull_back-bound (suc n) b h = record {
-    below = pull_back f h.below;
-    nothing = h.nothing;
-    same = record {
-      at = λ s on. Congruent_trans ((pull_back-agrees (suc n) b (coboundary p h.below) h.same).at s on)
-          (Congruent_sym ((pull_back-coboundary n h.below).at s (let e : suc n ≡ n + 1 = omega arith in subst (λ (j : ℕ). IsSimplex from j s) e on)));
-    };
-  }
+      bounds : (j : ℕ) → IsSubspace p (IsSimplex from j) (IsCoboundary from j p)
+      bounds j = coboundaries from j p (above_one p field)
 
-  pull_back-combination : (cs : List ℕ) (zs : List Cochain) (s : List ℕ) → pull_back f (combination cs zs) s ≡ combination cs (map (pull_back f) zs) s
-  pull_back-combination [] zs s = pull_back-nothing s
-  pull_back-combination (c ∷ cs) [] s = pull_back-nothing s
-  pull_back-combination (c ∷ cs) (z ∷ zs) s =
-      let whole = pull_back-at (combination (c ∷ cs) (z ∷ zs)) s in
-      let first = ap (λ j. c * j) (pull_back-at z s) in
-      let rest = pull_back-at (combination cs zs) s in
-      let ih = pull_back-combination cs zs s in
-      omega arith
+      sum : (k : ℕ) (a b : Cochain) (s : List ℕ) → pull_back f (λ t. a t + k * b t) s ≡ pull_back f a s + k * pull_back f b s
+      sum k a b s =
+          let whole = pull_back-at (λ t. a t + k * b t) s in
+          let first = pull_back-at a s in
+          let rest = ap (λ j. k * j) (pull_back-at b s) in
+          omega arith
 
-  pull_back-minus : (a b : Cochain) (s : List ℕ) → pull_back f (λ t. a t + negated p (b t)) s ≡ pull_back f a s + negated p (pull_back f b s)
-  pull_back-minus a b s =
-      let whole = pull_back-at (λ t. a t + negated p (b t)) s in
-      let first = pull_back-at a s in
-      let rest = ap (λ j. (p - 1) * j) (pull_back-at b s) in
-      omega arith
+      exact : (m : ℕ) (y : Cochain) → y [] ≡ 0 → IsCoboundary from (suc m) p (pull_back f (coboundary p y))
+      exact m y z = record {
+        below = pull_back f y;
+        nothing = z;
+        same = record { at = λ s on. Congruent_sym ((pull_back-coboundary m y).at s (let e : suc m ≡ m + 1 = omega arith in subst (λ (j : ℕ). IsSimplex from j s) e on)) };
+      }
 
   pub pull_back-matrix : (q : ℕ) (zs ws : List Cochain) (As : List (List ℕ)) → AllZip (λ column u. HasCoordinates from q p zs u column) As (map (pull_back f) ws) →
       (w : Cochain) (cs : List ℕ) → HasCoordinates to q p ws w cs → HasCoordinates from q p zs (pull_back f w) (matrix_times p (length zs) As cs)
   pull_back-matrix q zs ws As h w cs k =
       from_columns p (above_one p field) (coboundaries from q p (above_one p field)) zs (map (pull_back f) ws) As cs (pull_back f w) (k.count ∙ sym (length-map ws (pull_back f))) h
-      ((coboundaries from q p (above_one p field)).alike (λ s. pull_back f w s + negated p (combination cs (map (pull_back f) ws) s)) (pull_back f (λ t. w t + negated p (combination cs ws t)))
-      (record { at = λ s on. Congruent_of (ap (λ j. pull_back f w s + (p - 1) * j) (sym (pull_back-combination cs ws s)) ∙ sym (pull_back-minus w (combination cs ws) s)) })
-      (pull_back-bound q (λ t. w t + negated p (combination cs ws t)) k.rest))
+      (on_classes p (above_one p field) (coboundaries from q p (above_one p field)) {Z = λ a. Unit {0}} (record { zero_in = tt; plus = λ k v w a b. tt; alike = λ v w a b. tt }) (λ w h. tt) (pull_back f) (pull_back-linear q) ws w cs (all ws) k)
+    where
+      all : (vs : List Cochain) → Each (λ a. Unit {0}) vs
+      all [] = tt
+      all (v ∷ vs) = (tt, all vs)
 
   -- operations and induced matrices
-
-  scaled-cocycle : (ts : List (List ℕ)) (d c q n : ℕ) (a : Cochain) → IsCocycle ts q p a → IsCocycle ts n p (scaled_operation p d c q a)
-  scaled-cocycle ts d c q n a z =
-      let m = cocycles ts n p (above_one p field) in
-      m.alike (scaled_operation p d c q a) (λ s. 0 + c * may_operation p d q a s) (record { at = λ s on. Congruent_of (omega arith) })
-      (m.plus c (λ s. 0) (may_operation p d q a) m.zero_in (may_operation-closed p field ts d q n a z))
 
   scaled-pull_back : (d c q n : ℕ) (a : Cochain) → AgreesOnSimplices from n p (pull_back f (scaled_operation p d c q a)) (scaled_operation p d c q (pull_back f a))
   scaled-pull_back d c q n a = record {
@@ -157,6 +133,6 @@ module _ (f : ℕ → ℕ) (from to : List (List ℕ)) (p : ℕ) (field : IsFiel
       let v : Cochain = pull_back f (scaled_operation p d c q z) in
       let left = pull_back-matrix n us us' induced_n g' (scaled_operation p d c q z) a h'.0 in
       let right = matrix-law p field from d c q n ms zs us ops orbits cz h (pull_back f z) i g.0 in
-      let e = basis.only v (matrix_times p (length us) induced_n a) (matrix_times p (length us) ops i) (pull_back-cocycle n (scaled_operation p d c q z) (scaled-cocycle to d c q n z cz'.0)) left
+      let e = basis.only v (matrix_times p (length us) induced_n a) (matrix_times p (length us) ops i) (pull_back-cocycle n (scaled_operation p d c q z) (multiple_in (cocycles to n p (above_one p field)) c (may_operation p d q z) (may_operation-closed p field to d q n z cz'.0))) left
       (coordinates-alike p (above_one p field) (coboundaries from n p (above_one p field)) us v (scaled_operation p d c q (pull_back f z)) (matrix_times p (length us) ops i) (scaled-pull_back d c q n z) right) in
       (λ j. e j ∷ matrices-commute d c q n ms orbits zs us zs' us' ops induced_q ops' induced_n cz basis cz'.1 h h'.1 g.1 g' j)

@@ -14,7 +14,6 @@ pub mod Representatives
 pub mod Scaling
 pub mod Degrees
 pub mod Additivity
-pub mod Classes
 pub mod Products
 pub mod Faces
 pub mod MayFamily

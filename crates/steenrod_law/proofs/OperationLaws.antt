@@ -1,34 +1,33 @@
 -- The laws of the May operations on cochains of residues.
-use Rattle.std.proofs.Common.{◌≡◌, ℕ, zero, suc, ◌+◌, ◌*◌, ◌<◌, ◌≤◌, ◌-◌, ◌⊎◌, inl, inr, ◌==◌, ◌&&◌, not, eqb, eq-eqb, Bool, true, false, cond, List, [], ◌∷◌, map, length, refl, sym, ◌∙◌, ap, arith, ℤ, pos, ◌+ℤ◌, ◌*ℤ◌, eqb-true}
+use Rattle.std.proofs.Common.{◌≡◌, ℕ, zero, suc, ◌+◌, ◌*◌, ◌<◌, ◌≤◌, ◌-◌, inl, inr, ◌==◌, ◌&&◌, not, eqb, eq-eqb, Bool, true, false, cond, List, [], ◌∷◌, map, length, refl, sym, ◌∙◌, ap, arith, ℤ, pos, ◌+ℤ◌, ◌*ℤ◌, eqb-true}
 use Rattle.std.proofs.Math.IntN.{pos-*ℤ-pos, *ℤ-zero}
 use Rattle.std.proofs.Math.Nat.{pow-succ', pow-zero, zero-mod}
 use Rattle.std.proofs.lemmas.Int.{ints}
-use Rattle.std.proofs.lemmas.Bool.{cases_Bool, false≢true, or_cases, or_left, or_right}
+use Rattle.std.proofs.lemmas.Bool.{false≢true, or_cases, or_left, or_right}
 use Rattle.std.proofs.lemmas.List.{length-map}
 use Rattle.fp_field.specs.Element.{sign_power}
 use Rattle.interval_cut_law.specs.Names.{operation_value}
 use Rattle.linear_law.specs.Names.{Congruent, IsField, negated}
 use Rattle.signed_sum.proofs.Names.{signed-zero, fun_ext}
-use Rattle.signed_sum.specs.Names.{is_degenerate, unless_empty, signed, without_one}
-use Rattle.simplicial_law.proofs.Names.{integral_congruence_law, negated_whole, CongruentInt-neg, CongruentInt-scale, CongruentInt-signed, CongruentInt-sum, CongruentInt_of, CongruentInt_refl, CongruentInt_sym, CongruentInt_trans}
+use Rattle.signed_sum.specs.Names.{is_degenerate, signed}
+use Rattle.simplicial_law.proofs.Names.{integral_congruence_law, negated_whole, CongruentInt-neg, CongruentInt-scale, CongruentInt-signed, CongruentInt-sum, CongruentInt_of, CongruentInt_sym, CongruentInt_trans}
 use Rattle.simplicial_law.specs.Names.{AgreesOnSimplices, Cochain, IsCocycle, coboundary, CongruentInt, integral_coboundary, no_cochain, IsSimplex}
-use Rattle.steenrod_law.proofs.AdditiveMaps.{adds-zero}
-use Rattle.steenrod_law.proofs.Additivity.{additive}
-use Rattle.steenrod_law.proofs.Classes.{operation-mod}
+use Rattle.steenrod_law.proofs.AdditiveMaps.{adds-zero, coboundary-sum}
+use Rattle.steenrod_law.proofs.Additivity.{additive, coboundary-faces, word_sum-same, word_sum-sum}
 use Rattle.steenrod_law.proofs.ClosedValues.{closed}
-use Rattle.steenrod_law.proofs.Complexes.{coboundary-residues, extended-coboundary, extended-cochain, extended-cocycle, extended-simplex, residue_cochain-same, simplex_or_none, weak-closed, weak_of_simplex}
+use Rattle.steenrod_law.proofs.Complexes.{coboundary-residues, extended-coboundary, extended-cochain, extended-cocycle, extended-same, residue_cochain-same, weak-closed, weak_of_simplex}
 use Rattle.steenrod_law.proofs.Degrees.{of-upper, operation-size, orbit_sum-size, staircase_sum-size}
 use Rattle.steenrod_law.proofs.Faces.{operation-map}
-use Rattle.steenrod_law.proofs.Forms.{AreTerms, IsMayFamily, IsPrime, IsWeakFace, SurjectionTerm, drop, none, operation_of, take, value_over, word_sum}
+use Rattle.steenrod_law.proofs.Forms.{AreTerms, IsMayFamily, IsPrime, SurjectionTerm, operation_of, value_over, word_sum}
 use Rattle.steenrod_law.proofs.MayFamily.{may_family}
-use Rattle.steenrod_law.proofs.Primes.{prime_of_field, two-or-odd}
+use Rattle.steenrod_law.proofs.Primes.{prime_of_field}
 use Rattle.steenrod_law.proofs.Representatives.{representatives}
 use Rattle.steenrod_law.proofs.Scaling.{scales}
 use Rattle.steenrod_law.proofs.Staircase.{stair-alike, stair-sum}
-use Rattle.steenrod_law.proofs.ValuesOnFaces.{value-none-at}
+use Rattle.steenrod_law.proofs.ValuesOnFaces.{operation-mod, value-none-at}
 use Rattle.steenrod_law.proofs.WordBoundary.{some}
 use Rattle.steenrod_law.proofs.WordCochains.{over-same, over-sum}
-use Rattle.steenrod_law.specs.Names.{IsWeakSimplex, extended, may_operation, orbit_primitive, pull_back, residue, residue_cochain, staircase_primitive, orbit_sum, staircase_sum, sum_above, sum_to, sum_value, word_cochains, HaveLength, IsOrbitTable, staircase}
+use Rattle.steenrod_law.specs.Names.{IsWeakSimplex, extended, may_operation, orbit_primitive, pull_back, residue, residue_cochain, staircase_primitive, orbit_sum, staircase_sum, sum_above, sum_to, sum_value, word_cochains, IsOrbitTable, staircase}
 use Rattle.table_reduction_law.specs.Names.{may_element}
 
 -- the operation on cochains with whole values
@@ -70,7 +69,7 @@ module _ (p : ℕ) (field : IsField p) where
         (weak_of_simplex facets (n + 1) s on) (vertices facets (n + 1) s on)));
   }
 
-  extended-scale : (q c : ℕ) (a : Cochain) (f : List ℕ) → extended q (λ t. c * a t) f ≡ pos c *ℤ extended q a f
+  pub extended-scale : (q c : ℕ) (a : Cochain) (f : List ℕ) → extended q (λ t. c * a t) f ≡ pos c *ℤ extended q a f
   extended-scale q c a f = go (length f == suc q && not (is_degenerate f))
     where
       go : (b : Bool) → cond b (pos (c * a f)) (pos 0) ≡ pos c *ℤ cond b (pos (a f)) (pos 0)
@@ -81,11 +80,11 @@ module _ (p : ℕ) (field : IsField p) where
   scaling-law d q c a s h = to_residues
       (CongruentInt_trans (value-same d q (λ t. c * a t) s h)
       (CongruentInt_trans (CongruentInt_of (ap (λ g. whole_operation p d g s) (fun_ext (extended-scale q c a))))
-      (CongruentInt_trans (scales p (may_element p d) (pos c) (extended q a) s prime_here)
+      (CongruentInt_trans (scales p (may_element p d) c (extended q a) s prime_here)
       (CongruentInt_trans (CongruentInt-scale (pos c) (CongruentInt_sym (value-same d q a s h)))
       (CongruentInt_of (pos-*ℤ-pos c (may_operation p d q a s)))))))
 
-  extended-add : (q : ℕ) (a c : Cochain) (f : List ℕ) → extended q (λ t. a t + c t) f ≡ extended q a f +ℤ extended q c f
+  pub extended-add : (q : ℕ) (a c : Cochain) (f : List ℕ) → extended q (λ t. a t + c t) f ≡ extended q a f +ℤ extended q c f
   extended-add q a c f = go (length f == suc q && not (is_degenerate f))
     where
       go : (b : Bool) → cond b (pos (a f + c f)) (pos 0) ≡ cond b (pos (a f)) (pos 0) +ℤ cond b (pos (c f)) (pos 0)
@@ -162,10 +161,11 @@ module _ (p : ℕ) (field : IsField p) where
   -- complexes on which the cochains are 0
 
   zero-there : (facets : List (List ℕ)) (q : ℕ) (a : Cochain) → AgreesOnSimplices facets q p a no_cochain → (f : List ℕ) → IsWeakSimplex facets f → CongruentInt p (extended q a f) (pos 0)
-  zero-there facets q a z f k = elim (simplex_or_none facets q f k) [
-    | inl s ↦ CongruentInt_trans (CongruentInt_of (extended-simplex facets q a f s)) (integral_congruence_law.whole p (a f) 0 (z.at f s))
-    | inr n ↦ CongruentInt_of (n.zero_there (extended q a) (extended-cochain q a))
-  ]
+  zero-there facets q a z f k = CongruentInt_trans (extended-same facets q p a no_cochain f z k) (CongruentInt_of (go (length f == suc q && not (is_degenerate f))))
+    where
+      go : (b : Bool) → cond b (pos 0) (pos 0) ≡ pos 0
+      go true = refl
+      go false = refl
 
   word-none : (facets : List (List ℕ)) (m : ℕ) (x : List SurjectionTerm) (a b : List ℕ → ℤ) (w : List Bool) (s : List ℕ) → AreTerms p m x → length w ≡ p → IsWeakSimplex facets s → 1 ≤ length s →
       ((f : List ℕ) → IsWeakSimplex facets f → CongruentInt p (a f) (pos 0)) → ((f : List ℕ) → IsWeakSimplex facets f → CongruentInt p (b f) (pos 0)) → CongruentInt p (sum_value p x (word_cochains a b w) s) (pos 0)
@@ -180,33 +180,18 @@ module _ (p : ℕ) (field : IsField p) where
       either true f q = zb f q
       either false f q = za f q
 
-  total-none : (ms : List (List Bool)) (h : List Bool → ℤ) → HaveLength p ms → ((w : List Bool) → length w ≡ p → CongruentInt p (h w) (pos 0)) → CongruentInt p (word_sum ms h) (pos 0)
-  total-none [] h k e = CongruentInt_refl (pos 0)
-  total-none (w ∷ ms) h k e = CongruentInt-sum (e w k.0) (total-none ms h k.1 e)
-
   pub orbit-subcomplex : (facets : List (List ℕ)) (d q n : ℕ) (ms : List (List Bool)) (a c : Cochain) → IsOrbitTable p ms →
       AgreesOnSimplices facets q p a no_cochain → AgreesOnSimplices facets q p c no_cochain → (s : List ℕ) → IsSimplex facets n s → Congruent p (orbit_primitive p d q ms a c s) 0
   orbit-subcomplex facets d q n ms a c orbits za zc s on =
       let h = vertices facets n s on in
       to_residues (CongruentInt_trans (residue_cochain-same p (orbit_sum p d (may_element p) ms (extended q a) (extended q c)) s above_one h)
-      (total-none ms (λ w. sum_value p (sum_above p d (may_element p)) (word_cochains (extended q a) (extended q c) w) s) orbits.long
-      (λ w e. word-none facets (suc d) (sum_above p d (may_element p)) (extended q a) (extended q c) w s (of-upper p d (may_element p) positive_here family_here) e (weak_of_simplex facets n s on) h (zero-there facets q a za) (zero-there facets q c zc))))
-
-  weak-refl : (s : List ℕ) → IsWeakFace s s
-  weak-refl [] = none
-  weak-refl (x ∷ s) = take (drop (weak-refl s))
-
-  faces-none : (f : List ℕ) (h : List ℕ → ℤ) → ((g : List ℕ) → IsWeakFace g f → CongruentInt p (h g) (pos 0)) → CongruentInt p (without_one f h) (pos 0)
-  faces-none [] h e = CongruentInt_refl (pos 0)
-  faces-none (x ∷ f) h e =
-      CongruentInt-sum (e f (drop (weak-refl f))) (CongruentInt-neg (faces-none f (λ g. h (x ∷ g)) (λ g w. e (x ∷ g) (take (drop w)))))
+      (CongruentInt_trans (word_sum-same p ms (λ w. sum_value p (sum_above p d (may_element p)) (word_cochains (extended q a) (extended q c) w) s) (λ w. pos 0) orbits.long
+      (λ w e. word-none facets (suc d) (sum_above p d (may_element p)) (extended q a) (extended q c) w s (of-upper p d (may_element p) positive_here family_here) e (weak_of_simplex facets n s on) h (zero-there facets q a za) (zero-there facets q c zc)))
+      (CongruentInt_of (adds-zero (word_sum ms) (word_sum-sum ms)))))
 
   coboundary-none : (facets : List (List ℕ)) (b : List ℕ → ℤ) → ((f : List ℕ) → IsWeakSimplex facets f → CongruentInt p (b f) (pos 0)) → (f : List ℕ) → IsWeakSimplex facets f → CongruentInt p (integral_coboundary b f) (pos 0)
-  coboundary-none facets b z f k = faces-none f (λ g. unless_empty g (b g)) (λ g w. filled g (z g (weak-closed facets g f w k)))
-    where
-      filled : (g : List ℕ) → CongruentInt p (b g) (pos 0) → CongruentInt p (unless_empty g (b g)) (pos 0)
-      filled [] e = CongruentInt_refl (pos 0)
-      filled (x ∷ g) e = e
+  coboundary-none facets b z f k =
+      CongruentInt_trans (coboundary-faces p f b (λ t. pos 0) (λ t w. z t (weak-closed facets t f w k))) (CongruentInt_of (adds-zero (λ c. integral_coboundary c f) (coboundary-sum f)))
 
   steps-none : (d : ℕ) (f : ℕ → ℤ) → ((j : ℕ) → CongruentInt p (f j) (pos 0)) → CongruentInt p (sum_to d f) (pos 0)
   steps-none zero f e = e 0
@@ -221,9 +206,9 @@ module _ (p : ℕ) (field : IsField p) where
       (steps-none d (λ j. signed (d - j) (staircase p q d j (λ w. sum_value p (may_element p (d - j)) (word_cochains (extended q y) b w) s)))
       (λ j. CongruentInt_trans (CongruentInt-signed (d - j)
       (CongruentInt_trans
-      (stair-alike p q (two-or-odd p prime_here) prime_here.two d j (λ w. sum_value p (may_element p (d - j)) (word_cochains (extended q y) b w) s) (λ w. pos 0)
+      (stair-alike p q prime_here.parity prime_here.two d j (λ w. sum_value p (may_element p (d - j)) (word_cochains (extended q y) b w) s) (λ w. pos 0)
       (λ w e. word-none facets (d - j) (may_element p (d - j)) (extended q y) b w s (family_here.terms (d - j)) e (weak_of_simplex facets n s on) h z (coboundary-none facets (extended q y) z)))
-      (CongruentInt_of (adds-zero (staircase p q d j) (stair-sum p q (two-or-odd p prime_here) prime_here.two d j)))))
+      (CongruentInt_of (adds-zero (staircase p q d j) (stair-sum p q prime_here.parity prime_here.two d j)))))
       (CongruentInt_of (signed-zero (d - j))))))
 
 -- pull-backs
@@ -249,18 +234,19 @@ pulled f q a g =
     go true false true n h = refl
     go true false false n h = refl
 
-pub pull_back-operation : (p : ℕ) → IsField p → (f : ℕ → ℕ) (d q : ℕ) (a : Cochain) (s : List ℕ) → 1 ≤ length s → Congruent p (may_operation p d q (pull_back f a) s) (pull_back f (may_operation p d q a) s)
-pull_back-operation p field f d q a s h = elim (cases_Bool (is_degenerate (map f s))) [
-  | inl e ↦ to_residues p field
-      (CongruentInt_trans here (CongruentInt_of
-      ((operation-size p d q (may_element p) (extended q a) (prime_here p field) (family_here p field) (extended-cochain q a)).plain (map f s) e
-      ∙ ap pos (sym (ap (λ b. cond b 0 (may_operation p d q a (map f s))) e)))))
-  | inr e ↦ to_residues p field
-      (CongruentInt_trans here (CongruentInt_trans (CongruentInt_sym (value-same p field d q a (map f s) (let l = length-map s f in omega arith)))
-      (CongruentInt_of (ap pos (sym (ap (λ b. cond b 0 (may_operation p d q a (map f s))) e))))))
-]
+-- what the residues F of B give at an image, where B is 0 on degenerate lists
+pub pulled-value : (p : ℕ) → IsField p → (f : ℕ → ℕ) (F : Cochain) (B : List ℕ → ℤ) (x : ℕ) (s : List ℕ) → CongruentInt p (pos x) (B (map f s)) →
+    (is_degenerate (map f s) ≡ true → B (map f s) ≡ pos 0) → (is_degenerate (map f s) ≡ false → CongruentInt p (B (map f s)) (pos (F (map f s)))) → Congruent p x (pull_back f F s)
+pulled-value p field f F B x s h nothing value = go (is_degenerate (map f s)) nothing value
   where
-    here : CongruentInt p (pos (may_operation p d q (pull_back f a) s)) (whole_operation p d (extended q a) (map f s))
-    here =
-        CongruentInt_trans (value-same p field d q (pull_back f a) s h)
-        (CongruentInt_of (ap (λ g. whole_operation p d g s) (fun_ext (λ g. sym (pulled f q a g))) ∙ sym (operation-map f p d (may_element p) (extended q a) s (prime_here p field) (family_here p field) h)))
+    go : (d : Bool) → (d ≡ true → B (map f s) ≡ pos 0) → (d ≡ false → CongruentInt p (B (map f s)) (pos (F (map f s)))) → Congruent p x (cond d 0 (F (map f s)))
+    go true n r = to_residues p field (CongruentInt_trans h (CongruentInt_of (n refl)))
+    go false n r = to_residues p field (CongruentInt_trans h (r refl))
+
+pub pull_back-operation : (p : ℕ) → IsField p → (f : ℕ → ℕ) (d q : ℕ) (a : Cochain) (s : List ℕ) → 1 ≤ length s → Congruent p (may_operation p d q (pull_back f a) s) (pull_back f (may_operation p d q a) s)
+pull_back-operation p field f d q a s h =
+    pulled-value p field f (may_operation p d q a) (whole_operation p d (extended q a)) (may_operation p d q (pull_back f a) s) s
+    (CongruentInt_trans (value-same p field d q (pull_back f a) s h)
+    (CongruentInt_of (ap (λ g. whole_operation p d g s) (fun_ext (λ g. sym (pulled f q a g))) ∙ sym (operation-map f p d (may_element p) (extended q a) s (prime_here p field) (family_here p field) h))))
+    ((operation-size p d q (may_element p) (extended q a) (prime_here p field) (family_here p field) (extended-cochain q a)).plain (map f s))
+    (λ e. CongruentInt_sym (value-same p field d q a (map f s) (let l = length-map s f in omega arith)))

@@ -1,19 +1,18 @@
 -- Matrices of squares, powers and Bockstein powers.
 use Rattle.std.proofs.Common.{◌≡◌, ℕ, zero, suc, ◌+◌, ◌-◌, ◌*◌, ◌^◌, ◌<◌, Bool, List, [], ◌∷◌, length, refl, sym, ◌∙◌, ap, arith, ℤ, pos, ◌+ℤ◌, ◌*ℤ◌, neg_ℤ}
-use Rattle.std.specs.List.{AllZip}
 use Rattle.std.proofs.Math.IntN.{pos-*ℤ-pos}
 use Rattle.std.proofs.Math.Nat.{pow-succ', pow-zero}
 use Rattle.std.proofs.lemmas.Int.{ints}
 use Rattle.fp_field.proofs.ServedLemmas.{served_field}
 use Rattle.fp_field.specs.Orbits.{orbit_words}
 use Rattle.fp_field.specs.Element.{IsScale, factorial, half}
-use Rattle.linear_law.proofs.Names.{Congruent_mul, Congruent_of, Congruent_refl, Congruent_scale, Congruent_sym, Congruent_trans, two_field, coordinates-alike}
-use Rattle.linear_law.specs.Names.{Congruent, IsField, negated, Each, matrix_times}
+use Rattle.linear_law.proofs.Names.{Congruent_mul, Congruent_of, Congruent_refl, Congruent_scale, Congruent_sym, Congruent_trans, two_field, related_matrix}
+use Rattle.linear_law.specs.Names.{CarriesRelated, Congruent, IsField, negated}
 use Rattle.signed_sum.proofs.Names.{mul-add, mul-neg, mul_assoc, one-mul}
-use Rattle.simplicial_law.proofs.Names.{coboundaries, cocycles, integral_congruence_law, CongruentInt_from, CongruentInt_of, CongruentInt_trans}
-use Rattle.simplicial_law.specs.Names.{AgreesOnSimplices, Cochain, HasCoordinates, IsCocycle, CongruentInt}
-use Rattle.steenrod_law.proofs.ClassLaws.{matrix-law}
-use Rattle.steenrod_law.proofs.OperationLaws.{above_one, to_residues}
+use Rattle.simplicial_law.proofs.Names.{bounds_close, coboundaries, cocycles, integral_congruence_law, CongruentInt_from, CongruentInt_of, CongruentInt_trans}
+use Rattle.simplicial_law.specs.Names.{AgreesOnSimplices, Cochain, IsCoboundary, IsCocycle, CongruentInt}
+use Rattle.steenrod_law.proofs.ClassLaws.{operation-linear}
+use Rattle.steenrod_law.proofs.OperationLaws.{to_residues}
 use Rattle.steenrod_law.proofs.OrbitTables.{orbit_words_law}
 use Rattle.steenrod_law.proofs.Primes.{prime_of_field}
 use Rattle.steenrod_law.specs.Names.{SteenrodMatrixLaw, IsBocksteinPower, IsPower, IsSquare, may_operation, power_degree, scaled_operation, IsOrbitTable}
@@ -47,26 +46,10 @@ module _ (p : ℕ) (field : IsField p) where
       to_residues p field (CongruentInt_from z (omega (arith, ints)))
 
   module _ (facets : List (List ℕ)) where
-    turned-around : (n : ℕ) (v w : Cochain) → AgreesOnSimplices facets n p v w → AgreesOnSimplices facets n p w v
-    turned-around n v w e = record { at = λ s on. Congruent_sym (e.at s on) }
-
-    columns-agree : (n d c q : ℕ) (R : Cochain → Cochain → Type 0) → ((z b : Cochain) → R z b → AgreesOnSimplices facets n p b (scaled_operation p d c q z)) →
-        (us zs bs : List Cochain) (columns : List (List ℕ)) → AllZip R zs bs → AllZip (λ column b. HasCoordinates facets n p us b column) columns bs →
-        AllZip (λ column z. HasCoordinates facets n p us (scaled_operation p d c q z) column) columns zs
-    columns-agree n d c q R f us [] [] [] h k = k
-    columns-agree n d c q R f us [] [] (column ∷ columns) h k = absurd k
-    columns-agree n d c q R f us [] (b ∷ bs) columns h k = absurd h
-    columns-agree n d c q R f us (z ∷ zs) [] columns h k = absurd h
-    columns-agree n d c q R f us (z ∷ zs) (b ∷ bs) [] h k = absurd k
-    columns-agree n d c q R f us (z ∷ zs) (b ∷ bs) (column ∷ columns) h k =
-        (coordinates-alike p (above_one p field) (coboundaries facets n p (above_one p field)) us (scaled_operation p d c q z) b column (turned-around n b (scaled_operation p d c q z) (f z b h.0)) k.0, columns-agree n d c q R f us zs bs columns h.1 k.1)
-
-    pub carried : (n d c q : ℕ) (ms : List (List Bool)) (R : Cochain → Cochain → Type 0) → IsOrbitTable p ms → ((z b : Cochain) → R z b → AgreesOnSimplices facets n p b (scaled_operation p d c q z)) →
-        (us zs bs : List Cochain) (columns : List (List ℕ)) → Each (IsCocycle facets q p) zs → AllZip R zs bs → AllZip (λ column b. HasCoordinates facets n p us b column) columns bs →
-        (z b : Cochain) (cs : List ℕ) → HasCoordinates facets q p zs z cs → R z b → HasCoordinates facets n p us b (matrix_times p (length us) columns cs)
-    carried n d c q ms R orbits f us zs bs columns cocycles h k z b cs coordinates r =
-        coordinates-alike p (above_one p field) (coboundaries facets n p (above_one p field)) us b (scaled_operation p d c q z) (matrix_times p (length us) columns cs) (f z b r)
-        (matrix-law p field facets d c q n ms zs us columns orbits cocycles (columns-agree n d c q R f us zs bs columns h k) z cs coordinates)
+    carried : (n d c q : ℕ) (ms : List (List Bool)) (R : Cochain → Cochain → Type 0) → IsOrbitTable p ms → ((z b : Cochain) → R z b → AgreesOnSimplices facets n p b (scaled_operation p d c q z)) →
+        CarriesRelated p (IsCocycle facets q p) (IsCoboundary facets q p) (IsCoboundary facets n p) R
+    carried n d c q ms R orbits = related_matrix p field.large (coboundaries facets n p field.large) (cocycles facets q p field.large) (bounds_close facets q p field.large)
+        (scaled_operation p d c q) (operation-linear p field facets d c q n ms orbits) R
 
     rescaled : (n d c e q : ℕ) (z b : Cochain) → Congruent p c e → AgreesOnSimplices facets n p b (scaled_operation p d c q z) → AgreesOnSimplices facets n p b (scaled_operation p d e q z)
     rescaled n d c e q z b h g = record { at = λ s on. Congruent_trans (g.at s on) (Congruent_mul h (Congruent_refl (may_operation p d q z s))) }
@@ -82,13 +65,13 @@ pub steenrod_matrix_law : SteenrodMatrixLaw
 steenrod_matrix_law = record {
   squares = λ facets k q zs bs us columns cocycles h g z b cs coordinates r.
       carried 2 two_field facets (q + k) (q - k) 1 q (orbit_words 2) (IsSquare facets k q) (orbit_words_law 2 refl)
-      (λ z b r. record { at = λ s on. Congruent_trans (r.value.at s on) (Congruent_of (omega arith)) }) us zs bs columns cocycles h g z b cs coordinates r;
+      (λ z b r. record { at = λ s on. Congruent_trans (r.value.at s on) (Congruent_of (omega arith)) }) zs bs us columns cocycles h g z b cs coordinates r;
   powers = λ facets p s q zs bs us columns is_served cocycles h g z b cs coordinates r. (
       let field = served_field p is_served in
       carried p field facets (q + 2 * s * (p - 1)) (power_degree p s q) r.scale q (orbit_words p) (IsPower facets p s q) (orbit_words_law p is_served)
-      (λ z b w. power-as p field facets s q r.scale z b r.is_scale w) us zs bs columns cocycles h g z b cs coordinates r);
+      (λ z b w. power-as p field facets s q r.scale z b r.is_scale w) zs bs us columns cocycles h g z b cs coordinates r);
   bockstein_powers = λ facets p s q zs bs us columns is_served cocycles h g z b cs coordinates r. (
       let field = served_field p is_served in
       carried p field facets (q + 2 * s * (p - 1) + 1) (power_degree p s q - 1) (negated p r.scale) q (orbit_words p) (IsBocksteinPower facets p s q) (orbit_words_law p is_served)
-      (λ z b w. bockstein-as p field facets s q r.scale z b r.is_scale w) us zs bs columns cocycles h g z b cs coordinates r);
+      (λ z b w. bockstein-as p field facets s q r.scale z b r.is_scale w) zs bs us columns cocycles h g z b cs coordinates r);
 }

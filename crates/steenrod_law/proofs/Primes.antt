@@ -9,9 +9,6 @@ use Rattle.simplicial_law.proofs.Names.{integral_congruence_law, CongruentInt-sc
 use Rattle.simplicial_law.specs.Names.{CongruentInt}
 use Rattle.steenrod_law.proofs.Forms.{IsPrime}
 
-pub two-or-odd : (p : ℕ) → IsPrime p → (p ≡ 2) ⊎ (p % 2 ≡ 1)
-two-or-odd p prime = prime.parity
-
 pub prime_of_field : (p : ℕ) → IsField p → IsPrime p
 prime_of_field p field = record { two = (let l = field.large in omega arith); parity = parity; cancel = cancel }
   where

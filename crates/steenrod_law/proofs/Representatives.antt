@@ -6,7 +6,6 @@ use Rattle.simplicial_law.proofs.Names.{CongruentInt_of, CongruentInt_sym, Congr
 use Rattle.simplicial_law.specs.Names.{CongruentInt, integral_coboundary}
 use Rattle.steenrod_law.proofs.AdditiveMaps.{adds-coboundary, adds-over, adds-signed, adds-sum_to, coboundary-sum}
 use Rattle.steenrod_law.proofs.Forms.{IsCochain, IsMayFamily, IsPrime, SurjectionTerm, boundary_over, operation_of}
-use Rattle.steenrod_law.proofs.Primes.{two-or-odd}
 use Rattle.steenrod_law.proofs.Staircase.{stair-sum, whole-stair}
 use Rattle.steenrod_law.proofs.ValuesOnFaces.{value-none-at}
 use Rattle.steenrod_law.proofs.WordBoundary.{letters-copies, letters-normalized, relation, relation-first, some, sum-law}
@@ -20,7 +19,7 @@ representatives p d n x y s prime may cy hs =
     CongruentInt_trans
     (CongruentInt_of (ap (λ cs. sum_value p (x d) cs s) (sym (letters-copies y b p))))
     (CongruentInt_trans
-    (whole-stair p n (two-or-odd p prime) prime.two d V dV B law (relation p (letter_degree n) y b cy cb s pos_p hs x may) (relation-first p (letter_degree n) y b cy cb s pos_p hs x may))
+    (whole-stair p n prime.parity prime.two d V dV B law (relation p (letter_degree n) y b cy cb s pos_p hs x may) (relation-first p (letter_degree n) y b cy cb s pos_p hs x may))
     (CongruentInt_of out))
   where
     b : List ℕ → ℤ
@@ -56,6 +55,6 @@ representatives p d n x y s prime may cy hs =
     out : sum_to d (λ i. signed (d - i) (staircase p n d i (dV (d - i)))) ≡ integral_coboundary (staircase_sum p n d x y) s
     out =
         ap (sum_to d)
-        (λ k i. (ap (signed (d - i)) (adds-coboundary (staircase p n d i) (stair-sum p n (two-or-odd p prime) prime.two d i) (λ w. sum_value p (x (d - i)) (word_cochains y b w)) s)
+        (λ k i. (ap (signed (d - i)) (adds-coboundary (staircase p n d i) (stair-sum p n prime.parity prime.two d i) (λ w. sum_value p (x (d - i)) (word_cochains y b w)) s)
         ∙ sym (adds-signed (λ a. integral_coboundary a s) (coboundary-sum s) (d - i) (λ t. staircase p n d i (λ w. sum_value p (x (d - i)) (word_cochains y b w) t)))) k)
         ∙ sym (adds-sum_to (λ a. integral_coboundary a s) (coboundary-sum s) d (λ i t. signed (d - i) (staircase p n d i (λ w. sum_value p (x (d - i)) (word_cochains y b w) t))))

@@ -1,20 +1,41 @@
 -- The staircase of words.
-use Rattle.std.proofs.Common.{◌≡◌, ℕ, zero, suc, ◌-◌, ◌*◌, ◌%◌, ◌≤◌, true, false, Bool, List, [], ◌∷◌, ◌++◌, length, refl, sym, ◌∙◌, ap, arith, length-append, ◌⊎◌, inl, inr, subst, ℤ, pos, ◌+ℤ◌, ◌*ℤ◌, neg_ℤ}
+use Rattle.std.proofs.Common.{◌≡◌, ℕ, zero, suc, ◌-◌, ◌*◌, ◌%◌, ◌≤◌, true, false, Bool, List, [], ◌∷◌, ◌++◌, length, refl, sym, ◌∙◌, ap, arith, length-append, ◌⊎◌, inl, inr, subst, ℤ, pos, ◌+ℤ◌, ◌*ℤ◌}
 use Rattle.std.proofs.Math.IntN.{zero-*ℤ, suc_ℤ-*ℤ, *ℤ_comm}
 use Rattle.std.proofs.lemmas.Int.{ints}
 use Rattle.signed_sum.proofs.Names.{signed-parity, signed-zero, bound-false, bound-true}
 use Rattle.signed_sum.specs.Names.{signed}
-use Rattle.simplicial_law.proofs.Names.{CongruentInt-neg, CongruentInt-signed, CongruentInt-sum, CongruentInt_from, CongruentInt_multiple, CongruentInt_of, CongruentInt_refl, CongruentInt_sym, CongruentInt_trans}
+use Rattle.simplicial_law.proofs.Names.{CongruentInt-neg, CongruentInt-signed, CongruentInt-sum, CongruentInt_from, CongruentInt_multiple, CongruentInt_of, CongruentInt_refl, CongruentInt_sym, CongruentInt_trans, sign-two}
 use Rattle.simplicial_law.specs.Names.{CongruentInt}
 use Rattle.linear_law.proofs.Names.{length-copies}
 use Rattle.steenrod_law.proofs.AdditiveMaps.{adds-signed, adds-zero}
-use Rattle.steenrod_law.proofs.Primes.{prime_of_field, two-or-odd}
+use Rattle.steenrod_law.proofs.Primes.{prime_of_field}
 use Rattle.steenrod_law.proofs.WordLemmas.{bound-step, homotopy, step-step, step-sum}
 use Rattle.steenrod_law.specs.Names.{StaircaseLaw, sum_to, choice, contraction, copies, letter_degree, norm, staircase, step, turn_back, turn_back_less_one, turn_back_power, boundary_value, word_degree}
 
--- h and g agree on words of m letters
+-- h and g agree modulo p on the words that are On
+abbrev pub AlikeOn : (List Bool → Type 0) → ℕ → (List Bool → ℤ) → (List Bool → ℤ) → Type 0
+AlikeOn On p h g = (w : List Bool) → On w → CongruentInt p (h w) (g w)
+
+-- on words of m letters
 abbrev pub Alike : ℕ → ℕ → (List Bool → ℤ) → (List Bool → ℤ) → Type 0
-Alike p m h g = (w : List Bool) → length w ≡ m → CongruentInt p (h w) (g w)
+Alike p m h g = AlikeOn (λ w. length w ≡ m) p h g
+
+-- what is made of turns that keep agreement keeps it
+module _ (On : List Bool → Type 0) (p : ℕ) (deg into : Bool → ℕ) (back : (h g : List Bool → ℤ) → AlikeOn On p h g → AlikeOn On p (turn_back deg h) (turn_back into g)) where
+  powers-alike : (k : ℕ) (h g : List Bool → ℤ) → AlikeOn On p h g → AlikeOn On p (turn_back_power deg k h) (turn_back_power into k g)
+  powers-alike zero h g a = a
+  powers-alike (suc k) h g a = back (turn_back_power deg k h) (turn_back_power into k g) (powers-alike k h g a)
+
+  pub norms-alike : (k : ℕ) (h g : List Bool → ℤ) → AlikeOn On p h g → AlikeOn On p (norm deg k h) (norm into k g)
+  norms-alike zero h g a w e = CongruentInt_refl (pos 0)
+  norms-alike (suc k) h g a w e = CongruentInt-sum (norms-alike k h g a w e) (powers-alike k h g a w e)
+
+  pub steps-alike : (k r : ℕ) (h g : List Bool → ℤ) → AlikeOn On p h g → AlikeOn On p (step deg k r h) (step into k r g)
+  steps-alike k r h g a w e = go (r % 2)
+    where
+      go : (c : ℕ) → CongruentInt p (choice c (norm deg k h w) (turn_back_less_one deg h w)) (choice c (norm into k g w) (turn_back_less_one into g w))
+      go zero = norms-alike k h g a w e
+      go (suc c) = CongruentInt-sum (back h g a w e) (CongruentInt-neg (a w e))
 
 pub back-alike : (p : ℕ) (deg : Bool → ℕ) (m : ℕ) (h g : List Bool → ℤ) → Alike p m h g → Alike p m (turn_back deg h) (turn_back deg g)
 back-alike p deg m h g a [] e = a [] e
@@ -23,20 +44,11 @@ back-alike p deg m h g a (l ∷ w) e = CongruentInt-signed (deg l * word_degree 
 pub minus-alike : (p : ℕ) (deg : Bool → ℕ) (m : ℕ) (h g : List Bool → ℤ) → Alike p m h g → Alike p m (turn_back_less_one deg h) (turn_back_less_one deg g)
 minus-alike p deg m h g a w e = CongruentInt-sum (back-alike p deg m h g a w e) (CongruentInt-neg (a w e))
 
-pub power-alike : (p : ℕ) (deg : Bool → ℕ) (m k : ℕ) (h g : List Bool → ℤ) → Alike p m h g → Alike p m (turn_back_power deg k h) (turn_back_power deg k g)
-power-alike p deg m zero h g a = a
-power-alike p deg m (suc k) h g a = back-alike p deg m (turn_back_power deg k h) (turn_back_power deg k g) (power-alike p deg m k h g a)
-
 pub norm-alike : (p : ℕ) (deg : Bool → ℕ) (m k : ℕ) (h g : List Bool → ℤ) → Alike p m h g → Alike p m (norm deg k h) (norm deg k g)
-norm-alike p deg m zero h g a w e = CongruentInt_refl (pos 0)
-norm-alike p deg m (suc k) h g a w e = CongruentInt-sum (norm-alike p deg m k h g a w e) (power-alike p deg m k h g a w e)
+norm-alike p deg m = norms-alike (λ w. length w ≡ m) p deg deg (back-alike p deg m)
 
-pub step-alike : (p : ℕ) (deg : Bool → ℕ) (m k r : ℕ) (h g : List Bool → ℤ) → Alike p m h g → Alike p m (step deg k r h) (step deg k r g)
-step-alike p deg m k r h g a w e = go (r % 2)
-  where
-    go : (c : ℕ) → CongruentInt p (choice c (norm deg k h w) (turn_back_less_one deg h w)) (choice c (norm deg k g w) (turn_back_less_one deg g w))
-    go zero = norm-alike p deg m k h g a w e
-    go (suc c) = minus-alike p deg m h g a w e
+step-alike : (p : ℕ) (deg : Bool → ℕ) (m k r : ℕ) (h g : List Bool → ℤ) → Alike p m h g → Alike p m (step deg k r h) (step deg k r g)
+step-alike p deg m = steps-alike (λ w. length w ≡ m) p deg deg (back-alike p deg m)
 
 shorten-alike : (p m : ℕ) (h g : List Bool → ℤ) → Alike p m h g → Alike p m (contraction h) (contraction g)
 shorten-alike p m h g a [] e = CongruentInt_refl (pos 0)
@@ -51,11 +63,6 @@ shorten-sum h g (true ∷ w) = refl
 pub copies-end : {A : Type 0} (k : ℕ) (a : A) → copies k a ++ (a ∷ []) ≡ a ∷ copies k a
 copies-end zero a = refl
 copies-end (suc k) a = ap (λ w. a ∷ w) (copies-end k a)
-
--- modulo 2 signs do not matter
-pub sign-two : (n : ℕ) (z : ℤ) → CongruentInt 2 (signed n z) z
-sign-two zero z = CongruentInt_refl z
-sign-two (suc n) z = CongruentInt_trans (CongruentInt-neg (sign-two n z)) (record { multiple = neg_ℤ z; same = omega (arith, ints) })
 
 pub even-times : (a b : ℕ) → b % 2 ≡ 0 → (a * b) % 2 ≡ 0
 even-times zero b e = omega arith
@@ -215,4 +222,4 @@ module _ (p n : ℕ) (prime : (p ≡ 2) ⊎ (p % 2 ≡ 1)) (two : 2 ≤ p) (d : 
 pub staircase_law : StaircaseLaw
 staircase_law p n d j h field le =
     let prime = prime_of_field p field in
-    climb p n (two-or-odd p prime) prime.two d j le h
+    climb p n prime.parity prime.two d j le h

@@ -6,6 +6,7 @@ use Rattle.std.proofs.lemmas.List.Sums.{sum_by-cons}
 use Rattle.interval_cut_law.proofs.BoundaryLaws.{cochain_boundary_law}
 use Rattle.interval_cut_law.specs.Names.{AreNormalized, one_coboundary, operation_value}
 use Rattle.fp_field.specs.Element.{sign_power}
+use Rattle.linear_law.proofs.Names.{length_alike}
 use Rattle.signed_sum.proofs.Names.{one-mul, signed-+, signed-parity, signed-signed, signed-zero}
 use Rattle.signed_sum.specs.Names.{cycle, signed, unit_terms, value_at}
 use Rattle.simplicial_law.proofs.Names.{CongruentInt-signed, CongruentInt-sum, CongruentInt_of, CongruentInt_refl, CongruentInt_sym, CongruentInt_trans}
@@ -59,12 +60,6 @@ have-degrees [] bs e = tt
 have-degrees (q ∷ qs) [] e = absurd (omega (arith, e))
 have-degrees (q ∷ qs) (a ∷ bs) e = ((extended-cochain q a).degree, have-degrees qs bs (omega (arith, e)))
 
-zip-lengths : {A B : Type 0} (R : A → B → Type 0) (xs : List A) (ys : List B) → AllZip R xs ys → length xs ≡ length ys
-zip-lengths R [] [] z = refl
-zip-lengths R [] (y ∷ ys) z = absurd z
-zip-lengths R (x ∷ xs) [] z = absurd z
-zip-lengths R (x ∷ xs) (y ∷ ys) z = ap suc (zip-lengths R xs ys z.1)
-
 -- from x + (-1)^d y congruent to 0
 other-side : (p d : ℕ) (x y : ℤ) → CongruentInt p (x +ℤ signed d y) (pos 0) → CongruentInt p y (signed (suc d) x)
 other-side p d x y h =
@@ -91,7 +86,7 @@ cocycle_value_law facets p r n u qs bs field onto some z = record { at = λ s on
         let x : ℤ = value_at (λ w. operation_value r w cs s) (surjection_boundary u) in
         let y : ℤ = integral_coboundary (λ t. operation_value r u cs t) s in
         let whole : one_coboundary qs cs (λ bs. operation_value r u bs s) ≡ x +ℤ signed d y
-        = cochain_boundary_law r u s qs cs (are-normalized qs bs) (have-degrees qs bs (zip-lengths (λ q a. IsCocycle facets q p a) qs bs z)) onto h some in
+        = cochain_boundary_law r u s qs cs (are-normalized qs bs) (have-degrees qs bs (sym (length_alike (λ q a. IsCocycle facets q p a) qs bs z))) onto h some in
         let none = all-closed p s qs cs (λ bs. operation_value r u bs s) (are-closed facets p large s qs bs k z) (λ pre post c e. value-none-at p r u s pre post c some h e) in
         CongruentInt_trans (CongruentInt_sym (coboundary-residues p (sum_value r (unit_terms (u ∷ [])) cs) s large))
         (CongruentInt_trans (CongruentInt_of (ap (λ b. integral_coboundary b s) (λ i t. one-value r u cs t i)))

@@ -1,5 +1,5 @@
 -- A value depends on the values of the cochains on the faces of the simplex alone.
-use Rattle.std.proofs.Common.{ℕ, ◌≤◌, true, false, Bool, cond, ◌==◌, List, [], ◌∷◌, ◌++◌, length, sym, ◌∙◌, ap, arith, ℤ, pos}
+use Rattle.std.proofs.Common.{ℕ, zero, suc, ◌≤◌, true, false, Bool, cond, ◌==◌, List, [], ◌∷◌, ◌++◌, length, sym, ◌∙◌, ap, arith, ℤ, pos}
 use Rattle.interval_cut_law.proofs.CochainLaws.{cut_sum-zero}
 use Rattle.interval_cut_law.proofs.CutsAsWalks.{cut_sum-walk_sum}
 use Rattle.interval_cut_law.proofs.Walks.{Cell, edge, next, walk_exponent, walk_face, walk_faces, walk_sum, walk_term}
@@ -7,8 +7,10 @@ use Rattle.interval_cut_law.specs.Names.{cut_sum, operation_value, value_product
 use Rattle.signed_sum.specs.Names.{numbers_from}
 use Rattle.simplicial_law.proofs.Names.{CongruentInt-signed, CongruentInt-sum, CongruentInt-times, CongruentInt_of, CongruentInt_refl, CongruentInt_trans}
 use Rattle.simplicial_law.specs.Names.{CongruentInt}
-use Rattle.steenrod_law.proofs.Forms.{IsWeakFace, drop, none, take}
-use Rattle.steenrod_law.proofs.WordCochains.{product-none}
+use Rattle.steenrod_law.proofs.Forms.{AreTerms, IsWeakFace, SurjectionTerm, drop, none, operation_of, take}
+use Rattle.steenrod_law.proofs.WordBoundary.{some}
+use Rattle.steenrod_law.proofs.WordCochains.{over-same, product-none}
+use Rattle.steenrod_law.specs.Names.{copies}
 
 -- equal modulo p on the faces of s
 abbrev pub AllAt : ℕ → List ℕ → List (List ℕ → ℤ) → List (List ℕ → ℤ) → Type 0
@@ -65,3 +67,13 @@ value-none-at p r u s pre post z hu hs e =
     CongruentInt_trans
     (value-at p r u s (pre ++ (z ∷ post)) (pre ++ ((λ f. pos 0) ∷ post)) hu hs (at-mid p s pre post z (λ f. pos 0) e))
     (CongruentInt_of (ap (λ h. cut_sum h r u s) (λ i fs. product-none pre post fs i) ∙ cut_sum-zero r u s))
+
+-- modulo p an operation depends on the cochain modulo p alone
+
+all-copies : (p : ℕ) (s : List ℕ) (a b : List ℕ → ℤ) → ((f : List ℕ) → IsWeakFace f s → CongruentInt p (a f) (b f)) → (k : ℕ) → AllAt p s (copies k a) (copies k b)
+all-copies p s a b e zero = tt
+all-copies p s a b e (suc k) = (e, all-copies p s a b e k)
+
+pub operation-mod : (p d : ℕ) (x : List SurjectionTerm) (a b : List ℕ → ℤ) (s : List ℕ) → AreTerms p d x → 1 ≤ p → 1 ≤ length s → ((f : List ℕ) → IsWeakFace f s → CongruentInt p (a f) (b f)) → CongruentInt p (operation_of p x a s) (operation_of p x b s)
+operation-mod p d x a b s k le hs e =
+    over-same p d x (λ u. operation_value p u (copies p a) s) (λ u. operation_value p u (copies p b) s) k (λ u o c. value-at p p u s (copies p a) (copies p b) (some p u le o) hs (all-copies p s a b e p))

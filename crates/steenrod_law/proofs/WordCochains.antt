@@ -5,13 +5,11 @@ use Rattle.std.proofs.lemmas.Int.{ints}
 use Rattle.std.proofs.lemmas.Bool.{or_left}
 use Rattle.std.proofs.lemmas.List.{map-append}
 use Rattle.interval_cut_law.proofs.BoundaryLaws.{degeneracy_law, product_normalized}
-use Rattle.interval_cut_law.proofs.CochainLaws.{cut_sum-zero}
-use Rattle.interval_cut_law.proofs.Residues.{residue_law}
-use Rattle.interval_cut_law.specs.Names.{cut_sum, one_coboundary, operation_value, value_product}
+use Rattle.interval_cut_law.specs.Names.{one_coboundary, operation_value, value_product}
 use Rattle.signed_sum.proofs.Names.{without_one-without_one, mul-add, mul_comm, one-mul, signed-zero, bound-false, bound-true}
 use Rattle.signed_sum.specs.Names.{is_degenerate, unless_empty, signed, without_one}
 use Rattle.simplicial_law.proofs.Names.{CongruentInt-signed, CongruentInt-sum, CongruentInt-times, CongruentInt_of, CongruentInt_refl, CongruentInt_trans}
-use Rattle.simplicial_law.specs.Names.{AllCongruent, CongruentInt, HasDegree, HaveDegrees, integral_coboundary, tensor_boundary}
+use Rattle.simplicial_law.specs.Names.{CongruentInt, HasDegree, HaveDegrees, integral_coboundary, tensor_boundary}
 use Rattle.steenrod_law.proofs.CycleFaces.{onto-cycle, sum_of, value-cycle}
 use Rattle.steenrod_law.proofs.Forms.{AreTerms, IsCochain, SurjectionTerm, turned_total, value_over}
 use Rattle.steenrod_law.proofs.Staircase.{Alike, back-alike}

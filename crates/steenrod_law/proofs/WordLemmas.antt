@@ -1,28 +1,16 @@
 -- Words: turns, steps, boundaries and the contraction.
-use Rattle.std.proofs.Common.{◌≡◌, ℕ, zero, suc, ◌+◌, ◌-◌, ◌*◌, ◌%◌, true, false, Bool, List, [], ◌∷◌, ◌++◌, length, take, drop, refl, sym, ◌∙◌, ap, arith, append_assoc, append-nil, length-drop, ℤ, pos, ◌+ℤ◌, ◌-ℤ◌, ◌*ℤ◌, neg_ℤ, length-take-le, take-append-drop}
+use Rattle.std.proofs.Common.{◌≡◌, ℕ, zero, suc, ◌+◌, ◌*◌, ◌%◌, true, false, Bool, List, [], ◌∷◌, ◌++◌, length, take, drop, refl, sym, ◌∙◌, ap, arith, append_assoc, append-nil, length-drop, ℤ, pos, ◌+ℤ◌, ◌-ℤ◌, ◌*ℤ◌, neg_ℤ, length-take-le, take-append-drop}
 use Rattle.std.proofs.lemmas.Int.{ints}
-use Rattle.signed_sum.proofs.Names.{one-mul, signed-+, signed-neg, signed-parity, signed-signed, signed-zero, value_at-nothing, value_at-sub, value_at-sum, at_turn, at_turned, at_turned-end, bound-false, bound-true, bound-turn, bound-twice, degree-append, times-signed, turned-round as turned-whole, turns-through, two-even, whole-word}
+use Rattle.signed_sum.proofs.Names.{one-mul, signed-+, signed-parity, signed-signed, signed-zero, value_at-nothing, value_at-sub, value_at-sum, at_turn, at_turned, at_turned-end, bound-false, bound-true, bound-turn, bound-twice, degree-append, times-signed, turned-round as turned-whole, turns-through, two-even, whole-word}
 use Rattle.signed_sum.specs.Names.{signed, value_at, power_sum, last_letter, letters_before_last, word_boundary, word_turn}
+use Rattle.steenrod_law.proofs.AdditiveMaps.{adds-neg, adds-zero}
 use Rattle.steenrod_law.specs.Names.{WordLaws, boundary_value, choice, contraction, letter_degree, norm, step, turn_back, turn_back_less_one, turn_back_power, word_degree}
 use Rattle.table_reduction_law.proofs.PowerPairs.{sum_below}
-
--- the sum from 0 on
-pub sum-front : (n : ℕ) (a : ℕ → ℤ) → sum_below (suc n) a ≡ a 0 +ℤ sum_below n (λ k. a (suc k))
-sum-front zero a = omega (arith, ints)
-sum-front (suc n) a = let h = sum-front n a in omega (arith, ints)
 
 module _ (deg : Bool → ℕ) where
   pub back-sum : (h g : List Bool → ℤ) (w : List Bool) → turn_back deg (λ v. h v +ℤ g v) w ≡ turn_back deg h w +ℤ turn_back deg g w
   back-sum h g [] = refl
   back-sum h g (l ∷ w) = signed-+ (deg l * word_degree deg w) (h (w ++ (l ∷ []))) (g (w ++ (l ∷ [])))
-
-  pub back-neg : (h : List Bool → ℤ) (w : List Bool) → turn_back deg (λ v. neg_ℤ (h v)) w ≡ neg_ℤ (turn_back deg h w)
-  back-neg h [] = refl
-  back-neg h (l ∷ w) = signed-neg (deg l * word_degree deg w) (h (w ++ (l ∷ [])))
-
-  pub back-zero : (w : List Bool) → turn_back deg (λ v. pos 0) w ≡ pos 0
-  back-zero [] = refl
-  back-zero (l ∷ w) = signed-zero (deg l * word_degree deg w)
 
   -- T and N in turn give nothing
   pub power-back : (k : ℕ) (h : List Bool → ℤ) (w : List Bool) → turn_back_power deg k (turn_back deg h) w ≡ turn_back_power deg (suc k) h w
@@ -33,21 +21,17 @@ module _ (deg : Bool → ℕ) where
   power-sum zero h g w = refl
   power-sum (suc k) h g w = ap (λ f. turn_back deg f w) (λ i v. power-sum k h g v i) ∙ back-sum (turn_back_power deg k h) (turn_back_power deg k g) w
 
-  power-neg : (k : ℕ) (h : List Bool → ℤ) (w : List Bool) → turn_back_power deg k (λ v. neg_ℤ (h v)) w ≡ neg_ℤ (turn_back_power deg k h w)
-  power-neg zero h w = refl
-  power-neg (suc k) h w = ap (λ f. turn_back deg f w) (λ i v. power-neg k h v i) ∙ back-neg (turn_back_power deg k h) w
-
   pub norm-minus : (k : ℕ) (h : List Bool → ℤ) (w : List Bool) → norm deg k (turn_back_less_one deg h) w ≡ turn_back_power deg k h w +ℤ neg_ℤ (h w)
   norm-minus zero h w = omega (arith, ints)
   norm-minus (suc k) h w =
       let a = norm-minus k h w in
       let b = power-sum k (turn_back deg h) (λ v. neg_ℤ (h v)) w in
-      let c = power-neg k h w in
+      let c = adds-neg (λ f. turn_back_power deg k f w) (λ f g. power-sum k f g w) h in
       let d = power-back k h w in
       omega (arith, ints)
 
   back-norm : (k : ℕ) (h : List Bool → ℤ) (w : List Bool) → turn_back deg (norm deg k h) w +ℤ h w ≡ norm deg k h w +ℤ turn_back_power deg k h w
-  back-norm zero h w = let z = back-zero w in omega (arith, ints)
+  back-norm zero h w = let z = adds-zero (λ f. turn_back deg f w) (λ f g. back-sum f g w) in omega (arith, ints)
   back-norm (suc k) h w =
       let a = back-norm k h w in
       let b = back-sum (norm deg k h) (turn_back_power deg k h) w in
@@ -145,39 +129,24 @@ module _ (deg : Bool → ℕ) where
       let whole = take-append-drop k w in
       (λ i. at_turn (word_turn deg) (sym b i) h (sym whole i)) ∙ others-through (take k w) (drop k w) h ∙ (λ i. turn_back_power deg (a i) h (whole i))
 
-  norm-sum_below : (k : ℕ) (h : List Bool → ℤ) (w : List Bool) → norm deg k h w ≡ sum_below k (λ i. turn_back_power deg i h w)
+  pub norm-sum_below : (k : ℕ) (h : List Bool → ℤ) (w : List Bool) → norm deg k h w ≡ sum_below k (λ i. turn_back_power deg i h w)
   norm-sum_below zero h w = refl
   norm-sum_below (suc k) h w = ap (λ z. z +ℤ turn_back_power deg k h w) (norm-sum_below k h w)
 
-  below : (k : ℕ) (f : ℕ → ℤ) (h : List Bool → ℤ) (w : List Bool) → ((j : ℕ) → suc j + (k - suc j) ≡ k → at_turn (word_turn deg) j h w ≡ f j) → value_at h (power_sum (word_turn deg) k w) ≡ sum_below k f
-  below zero f h w e = refl
-  below (suc k) f h w e =
-      let a = below k f h w (λ j q. e j (omega arith)) in
-      let b = e k (omega arith) in
+  -- the first m turns, and the inverse turns that are not among them
+  rounds : (h : List Bool → ℤ) (w : List Bool) (m e : ℕ) → e + m ≡ length w →
+      value_at h (power_sum (word_turn deg) m w) +ℤ sum_below (suc e) (λ i. turn_back_power deg i h w) ≡ sum_below (suc (length w)) (λ i. turn_back_power deg i h w)
+  rounds h w zero e q =
+      let i : e ≡ length w = omega arith in
+      let s = ap (λ j. sum_below (suc j) (λ i. turn_back_power deg i h w)) i in
       omega (arith, ints)
-
-  turned-round : (k : ℕ) (f : ℕ → ℤ) → sum_below k (λ j. f (k - j)) ≡ sum_below k (λ j. f (suc j))
-  turned-round zero f = refl
-  turned-round (suc k) f =
-      let a = sum-front k (λ j. f (suc k - j)) in
-      let z : suc k - 0 ≡ suc k = omega arith in
-      let b = ap f z in
-      let c : sum_below k (λ j. f (suc k - suc j)) ≡ sum_below k (λ j. f (k - j)) = ap (λ (g : ℕ → ℕ). sum_below k (λ j. f (g j))) (λ i j. less j i) in
-      let ih = turned-round k f in
-      omega (arith, ints)
-    where
-      less : (j : ℕ) → suc k - suc j ≡ k - j
-      less j = omega arith
+  rounds h w (suc m) e q = let r = rounds h w m (suc e) (omega arith) in let t = others m (suc e) h w (omega arith) in omega (arith, ints)
 
   pub turn-norm : (h : List Bool → ℤ) (w : List Bool) → value_at h (power_sum (word_turn deg) (length w) w) ≡ norm deg (length w) h w
   turn-norm h w =
-      let k : ℕ = length w in
-      let f : ℕ → ℤ = λ i. turn_back_power deg i h w in
-      let a = below k (λ j. f (k - j)) h w (λ j q. others j (k - j) h w (omega arith)) in
-      let b = turned-round k f in
-      let c = sum-front k f in
+      let r = rounds h w (length w) 0 (omega arith) in
       let d = power-whole w h in
-      let e = norm-sum_below k h w in
+      let e = norm-sum_below (length w) h w in
       omega (arith, ints)
 
 module _ (n : ℕ) where

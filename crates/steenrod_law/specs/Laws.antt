@@ -1,5 +1,5 @@
 -- The laws of the Steenrod operations.
-use Rattle.std.specs.Prelude.{◌≡◌, ℕ, ◌+◌, ◌*◌, ◌-◌, ◌≤◌, Bool, List, [], ◌∷◌, ◌++◌, length, map, sum, ℤ, pos, ◌+ℤ◌, ◌*ℤ◌, suc, IsTrue, ◌<◌}
+use Rattle.std.specs.Prelude.{◌≡◌, ℕ, ◌+◌, ◌*◌, ◌-◌, ◌≤◌, Bool, List, [], ◌∷◌, ◌++◌, length, map, sum, ℤ, pos, ◌+ℤ◌, ◌*ℤ◌, suc, IsTrue}
 use Rattle.std.specs.List.{AllZip}
 use Rattle.fp_field.specs.Element.{sign_power}
 use Rattle.fp_field.specs.Orbits.{orbit_words}
