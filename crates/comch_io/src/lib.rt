@@ -21,6 +21,3 @@ pub use read_end::ReadEnd;
 pub use reading::{read_all, write_all};
 pub use sink::Sink;
 pub use source::{Failed, Source};
-
-#[cfg(test)]
-mod tests;

@@ -84,7 +84,7 @@ pub(crate) fn merged<const P: u32>(
     ensures row { IfOk result (λ r. IsRow P r.items) }
     ensures sum { IfOk result (λ r. (y : ℕ) → value_in r.items y ≡ (value_in left.now y + by.entry * value_in right.now y) % P) }
 {
-    let mut out = Vec::new(alloc);
+    let mut out = Vec::with_capacity(alloc, left.len().max(right.len()))?;
     let mut i = 0;
     let mut j = 0;
     while i < left.len() || j < right.len() {
