@@ -6,9 +6,8 @@ use Rattle.std.proofs.lemmas.List.{take-set-le}
 use Rattle.std.proofs.lemmas.List.Sums.{sum_by-set}
 use Rattle.std.proofs.Math.Seq.{drop-cons, take-set-lt}
 use Rattle.signed_sum.specs.Names.{less, occurs}
-use Rattle.signed_sum.proofs.Names.{less-no, occurs-01}
+use Rattle.signed_sum.proofs.Names.{less-no, occurs-01, less-yes}
 use Rattle.surjection_law.specs.Names.{arity}
-use Rattle.interval_cut_law.proofs.GapWords.{less-yes}
 use Rattle.interval_cut_law.specs.Names.{IsCutFrom, lengths_below, sign_exponent}
 use Rattle.interval_cut.specs.Names.{IsPassed}
 use Rattle.interval_cut.proofs.WalkLemmas.{length-cut}

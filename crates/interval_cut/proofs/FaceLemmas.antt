@@ -6,8 +6,7 @@ use Rattle.std.proofs.Math.Seq.{drop-append_seam, take-append_seam}
 use Rattle.linear_law.specs.Names.{sum_over, Each}
 use Rattle.linear_law.proofs.Names.{each_append}
 use Rattle.signed_sum.specs.Names.{IsDistinct, numbers_from, occurs}
-use Rattle.signed_sum.proofs.Names.{numbers_from-distinct}
-use Rattle.interval_cut_law.proofs.GapWords.{numbers-append}
+use Rattle.signed_sum.proofs.Names.{numbers_from-distinct, numbers_from-append}
 use Rattle.interval_cut_law.specs.Names.{IsCutFrom, cut_face}
 use Rattle.interval_cut.specs.Names.{IsFaceTable, IsPartOfFace, IsPartOfTable, flat_faces}
 
@@ -24,7 +23,7 @@ flat_faces-append (k ∷ ks) ls u p =
 pub flat_faces-next : (k : ℕ) (u p : List ℕ) → flat_faces (numbers_from 1 (k + 1)) u p ≡ flat_faces (numbers_from 1 k) u p ++ cut_face (k + 1) u 0 p
 flat_faces-next k u p =
     let e : 1 + k ≡ k + 1 = omega arith in
-    ap (λ ks. flat_faces ks u p) (numbers-append 1 k 1 ∙ ap (λ x. numbers_from 1 k ++ (x ∷ [])) e)
+    ap (λ ks. flat_faces ks u p) (numbers_from-append 1 k 1 ∙ ap (λ x. numbers_from 1 k ++ (x ∷ [])) e)
     ∙ flat_faces-append (numbers_from 1 k) ((k + 1) ∷ []) u p ∙ ap (λ r. flat_faces (numbers_from 1 k) u p ++ r) (append-nil (cut_face (k + 1) u 0 p))
 
 -- ---- room: the intervals have as many places as the edges and the intervals together
@@ -104,7 +103,7 @@ pub numbers_step : (places old : List ℕ) (at k first : ℕ) → at + k < lengt
 numbers_step places old at k first b h =
     let e : at + (k + 1) ≡ at + k + 1 = omega arith in
     ap (λ n. take n (set places (at + k) (first + k))) e ∙ take_more_set places (at + k) (first + k) b ∙ ap (λ r. r ++ ((first + k) ∷ [])) h
-    ∙ append_assoc (take at old) (numbers_from first k) ((first + k) ∷ []) ∙ ap (λ r. take at old ++ r) (sym (numbers-append first k 1))
+    ∙ append_assoc (take at old) (numbers_from first k) ((first + k) ∷ []) ∙ ap (λ r. take at old ++ r) (sym (numbers_from-append first k 1))
 
 pub face_start : (k : ℕ) (u p : List ℕ) (at : ℕ) (old : List ℕ) → IsCutFrom u 0 p → IsPartOfFace k u p at 0 0 at old old
 face_start k [] [] at old c = record { rest = c; long = refl; written = refl }

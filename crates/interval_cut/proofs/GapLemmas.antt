@@ -4,11 +4,11 @@ use Rattle.std.proofs.lemmas.Bool.{cases_lt}
 use Rattle.std.proofs.lemmas.List.{drop_more, drop_all}
 use Rattle.std.proofs.lemmas.List.Sums.{sum_by-cons}
 use Rattle.signed_sum.specs.Names.{count_before, inversion_count, rearrangement_sign, less, numbers_from, occurs, signed}
-use Rattle.signed_sum.proofs.Names.{less-no, occurs-01, signed-parity}
+use Rattle.signed_sum.proofs.Names.{less-no, occurs-01, signed-parity, less-yes, numbers_from-append}
 use Rattle.operad_law.proofs.WordLemmas.{drop_rest}
 use Rattle.surjection_law.specs.Names.{caesura_count, IsOnto}
 use Rattle.interval_cut_law.specs.Names.{IsCutFrom, cut_face, gap_symbols, gap_word, sign_exponent, starting_word}
-use Rattle.interval_cut_law.proofs.GapWords.{less-yes, numbers-append, sign-parity, sign_forms_agree}
+use Rattle.interval_cut_law.proofs.GapWords.{sign-parity, sign_forms_agree}
 use Rattle.interval_cut.specs.Names.{flat_faces, IsPartOfGaps}
 use Rattle.interval_cut.proofs.FaceLemmas.{faces_room, length-numbers_from}
 
@@ -68,7 +68,7 @@ gap_word-append (k ∷ ks) ls u p =
 pub word_next : (k : ℕ) (u p : List ℕ) → gap_word (numbers_from 1 (k + 1)) u p ≡ gap_word (numbers_from 1 k) u p ++ gap_symbols (k + 1) (caesura_count u) 1 u 0 p
 word_next k u p =
     let e : 1 + k ≡ k + 1 = omega arith in
-    ap (λ ks. gap_word ks u p) (numbers-append 1 k 1 ∙ ap (λ x. numbers_from 1 k ++ (x ∷ [])) e)
+    ap (λ ks. gap_word ks u p) (numbers_from-append 1 k 1 ∙ ap (λ x. numbers_from 1 k ++ (x ∷ [])) e)
     ∙ gap_word-append (numbers_from 1 k) ((k + 1) ∷ []) u p ∙ ap (λ r. gap_word (numbers_from 1 k) u p ++ r) (append-nil (gap_symbols (k + 1) (caesura_count u) 1 u 0 p))
 
 pub word_room : (k : ℕ) (u inner : List ℕ) (top : ℕ) → IsCutFrom u 0 (inner ++ (top ∷ [])) → length u ≤ 255 → top ≤ 255 → length (gap_word (numbers_from 1 k) u (inner ++ (top ∷ []))) ≤ 510

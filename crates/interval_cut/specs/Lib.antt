@@ -10,5 +10,4 @@ pub mod Exponents
 pub mod Masks
 pub mod Evaluation
 pub mod Gaps
-pub mod Samples
 pub mod Names

@@ -12,4 +12,3 @@ pub use Rattle.interval_cut.specs.Exponents.{IsPassed}
 pub use Rattle.interval_cut.specs.Masks.{by_mask, product_from, signed_product}
 pub use Rattle.interval_cut.specs.Evaluation.{IsOfDegree, IsPartOfSum}
 pub use Rattle.interval_cut.specs.Gaps.{IsPartOfGaps}
-pub use Rattle.interval_cut.specs.Samples.{edge_ascending, edge_long, edge_small, edge_value}

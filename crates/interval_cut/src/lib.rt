@@ -9,8 +9,6 @@ mod live_lists;
 mod live_search;
 mod signs;
 mod stage;
-#[cfg(test)]
-mod tests;
 mod values;
 mod words;
 
