@@ -1,13 +1,10 @@
 -- What is asked of each part of a report that certifies.
 use Rattle.std.proofs.Common.{◌≡◌, ℕ, zero, suc, ◌+◌, ◌<◌, inl, inr, subst, sym, arith, Bool, true, List, [], ◌∷◌, ◌++◌, length, map, get_or}
 use Rattle.std.specs.List.{list_all}
-use Rattle.std.proofs.lemmas.Bool.{and_parts}
 use Rattle.linear_law.specs.Names.{Among, Each}
-use Rattle.linear_law.proofs.Names.{each_zip}
-use Rattle.report.specs.declared.complex.ComplexPart.{ComplexPart}
-use Rattle.report.specs.declared.job.Report.{Report}
-use Rattle.report.specs.declared.map.MapPart.{MapPart}
-use Rattle.report_text_law.specs.declared.line.Line.{Line}
+use Rattle.linear_law.proofs.Names.{each_unmap, each_zip}
+use Rattle.report_law.proofs.Names.{each-all}
+use Rattle.certificate_law.specs.Types.{ComplexPart, Report, MapPart, TextLine as Line}
 use Rattle.report_text_law.specs.Names.{is_line}
 use Rattle.report_text_law.specs.WellFormed.{is_well_formed}
 use Rattle.certificate_law.specs.Names.{Certifies, Asks, line_said, Stated, behind, cartan_stated, complex_ends, complex_stated, degree_stated, facet_stands, map_stated, numbered, operation_stated, product_stated, stated}
@@ -92,8 +89,7 @@ complex_parts p before c h =
     }
 
 lines_formed : (t : Line → Bool) (xs : List Stated) → list_all t (map line_said xs) ≡ true → Each (λ s. t (line_said s) ≡ true) xs
-lines_formed t [] h = tt
-lines_formed t (x ∷ xs) h = let parts = and_parts (t (line_said x)) (list_all t (map line_said xs)) h in (parts.0, lines_formed t xs parts.1)
+lines_formed t xs h = each_unmap (λ l. t l ≡ true) line_said xs (each-all t (λ l. t l ≡ true) (λ l k. k) (map line_said xs) h)
 
 pub lines_asked : (r : Report) → is_well_formed r ≡ true → Certifies r → Each (IsAsAsked r.prime) (stated r)
 unfolding is_well_formed

@@ -36,19 +36,17 @@ zip_at : {X Z : Type 0} (R : Z → X → Type 0) (d : Z) (full : List Z) (k : �
     → EachAt (λ j x. (j < length full) × R (get_or full j d) x) k xs
 unfolding EachAt
 zip_at R d full k [] [] l e h = tt
-zip_at R d full k [] (x ∷ xs) l e h = absurd h
-zip_at R d full k (z ∷ zs) [] l e h = absurd h
 zip_at R d full k (z ∷ zs) (x ∷ xs) l e h =
     let o : k + 0 ≡ k = omega arith in (
       (omega (arith, l), subst (λ (w : _). R w x) (sym (e 0) ∙ ap (λ j. get_or full j d) o) h.0),
       zip_at R d full (k + 1) zs xs (omega (arith, l)) (λ i. let q : (k + 1) + i ≡ k + suc i = omega arith in ap (λ j. get_or full j d) q ∙ e (suc i)) h.1,
     )
+zip_at R d full k _ _ l e h = absurd h
 
 zip_unmap : {X Y Z : Type 0} (R : Z → X → Type 0) (g : Y → Z) (ys : List Y) (xs : List X) → AllZip R (map g ys) xs → AllZip (λ y x. R (g y) x) ys xs
 zip_unmap R g [] [] h = tt
-zip_unmap R g [] (x ∷ xs) h = absurd h
-zip_unmap R g (y ∷ ys) [] h = absurd h
 zip_unmap R g (y ∷ ys) (x ∷ xs) h = (h.0, zip_unmap R g ys xs h.1)
+zip_unmap R g _ _ h = absurd h
 
 pub zip_places : {X Y Z : Type 0} (R : Z → X → Type 0) (g : Y → Z) (d : Y) (ys : List Y) (xs : List X) → AllZip R (map g ys) xs → EachAt (λ j x. (j < length ys) × R (g (get_or ys j d)) x) 0 xs
 zip_places R g d ys xs h = zip_at (λ y x. R (g y) x) d ys 0 ys xs (omega arith) (λ i. let e : 0 + i ≡ i = omega arith in ap (λ j. get_or ys j d) e) (zip_unmap R g ys xs h)

@@ -64,8 +64,6 @@ module _ (facets : List (List ℕ)) (ascending : Each IsAscending facets) (n p :
   new_leads : (earlier : List Cochain) (es : List (List ℕ)) → AllZip (λ e y. IsLeastSimplex facets n p y e) es earlier → (zs : List Cochain) (ts : List (List ℕ)) → AllZip (λ t z. IsLeastSimplex facets n p z t) ts zs →
       IsApart ts → Each (λ t. Among t es → ⊥) ts → EachAfter (HasNewLeast facets n p) earlier zs
   new_leads earlier es h [] [] g a m = tt
-  new_leads earlier es h [] (t ∷ ts) g a m = absurd g
-  new_leads earlier es h (z ∷ zs) [] g a m = absurd g
   new_leads earlier es h (z ∷ zs) (t ∷ ts) g a m = (
     record { simplex = t; least = g.0; new = others es earlier h m.0 },
     new_leads (z ∷ earlier) (t ∷ es) (g.0, h) zs ts g.1 a.1 (apart_more ts a.0 m.1),
@@ -73,13 +71,13 @@ module _ (facets : List (List ℕ)) (ascending : Each IsAscending facets) (n p :
     where
       others : (us : List (List ℕ)) (ys : List Cochain) → AllZip (λ e y. IsLeastSimplex facets n p y e) us ys → (Among t us → ⊥) → Each (λ y. IsLeastSimplex facets n p y t → ⊥) ys
       others [] [] k o = tt
-      others [] (y ∷ ys) k o = absurd k
-      others (u ∷ us) [] k o = absurd k
       others (u ∷ us) (y ∷ ys) k o = (λ l. o (inl (one_lead y u t k.0 l)), others us ys k.1 (λ q. o (inr q)))
+      others _ _ k o = absurd k
 
       apart_more : (us : List (List ℕ)) → (Among t us → ⊥) → Each (λ t. Among t es → ⊥) us → Each (λ u. Among u (t ∷ es) → ⊥) us
       apart_more [] o k = tt
       apart_more (u ∷ us) o k = (λ q. elim q [ inl e ↦ o (inl (sym e)) | inr r ↦ k.0 r ], apart_more us (λ q. o (inr q)) k.1)
+  new_leads earlier es h _ _ g a m = absurd g
 
 -- ---- canonical data
 
@@ -87,8 +85,6 @@ module _ (facets : List (List ℕ)) (ascending : Each IsAscending facets) (n p :
 primitive_leads : (facets : List (List ℕ)) (ascending : Each IsAscending facets) (n p : ℕ) (field : IsField p) (ss : List (List ℕ)) (ys : List Chain) → AllZip (IsPrimitiveAt facets n p) ss ys →
     AllZip (λ s z. IsLeastSimplex facets n p z s) ss (coboundaries_of p ys) × Each (IsOnBelow facets n) ys
 primitive_leads facets ascending n p field [] [] h = (tt, tt)
-primitive_leads facets ascending n p field [] (y ∷ ys) h = absurd h
-primitive_leads facets ascending n p field (s ∷ ss) [] h = absurd h
 primitive_leads facets ascending zero p field (s ∷ ss) (y ∷ ys) h = absurd (no_bounds facets p s h.0.canonical.pivot)
 primitive_leads facets ascending (suc m) p field (s ∷ ss) (y ∷ ys) h =
     let rest = primitive_leads facets ascending (suc m) p field ss ys h.1 in
@@ -101,17 +97,17 @@ primitive_leads facets ascending (suc m) p field (s ∷ ss) (y ∷ ys) h =
       ),
       (each_map (λ t on. record { degree = m; one_less = sym e; simplex = on }) y h.0.primitive.1.simplices, rest.1),
     )
+primitive_leads facets ascending n p field _ _ h = absurd h
 
 class_leads : (facets : List (List ℕ)) (ascending : Each IsAscending facets) (n p : ℕ) (field : IsField p) (ss : List (List ℕ)) (zs : List Chain) → AllZip (λ s terms. IsCanonicalClass facets n p s (cochain_of terms)) ss zs →
     AllZip (λ s z. IsLeastSimplex facets n p z s) ss (map cochain_of zs) × (Each (λ z. IsCocycle facets n p (cochain_of z)) zs × Each (λ s. IsCocyclePivot facets n p s × (IsCoboundaryPivot facets n p s → ⊥)) ss)
 class_leads facets ascending n p field [] [] h = (tt, (tt, tt))
-class_leads facets ascending n p field [] (z ∷ zs) h = absurd h
-class_leads facets ascending n p field (s ∷ ss) [] h = absurd h
 class_leads facets ascending n p field (s ∷ ss) (z ∷ zs) h =
     let rest = class_leads facets ascending n p field ss zs h.1 in (
       (canonical_lead facets ascending n p field (IsCocycle facets n p) s (cochain_of z) h.0.canonical, rest.0),
       ((h.0.canonical.member, rest.1.0), ((h.0.canonical.pivot, h.0.no_bound), rest.1.1)),
     )
+class_leads facets ascending n p field _ _ h = absurd h
 
 -- the pivots of the coboundaries of degree n, as many as are listed below
 record BoundPivots (facets : List (List ℕ)) (n p : ℕ) (below : List Chain) : Type 0 where

@@ -4,8 +4,7 @@ use Rattle.std.proofs.lemmas.List.{length-map}
 use Rattle.linear_law.specs.Names.{IsField, Each, IsAscending}
 use Rattle.simplicial_law.specs.Names.{Chain, IsCocycle, cochain_of}
 use Rattle.simplicial_law.proofs.Names.{listed_simplices_law}
-use Rattle.report.specs.declared.complex.ComplexPart.{ComplexPart}
-use Rattle.report.specs.declared.complex.DegreePart.{DegreePart}
+use Rattle.certificate_law.specs.Types.{ComplexPart, DegreePart}
 use Rattle.report_law.specs.Names.{classes_in, below_in, classes_of}
 use Rattle.report_law.proofs.Names.{AreBases, bases-from, get_or-map, get_or-past}
 use Rattle.certificate_law.specs.Names.{HasNewLeast, IsCounted, IsOn, IsOnBelow, coboundaries_of, after, below_stands, class_stands, degree_stated}

@@ -7,19 +7,8 @@ use Rattle.fp_field.proofs.ServedLemmas.{served_field}
 use Rattle.linear_law.specs.Names.{Congruent, IsField, Among, Each, IsAscending}
 use Rattle.linear_law.proofs.Names.{Congruent_sym, Congruent_trans, among_map, each_among, each_of_index}
 use Rattle.simplicial_law.specs.Names.{AgreesOnSimplices, Cochain, coboundary, cochain_of}
+use Rattle.certificate_law.specs.Types.{Sent, CartanAnswer, Yes, No, CartanPart, OperationPart, ProductPart, ComplexPart, Certificate, Report, InducedPart, MapPart, Line}
 use Rattle.complex_file.specs.Names.{has_name}
-use Rattle.complex_file.specs.declared.block.Sent.{Sent}
-use Rattle.report.specs.declared.columns.CartanAnswer.{CartanAnswer}
-use Rattle.report.specs.declared.columns.CartanAnswer.TheVariants.{Yes, No}
-use Rattle.report.specs.declared.columns.CartanPart.{CartanPart}
-use Rattle.report.specs.declared.columns.OperationPart.{OperationPart}
-use Rattle.report.specs.declared.columns.ProductPart.{ProductPart}
-use Rattle.report.specs.declared.complex.ComplexPart.{ComplexPart}
-use Rattle.report.specs.declared.form.Form.TheVariants.{Certificate}
-use Rattle.report.specs.declared.job.Report.{Report}
-use Rattle.report.specs.declared.map.InducedPart.{InducedPart}
-use Rattle.report.specs.declared.map.MapPart.{MapPart}
-use Rattle.report.specs.declared.plan.Line.{Line}
 use Rattle.report_law.specs.Names.{CartanPromise, ComplexPromise, ProductPromise, Says, blocks, induced_degrees, lines, IsLineDifference, class_at, line_degree, block_of, classes_of, line_of, number_pairs, ranks_of, IsInducedPart, IsOperationPart}
 use Rattle.report_law.proofs.Names.{bases_promise, operation_promises, product_promise, AreBases, agrees-sym, simplicial, induced_promise, difference-once, of-lines}
 use Rattle.report_text_law.specs.Names.{is_line}

@@ -10,18 +10,10 @@ use Rattle.linear_law.specs.Names.{Each, combination}
 use Rattle.linear_law.proofs.Names.{Congruent_from, Congruent_refl, add-negated, zip_left}
 use Rattle.simplicial_law.specs.Names.{AgreesOnSimplices, Chain, Cochain, cochain_of}
 use Rattle.steenrod_law.specs.Names.{cochain_products, cup_product, pull_back}
-use Rattle.report.specs.declared.columns.Column.{Column}
-use Rattle.report.specs.declared.columns.OperationPart.{OperationPart}
-use Rattle.report.specs.declared.columns.PairColumn.{PairColumn}
-use Rattle.report.specs.declared.columns.ProductPart.{ProductPart}
-use Rattle.report.specs.declared.complex.ComplexPart.{ComplexPart}
-use Rattle.report.specs.declared.map.InducedPart.{InducedPart}
-use Rattle.report.specs.declared.map.MapPart.{MapPart}
+use Rattle.certificate_law.specs.Types.{Column, OperationPart, PairColumn, ProductPart, ComplexPart, InducedPart, MapPart, column_line, pair_line}
 use Rattle.report_law.specs.Names.{IsColumn, listed, IsOperationColumn, class_at, classes_in, block_of, classes_of, number_pairs, numbers_of, unnumbered, IsInducedPart, IsOperationPart, IsProductPart}
 use Rattle.report_law.proofs.Names.{coordinates-alike}
 use Rattle.report_text_law.specs.Names.{are_values, is_line, is_u32}
-use Rattle.report_text_law.specs.declared.line.Line.TheVariants.{Column as column_line}
-use Rattle.report_text_law.specs.declared.line.Line.TheVariants.{Pair as pair_line}
 use Rattle.certificate_law.specs.Names.{column_sum, IsOnBelow, rank_in, sent_by, induced_column, induced_stated, operation_column, operation_stated, product_column, product_stated, with_stands}
 use Rattle.certificate_law.proofs.Asked.{IsAsAsked}
 use Rattle.certificate_law.proofs.ListedBases.{nowhere}

@@ -11,19 +11,7 @@ use Rattle.simplicial_law.specs.Names.{IsSimplex, AgreesOnSimplices, Chain, Coch
 use Rattle.simplicial_law.specs.ListedSimplices.{simplices}
 use Rattle.simplicial_law.proofs.Names.{coboundary_zero, listed_simplices_law}
 use Rattle.steenrod_law.specs.Names.{cochain_products, cup_product}
-use Rattle.report.specs.declared.columns.CartanAnswer.{CartanAnswer}
-use Rattle.report.specs.declared.columns.CartanAnswer.TheVariants.{Yes, No}
-use Rattle.report.specs.declared.columns.CartanPart.{CartanPart}
-use Rattle.report.specs.declared.columns.Column.{Column}
-use Rattle.report.specs.declared.columns.OperationPart.{OperationPart}
-use Rattle.report.specs.declared.columns.PairColumn.{PairColumn}
-use Rattle.report.specs.declared.columns.ProductPart.{ProductPart}
-use Rattle.report.specs.declared.complex.ComplexPart.{ComplexPart}
-use Rattle.report.specs.declared.complex.DegreePart.{DegreePart}
-use Rattle.report.specs.declared.plan.Block.{Block}
-use Rattle.report.specs.declared.plan.Op.{Op}
-use Rattle.report.specs.declared.plan.Op.TheVariants.{Square}
-use Rattle.report.specs.declared.plan.Op.TheVariants.{Power, BocksteinPower}
+use Rattle.certificate_law.specs.Types.{CartanAnswer, Yes, No, CartanPart, Column, OperationPart, PairColumn, ProductPart, ComplexPart, DegreePart, Block, Op, Square}
 use Rattle.report_law.specs.Names.{IsAnswer, IsColumn, IsPrimitive, IsCartanDifference, IsOperation, listed, blocks, is_defined, lines, products, target_degree, IsOperationColumn, class_at, classes_in, line_degree, below_in, block_of, classes_of, line_of, number_pairs, numbers_of, op_of, product_of, ranks_of, unnumbered, AreTables, IsCartanPart, IsComplexPart, IsOperationPart, IsProductPart}
 use Rattle.report_law.proofs.Names.{of-blocks, is_cycle, reads}
 use Rattle.certificate_law.specs.Names.{HasItsDegrees, IsBlockLine, IsCartanLine, IsClassLine, IsCoboundaryLine, IsCocycleLine, IsColumnAt, IsColumnLine, IsComplexWhole, IsCountLine, IsInducedLine, IsNewComplex, IsProductColumn, IsRightAnswer, IsRightOperation, IsRightProduct, column_sum, HasNewLeast, IsOn, IsOnBelow, coboundaries_of, simplex_count, itself, rank_in, Stated, after, answer_stated, behind, below_stands, cartan_stated, class_stands, complex_ends, complex_stated, degree_stated, facet_stands, numbered, operation_column, operation_stated, product_column, product_stated, with_stands}
@@ -70,8 +58,7 @@ operation_alike : (facets : List (List ℕ)) (p q : ℕ) (op : Op) (z a b : Coch
 operation_alike facets p q (Square k) z a b e h two =
     let f : AgreesOnSimplices facets (q + k) 2 b a = subst (λ (m : ℕ). AgreesOnSimplices facets (q + k) m b a) (two k refl) e in
     record { defined = h.defined; value = record { at = λ s on. Congruent_trans (f.at s on) (h.value.at s on) } }
-operation_alike facets p q (Power s) z a b e h two = record { odd = h.odd; defined = h.defined; scale = h.scale; is_scale = h.is_scale; value = record { at = λ t on. Congruent_trans (e.at t on) (h.value.at t on) } }
-operation_alike facets p q (BocksteinPower s) z a b e h two = record { odd = h.odd; defined = h.defined; scale = h.scale; is_scale = h.is_scale; value = record { at = λ t on. Congruent_trans (e.at t on) (h.value.at t on) } }
+operation_alike facets p q _ z a b e h two = record { odd = h.odd; defined = h.defined; scale = h.scale; is_scale = h.is_scale; value = record { at = λ t on. Congruent_trans (e.at t on) (h.value.at t on) } }
 
 shorter : {X Y : Type 0} (f : X → Y) (xs : List X) (ys : List Y) → map f xs ≡ ys → length ys ≤ length xs
 shorter f xs ys e = let l = ap length e in let m = length-map xs f in omega (arith, l, m)

@@ -7,13 +7,8 @@ use Rattle.linear_law.specs.Names.{Each}
 use Rattle.linear_law.proofs.Names.{each_append, each_map, length_alike}
 use Rattle.simplicial_law.specs.Names.{Chain, Cochain, cochain_of}
 use Rattle.steenrod_law.specs.Names.{pull_back}
+use Rattle.certificate_law.specs.Types.{Sent, Column, ComplexPart, Report, InducedPart, MapPart}
 use Rattle.complex_file.specs.Names.{end_fault}
-use Rattle.complex_file.specs.declared.block.Sent.{Sent}
-use Rattle.report.specs.declared.columns.Column.{Column}
-use Rattle.report.specs.declared.complex.ComplexPart.{ComplexPart}
-use Rattle.report.specs.declared.job.Report.{Report}
-use Rattle.report.specs.declared.map.InducedPart.{InducedPart}
-use Rattle.report.specs.declared.map.MapPart.{MapPart}
 use Rattle.report_law.specs.Names.{IsColumn, listed, induced_degrees, classes_in, classes_of, ranks_of, IsInducedPart, passing_sum, sizes_of}
 use Rattle.certificate_law.specs.Names.{Certifies, Asks, IsColumnAt, IsMapWhole, IsNewMap, IsRightPullBack, rank_in, sent_by, Stated, behind, complex_stated, finish, induced_column, induced_stated, map_between, map_ends, map_stated, numbered, send_stands, stated}
 use Rattle.certificate_law.proofs.Building.{at_both, at_of_each, each_numbered, placed, zip_places}
@@ -67,7 +62,6 @@ module _ (p : ℕ) (is_served : IsTrue (served p)) (from to : ComplexPart) (m : 
 -- ---- the report
 
 asks : (p : ℕ) (s : Stated) → IsRight p s → (condition : ℕ) → Asks p condition s
-asks p s h zero = tt
 asks p s h (suc zero) = h.0
 asks p s h (suc (suc zero)) = h.1
 asks p s h (suc (suc (suc zero))) = h.2
@@ -76,7 +70,7 @@ asks p s h (suc (suc (suc (suc (suc zero))))) = h.4
 asks p s h (suc (suc (suc (suc (suc (suc zero)))))) = h.5
 asks p s h (suc (suc (suc (suc (suc (suc (suc zero))))))) = h.6
 asks p s h (suc (suc (suc (suc (suc (suc (suc (suc zero)))))))) = h.7
-asks p s h (suc (suc (suc (suc (suc (suc (suc (suc (suc k))))))))) = tt
+asks p s h _ = tt
 
 pub all_right : (r : Report) → Each (IsRight r.prime) (behind complex_stated [] r.complexes) → Each (IsRight r.prime) (behind (map_stated r.complexes) [] r.maps) →
     passing_sum r.prime (10 ^ 12) (map (λ c. sizes_of c.facets c) r.complexes) ≡ None → Certifies r

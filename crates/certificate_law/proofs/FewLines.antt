@@ -1,22 +1,10 @@
 -- The certificate of a job has fewer than 2^64 lines.
-use Rattle.report.specs.declared.plan.Op.{Op}
-use Rattle.report.specs.declared.plan.Op.TheVariants.{Square}
-use Rattle.report.specs.declared.columns.CartanAnswer.{CartanAnswer}
-use Rattle.report.specs.declared.columns.CartanAnswer.TheVariants.{Yes, No}
-use Rattle.report.specs.declared.columns.CartanPart.{CartanPart}
-use Rattle.report.specs.declared.columns.Column.{Column}
-use Rattle.report.specs.declared.complex.ComplexPart.{ComplexPart}
-use Rattle.report.specs.declared.complex.DegreePart.{DegreePart}
-use Rattle.report.specs.declared.map.InducedPart.{InducedPart}
-use Rattle.report.specs.declared.map.MapPart.{MapPart}
-use Rattle.report.specs.declared.plan.Block.{Block}
-use Rattle.report.specs.declared.plan.Line.{Line as CartanLine}
-use Rattle.report.specs.declared.plan.Product.{Product}
-use Rattle.report.specs.declared.plan.Op.TheVariants.{Power, BocksteinPower}
-use Rattle.std.proofs.Common.{filter, ◌≡◌, ℕ, zero, suc, ◌+◌, ◌*◌, ◌<◌, ◌≤◌, ◌&&◌, true, inl, inr, refl, sym, ◌∙◌, ap, arith, List, [], ◌∷◌, ◌++◌, length, map, get_or, Bool, length-append, cond, ◌-◌, false, flat_map, leb-true}
+use Rattle.certificate_law.specs.Types.{Op, Square, CartanAnswer, Yes, No, CartanPart, Column, ComplexPart, DegreePart, InducedPart, MapPart, Block, Line as CartanLine, Product, Power, BocksteinPower, ComplexBlock, MapBlock, Sent, below_line, class_line, facet_line, done_line, end_line}
+use Rattle.std.proofs.Common.{filter, ◌≡◌, ℕ, zero, suc, ◌+◌, ◌*◌, ◌<◌, ◌≤◌, ◌&&◌, true, inl, inr, refl, sym, ◌∙◌, ap, arith, List, [], ◌∷◌, ◌++◌, length, map, get_or, Bool, length-append, ◌-◌, flat_map, leb-true}
 use Rattle.std.specs.List.{AllZip, list_all}
 use Rattle.std.proofs.lemmas.Bool.{and_parts, cases_eq}
 use Rattle.std.proofs.lemmas.List.{length-map}
+use Rattle.std.proofs.lemmas.List.Sums.{count_by-le-length, length-filter}
 use Rattle.signed_sum.specs.Names.{numbers_from}
 use Rattle.linear_law.specs.Names.{Among, Each, IsAscending}
 use Rattle.linear_law.proofs.Names.{apart_short, each_among, each_map, each_of_map, length_alike, each_of_index}
@@ -25,18 +13,14 @@ use Rattle.simplicial_law.specs.ListedSimplices.{simplices}
 use Rattle.simplicial_law.proofs.Names.{simplices_whole}
 use Rattle.steenrod_law.specs.Names.{pull_back}
 use Rattle.complex_file.specs.Names.{is_facet, Spelled, image, facets_at, is_name}
-use Rattle.complex_file.specs.declared.block.ComplexBlock.{ComplexBlock}
-use Rattle.complex_file.specs.declared.block.MapBlock.{MapBlock}
-use Rattle.complex_file.specs.declared.block.Sent.{Sent}
 use Rattle.report_law.specs.Names.{IsColumn, IsPrimitiveAt, all_lines, blocks, class_numbers, degrees, has_class, is_defined, lines, lines_of_pair, products, block_on, cartan_op, target_degree, operations, Classes, IsOperationColumn, classes_in, cochains_in, ranks, below_in, block_of, classes_of, line_of, number_pairs, numbers_of, product_of, ranks_of, AreTables, IsComplexPart, IsInducedPart, IsMapPart, IsMaximal, IsOperationPart, IsProductPart}
 use Rattle.report_law.proofs.Names.{rank-of, in-numbers, of-numbers, IsMapOf, job-maps}
 use Rattle.report_text_law.specs.Names.{complex_lines, degree_lines, degrees_from, columns_from, pair_lines, product_lines, operation_lines, answer_lines, cartan_lines, table_lines, send_of, induced_lines, map_lines, is_vertex}
-use Rattle.report_text_law.specs.declared.line.Line.TheVariants.{Below as below_line, Class as class_line, Facet as facet_line, Done as done_line, End as end_line}
 use Rattle.certificate_law.specs.Names.{FewLinesLaw}
 use Rattle.certificate_law.proofs.Building.{at_index}
 use Rattle.certificate_law.proofs.CanonicalData.{in_order_apart}
 use Rattle.certificate_law.proofs.CertifiedBases.{below_at, classes_at, no_degree}
-use Rattle.certificate_law.proofs.Places.{EachAt}
+use Rattle.certificate_law.proofs.Places.{EachAt, at_each}
 use Rattle.certificate_law.proofs.PivotCounts.{ascending_apart, simplex_same_or_not}
 use Rattle.certificate_law.proofs.JobLaw.{kept_of}
 use Rattle.certificate_law.proofs.WrittenJobs.{AreFew, IsSound, fine_send, IsWritable, few, few_classes, few_degrees, few_degrees_at, few_simplices, writable}
@@ -52,12 +36,7 @@ flat_most f k (x ∷ xs) h =
     omega (arith, e, here, more)
 
 filter_short : {X : Type 0} (t : X → Bool) (xs : List X) → length (filter t xs) ≤ length xs
-filter_short t [] = omega arith
-filter_short t (x ∷ xs) = step (t x) (filter_short t xs)
-  where
-    step : (b : Bool) → length (filter t xs) ≤ length xs → length (cond b (x ∷ filter t xs) (filter t xs)) ≤ suc (length xs)
-    step true h = omega (arith, h)
-    step false h = omega (arith, h)
+filter_short t xs = let e = length-filter t xs in let c = count_by-le-length t xs in omega (arith, e, c)
 
 pub numbers_long : (a m : ℕ) → length (numbers_from a m) ≡ m
 numbers_long a zero = refl
@@ -142,9 +121,7 @@ few_degree_lines n (d ∷ ds) h =
     omega (arith, more, e, f, a, b, x, y)
 
 pub each_of_at : {X : Type 0} (P : X → Type 0) (k : ℕ) (xs : List X) → EachAt (λ j x. P x) k xs → Each P xs
-unfolding EachAt
-each_of_at P k [] h = tt
-each_of_at P k (x ∷ xs) h = (h.0, each_of_at P (k + 1) xs h.1)
+each_of_at P k xs h = at_each (λ j x. P x) P (λ j x p. p) k xs h
 
 some_vertex : (f : List ℕ) → is_facet f ≡ true → 0 < length f
 some_vertex [] h = absurd cc
@@ -281,25 +258,23 @@ module _ (job : Spelled) (kept : IsWritable job) (cs : List ComplexPart) (all : 
 module _ (job : Spelled) (kept : IsWritable job) (cs : List ComplexPart) (all : AllZip (IsComplexPart true true job.prime) job.complexes cs) where
   few_complexes : (bs : List ComplexBlock) (ds : List ComplexPart) → Each IsSound bs → AllZip (IsComplexPart true true job.prime) bs ds → length (flat_map complex_lines ds) ≤ 170000000000000 * length bs
   few_complexes [] [] s h = omega arith
-  few_complexes [] (d ∷ ds) s h = absurd h
-  few_complexes (b ∷ bs) [] s h = absurd h
   few_complexes (b ∷ bs) (d ∷ ds) s h =
       let here = few_complex job.prime b d s.0 h.0 in
       let more = few_complexes bs ds s.1 h.1 in
       let e = length-append (complex_lines d) (flat_map complex_lines ds) in
       omega (arith, here, more, e)
+  few_complexes _ _ s h = absurd h
 
   few_maps : (bs : List MapBlock) (ms : List MapPart) → list_all is_name (map (λ m. m.name) bs) ≡ true → Each (IsMapOf job.complexes) bs → AllZip (IsMapPart true job (map classes_of cs)) bs ms
       → length (flat_map map_lines ms) ≤ 5000000 * length bs
   few_maps [] [] n s h = omega arith
-  few_maps [] (m ∷ ms) n s h = absurd h
-  few_maps (b ∷ bs) [] n s h = absurd h
   few_maps (b ∷ bs) (m ∷ ms) n s h =
       let names = and_parts (is_name b.name) (list_all is_name (map (λ (m : MapBlock). m.name) bs)) n in
       let here = few_map job kept cs all b m names.0 s.0 h.0 in
       let more = few_maps bs ms names.1 s.1 h.1 in
       let e = length-append (map_lines m) (flat_map map_lines ms) in
       omega (arith, here, more, e)
+  few_maps _ _ n s h = absurd h
 
 pub few_lines_law : FewLinesLaw
 few_lines_law job r is h =

@@ -8,10 +8,8 @@ use Rattle.linear_law.proofs.Names.{apart_short, among_left, among_right, each_u
 use Rattle.simplicial_law.specs.Names.{subsets}
 use Rattle.simplicial_law.specs.ListedSimplices.{simplices}
 use Rattle.simplicial_law.proofs.Names.{all_put, of_all, simplices_sorted, simplices_sound, simplices_whole, sorted_in_order}
+use Rattle.certificate_law.specs.Types.{Sent, FacetTooWide, ImageNotASimplex, NotOrderPreserving, TooManySimplices, VertexNotSent, VertexSentTwice, VertexUnknown, ComplexPart}
 use Rattle.complex_file.specs.Names.{ascending, facet_fault, first_facet_fault, has_vertex, end_fault, first_send_fault, image, image_of_facet, is_sent, is_vertex, keeps_edge, keeps_order, keeps_simplices, send_fault, sends_each}
-use Rattle.complex_file.specs.declared.block.Sent.{Sent}
-use Rattle.complex_file.specs.declared.kind.InputKind.TheVariants.{FacetTooWide, ImageNotASimplex, NotOrderPreserving, TooManySimplices, VertexNotSent, VertexSentTwice, VertexUnknown}
-use Rattle.report.specs.declared.complex.ComplexPart.{ComplexPart}
 use Rattle.report_law.proofs.Names.{all-among, any-among, no-earlier}
 use Rattle.certificate_law.specs.Names.{behind, facet_stands, send_stands}
 use Rattle.certificate_law.proofs.CanonicalData.{in_order_apart}
@@ -34,9 +32,8 @@ fewer A B h =
     ]))
 
 facet_tests : (a b : Bool) → cond a (Some FacetTooWide) (cond b (Some TooManySimplices) None) ≡ None → (a ≡ false) × (b ≡ false)
-facet_tests true b h = absurd cc
-facet_tests false true h = absurd cc
 facet_tests false false h = (refl, refl)
+facet_tests _ _ h = absurd cc
 
 -- what facets without a fault keep
 pub record FacetsFit (facets : List (List ℕ)) : Type 0 where
@@ -131,26 +128,20 @@ send_lines p from to before (s ∷ ss) known ascending below =
 -- ---- the end of a map
 
 end_tests : (a b c : Bool) → cond (not a) (Some VertexNotSent) (cond (not b) (Some NotOrderPreserving) (cond (not c) (Some ImageNotASimplex) None)) ≡ None → (a ≡ true) × (b ≡ true) × (c ≡ true)
-end_tests false b c h = absurd cc
-end_tests true false c h = absurd cc
-end_tests true true false h = absurd cc
 end_tests true true true h = (refl, refl, refl)
+end_tests _ _ _ h = absurd cc
 
 tests_end : (a b c : Bool) → a ≡ true → b ≡ true → c ≡ true → cond (not a) (Some VertexNotSent) (cond (not b) (Some NotOrderPreserving) (cond (not c) (Some ImageNotASimplex) None)) ≡ None
 tests_end true true true h k l = refl
-tests_end false b c h k l = absurd cc
-tests_end true false c h k l = absurd cc
-tests_end true true false h k l = absurd cc
+tests_end _ _ _ h k l = absurd cc
 
-all_of : {X : Type 0} (t : X → Bool) (xs : List X) → ((x : X) → Among x xs → t x ≡ true) → list_all t xs ≡ true
+pub all_of : {X : Type 0} (t : X → Bool) (xs : List X) → ((x : X) → Among x xs → t x ≡ true) → list_all t xs ≡ true
 all_of t [] h = refl
 all_of t (x ∷ xs) h = ap₂ (λ a b. a && b) (h x (inl refl)) (all_of t xs (λ y m. h y (inr m)))
 
 edge_same : (ss listed : List Sent) → ((v : ℕ) → image listed v ≡ image ss v) → (e : List ℕ) → keeps_edge listed e ≡ keeps_edge ss e
-edge_same ss listed h [] = refl
-edge_same ss listed h (v ∷ []) = refl
 edge_same ss listed h (v ∷ w ∷ []) = ap₂ nat_le (h v) (h w)
-edge_same ss listed h (v ∷ w ∷ u ∷ us) = refl
+edge_same ss listed h _ = refl
 
 -- the map that is listed, between the complexes that are listed, has no fault at its end
 pub end_there : (F G : List (List ℕ)) {H K : List (List ℕ)} → ((f : List ℕ) → Among f G → Among f F) → SameSimplices H K → Each IsAscending H → Each IsAscending K → (ss listed : List Sent) → ((v : ℕ) → image listed v ≡ image ss v)

@@ -10,16 +10,11 @@ use Rattle.linear_law.proofs.Names.{among_left, among_right, each_among, each_ap
 use Rattle.simplicial_law.specs.Names.{of_degree}
 use Rattle.simplicial_law.specs.ListedSimplices.{simplices}
 use Rattle.simplicial_law.proofs.Names.{simplices_sorted, simplices_sound, simplices_whole, sorted_in_order}
+use Rattle.certificate_law.specs.Types.{ComplexBlock, MapBlock, Sent, ComplexPart, MapPart, Sizes}
 use Rattle.complex_file.specs.Names.{complex_fault, is_complex, is_facet, Spelled, are_distinct, block_names, facets_at, has_name, is_map, end_fault, image, is_vertex, is_name, name_at}
-use Rattle.complex_file.specs.declared.block.ComplexBlock.{ComplexBlock}
-use Rattle.complex_file.specs.declared.block.MapBlock.{MapBlock}
-use Rattle.complex_file.specs.declared.block.Sent.{Sent}
 use Rattle.complex_file.specs.Jobs.{is_job}
-use Rattle.report.specs.declared.complex.ComplexPart.{ComplexPart}
-use Rattle.report.specs.declared.map.MapPart.{MapPart}
-use Rattle.report.specs.declared.plan.Sizes.{Sizes}
 use Rattle.report_law.specs.Names.{induced_degrees, Classes, ranks, classes_of, part_at, ranks_of, IsComplexPart, IsInducedPart, IsMapPart, IsMaximal, AreSizes, passing_sum, sizes_of}
-use Rattle.report_law.proofs.Names.{classes-at, IsMapOf, any-among, job-complexes, job-maps, job-prime, no-end-fault, no-fault, sizes_law, same-order}
+use Rattle.report_law.proofs.Names.{classes-at, IsMapOf, any-among, each-all, job-complexes, job-maps, job-prime, no-end-fault, no-fault, sizes_law, same-order}
 use Rattle.certificate_law.specs.Names.{complex_names, map_names, CompleteLaw, complex_named, itself, sent_by, behind, complex_stated, map_stated}
 use Rattle.certificate_law.proofs.CompleteComplexes.{IsRight, complex_right}
 use Rattle.certificate_law.proofs.CompleteReports.{all_right, map_right}
@@ -38,10 +33,9 @@ pub record Kept (cs : List ComplexBlock) (ms : List MapBlock) : Type 0 where
   fit : Each (λ b. FacetsFit b.facets) cs
 
 fit_of : (bs : List ComplexBlock) → list_all (λ b. is_complex b.facets) bs ≡ true → Each (λ b. FacetsFit b.facets) bs
-fit_of [] h = tt
-fit_of (b ∷ bs) h =
-    let parts = and_parts (is_complex b.facets) (list_all (λ (b : ComplexBlock). is_complex b.facets) bs) h in
-    (facets_fit b.facets (no-fault (complex_fault b.facets) (and_parts (list_all is_facet b.facets) (is_none (complex_fault b.facets)) parts.0).1), fit_of bs parts.1)
+fit_of bs h =
+    each-all (λ b. is_complex b.facets) (λ b. FacetsFit b.facets)
+    (λ b k. facets_fit b.facets (no-fault (complex_fault b.facets) (and_parts (list_all is_facet b.facets) (is_none (complex_fault b.facets)) k).1)) bs h
 
 pub kept_of : (p : ℕ) (cs : List ComplexBlock) (ms : List MapBlock) → is_job p cs ms ≡ true → Kept cs ms
 unfolding is_job
@@ -105,10 +99,8 @@ listed_at p (b ∷ bs) (c ∷ cs) (suc k) l h = listed_at p bs cs k (omega (arit
 -- the sizes of the job are those of the complexes that the listed facets give
 same_sizes : (p : ℕ) → IsTrue (served p) → (bs : List ComplexBlock) (cs : List ComplexPart) (zs : List Sizes) → AllZip (IsListed p) bs cs → AllZip (λ b z. AreSizes p b.facets z) bs zs → zs ≡ map (λ c. sizes_of c.facets c) cs
 same_sizes p s [] [] [] h k = refl
-same_sizes p s [] [] (z ∷ zs) h k = absurd k
 same_sizes p s [] (c ∷ cs) zs h k = absurd h
 same_sizes p s (b ∷ bs) [] zs h k = absurd h
-same_sizes p s (b ∷ bs) (c ∷ cs) [] h k = absurd k
 same_sizes p s (b ∷ bs) (c ∷ cs) (z ∷ zs) h k =
     let F = b.facets in
     let G = c.facets in
@@ -121,6 +113,7 @@ same_sizes p s (b ∷ bs) (c ∷ cs) (z ∷ zs) h k =
     (sizes_law.one p F z (sizes_of F c) s h.0.block_ascending k.0 (sizes_law.listed true true p b c h.0.given_part)
     ∙ ap (λ (ss : List (List ℕ)). record { simplices = map (λ n. length (of_degree n ss)) (numbers_from 0 (length c.degrees)); ranks = ranks_of c }) e)
     (same_sizes p s bs cs zs h.1 k.1)
+same_sizes p s _ _ _ h k = absurd k
 
 -- names that are new stay so behind another
 still_new : {X : Type 0} (f : X → List ℕ) (before : List X) (x : X) (ns : List (List ℕ)) → Each (λ n. Among n (map f before) → ⊥) ns → (Among (f x) ns → ⊥) → Each (λ n. Among n (map f (before ++ x ∷ [])) → ⊥) ns
@@ -135,8 +128,6 @@ still_new f before x ns new other =
 complexes_fit : (p : ℕ) → IsTrue (served p) → (before : List ComplexPart) (bs : List ComplexBlock) (cs : List ComplexPart) → AllZip (IsListed p) bs cs → length before + length bs ≤ 8 → IsApart (map (λ b. b.name) bs) → Each (λ n. Among n (complex_names before) → ⊥) (map (λ b. b.name) bs)
     → Each (IsRight p) (behind complex_stated before cs)
 complexes_fit p s before [] [] h l a n = tt
-complexes_fit p s before [] (c ∷ cs) h l a n = absurd h
-complexes_fit p s before (b ∷ bs) [] h l a n = absurd h
 complexes_fit p s before (b ∷ bs) (c ∷ cs) h l a n =
     let q = h.0 in
     let new : has_name (complex_names before) c.name ≡ false = false_from_ne_true (has_name (complex_names before) c.name) (λ e. n.0 (subst (λ (x : List ℕ). Among x (complex_names before)) q.name (any-among c.name (complex_names before) e))) in
@@ -144,12 +135,12 @@ complexes_fit p s before (b ∷ bs) (c ∷ cs) h l a n =
     (complex_right p s c q.ascending q.part before (record { few = omega (arith, l); new = new }) (facet_lines p b.facets q.fit [] c.facets q.given))
     (complexes_fit p s (before ++ c ∷ []) bs cs h.1 (let k = length-append before (c ∷ []) in omega (arith, l, k)) a.1
     (still_new (λ (c : ComplexPart). c.name) before c (map (λ (b : ComplexBlock). b.name) bs) n.1 (λ m. a.0 (subst (λ (x : List ℕ). Among x (map (λ (b : ComplexBlock). b.name) bs)) q.name m))))
+complexes_fit p s before _ _ h l a n = absurd h
 
 same_names : (p : ℕ) (bs : List ComplexBlock) (cs : List ComplexPart) → AllZip (IsListed p) bs cs → complex_names cs ≡ map (λ b. b.name) bs
 same_names p [] [] h = refl
-same_names p [] (c ∷ cs) h = absurd h
-same_names p (b ∷ bs) [] h = absurd h
 same_names p (b ∷ bs) (c ∷ cs) h = ap₂ ◌∷◌ h.0.name (same_names p bs cs h.1)
+same_names p _ _ h = absurd h
 
 -- ---- maps
 
@@ -212,8 +203,6 @@ module _ (job : Spelled) (is_served : IsTrue (served job.prime)) (cs : List Comp
   maps_fit : (before : List MapPart) (bs : List MapBlock) (ms : List MapPart) → AllZip IsMapFit bs ms → length before + length bs ≤ 8 → IsApart (map (λ b. b.name) bs) → Each (λ n. Among n (complex_names cs) → ⊥) (map (λ b. b.name) bs)
       → Each (λ n. Among n (map_names before) → ⊥) (map (λ b. b.name) bs) → Each (IsRight job.prime) (behind (map_stated cs) before ms)
   maps_fit before [] [] h l a c n = tt
-  maps_fit before [] (m ∷ ms) h l a c n = absurd h
-  maps_fit before (b ∷ bs) [] h l a c n = absurd h
   maps_fit before (b ∷ bs) (m ∷ ms) h l a c n =
       let q = h.0 in
       let from = complex_named cs m.from in
@@ -227,6 +216,7 @@ module _ (job : Spelled) (is_served : IsTrue (served job.prime)) (cs : List Comp
       (map_right job.prime is_served from to m q.induced q.parts cs before (record { few = omega (arith, l); new = new; from = q.from_named; to = q.to_named }) (send_lines job.prime from to [] m.sends q.known q.ascending (λ x k. elim k [ ])) q.ends)
       (maps_fit (before ++ m ∷ []) bs ms h.1 (let k = length-append before (m ∷ []) in omega (arith, l, k)) a.1 c.1
       (still_new (λ (m : MapPart). m.name) before m (map (λ (b : MapBlock). b.name) bs) n.1 (λ k. a.0 (subst (λ (x : List ℕ). Among x (map (λ (b : MapBlock). b.name) bs)) q.name k))))
+  maps_fit before _ _ h l a c n = absurd h
 
 -- ---- the job
 

@@ -7,13 +7,8 @@ use Rattle.linear_law.specs.Names.{Among, IsApart}
 use Rattle.linear_law.proofs.Names.{among_left, among_right, each_among, zip_change}
 use Rattle.simplicial_law.specs.Names.{Cochain}
 use Rattle.steenrod_law.specs.Names.{pull_back}
+use Rattle.certificate_law.specs.Types.{ComplexBlock, Sent, VertexSentTwice, VertexUnknown, Column, ComplexPart, InducedPart}
 use Rattle.complex_file.specs.Names.{are_distinct, has_name, first_send_fault, image, is_sent, is_vertex, send_fault, name_at}
-use Rattle.complex_file.specs.declared.block.ComplexBlock.{ComplexBlock}
-use Rattle.complex_file.specs.declared.block.Sent.{Sent}
-use Rattle.complex_file.specs.declared.kind.InputKind.TheVariants.{VertexSentTwice, VertexUnknown}
-use Rattle.report.specs.declared.columns.Column.{Column}
-use Rattle.report.specs.declared.complex.ComplexPart.{ComplexPart}
-use Rattle.report.specs.declared.map.InducedPart.{InducedPart}
 use Rattle.report_law.specs.Names.{IsColumn, Classes, cochains_in, part_at, AreOrderedSends, IsComplexPart, IsInducedPart}
 use Rattle.report_law.proofs.Names.{no-earlier, same-bytes}
 use Rattle.certificate_law.specs.Names.{complex_named}
@@ -79,9 +74,7 @@ sent_among ss v h = let q = any_gives (λ (s : Sent). v == s.from) ss h in (q.0,
 -- a send that has no fault is of a vertex that was not sent before
 unsent : (a b : Bool) → if not a then Some VertexUnknown else (if b then Some VertexSentTwice else None) ≡ None → b ≡ true → ⊥
 unsent true true h e = cc
-unsent true false h e = cc
-unsent false true h e = cc
-unsent false false h e = cc
+unsent _ _ h e = cc
 
 -- sends of one vertex are one
 pub IsFunction : List Sent → Type 0

@@ -73,9 +73,8 @@ leads_of facets n p earlier (z ∷ zs) h =
 -- leads of members are pivots
 lead_pivots : (facets : List (List ℕ)) (n p : ℕ) (M : Cochain → Type 0) (zs : List Cochain) (ts : List (List ℕ)) → Each M zs → AllZip (IsLeastSimplex facets n p) zs ts → Each (IsPivot p (IsSimplex facets n) Precedes M) ts
 lead_pivots facets n p M [] [] m h = tt
-lead_pivots facets n p M [] (t ∷ ts) m h = absurd h
-lead_pivots facets n p M (z ∷ zs) [] m h = absurd h
 lead_pivots facets n p M (z ∷ zs) (t ∷ ts) m h = (record { vector = z; member = m.0; lead = h.0 }, lead_pivots facets n p M zs ts m.1 h.1)
+lead_pivots facets n p M _ _ m h = absurd h
 
 -- ---- the listed cochains
 

@@ -3,8 +3,7 @@ use Rattle.std.proofs.Common.{◌≡◌, ℕ, zero, suc, ◌+◌, ◌<◌, ◌�
 use Rattle.std.proofs.lemmas.Bool.{cases_eq, cases_lt}
 use Rattle.linear_law.specs.Names.{sum_over, Among, Each, IsAscending}
 use Rattle.linear_law.proofs.Names.{apart_all, each_among, each_map, each_of_index}
-use Rattle.complex_file.specs.declared.block.ComplexBlock.{ComplexBlock}
-use Rattle.report.specs.declared.complex.ComplexPart.{ComplexPart}
+use Rattle.certificate_law.specs.Types.{ComplexBlock, ComplexPart}
 use Rattle.report_law.specs.Names.{below_in, classes_of, AreMaximalFacets, IsComplexPart, IsMaximal, IsWithin}
 use Rattle.certificate_law.specs.Names.{itself}
 use Rattle.certificate_law.proofs.PivotCounts.{ascending_apart}

@@ -40,14 +40,13 @@ at_zip : {X Z : Type 0} (P : ℕ → X → Type 0) (R : Z → X → Type 0) (d :
     → ((i : ℕ) → i < length zs → get_or full (k + i) d ≡ get_or zs i d) → EachAt P k xs → AllZip R zs xs
 unfolding EachAt
 at_zip P R d full f k [] [] e h a = tt
-at_zip P R d full f k [] (x ∷ xs) e h a = absurd (omega (arith, e))
-at_zip P R d full f k (z ∷ zs) [] e h a = absurd (omega (arith, e))
 at_zip P R d full f k (z ∷ zs) (x ∷ xs) e h a =
     let q : k + 0 ≡ k = omega arith in
     let here : get_or full k d ≡ z = ap (λ j. get_or full j d) (sym q) ∙ h 0 (omega arith) in (
       subst (λ (w : _). R w x) here (f k x a.0),
       at_zip P R d full f (k + 1) zs xs (omega (arith, e)) (λ i b. let g : (k + 1) + i ≡ k + suc i = omega arith in ap (λ j. get_or full j d) g ∙ h (suc i) (omega arith)) a.1,
     )
+at_zip P R d full f k _ _ e h a = absurd (omega (arith, e))
 
 pub at_start : {X : Type 0} (full : List X) (d : X) (i : ℕ) → get_or full (0 + i) d ≡ get_or full i d
 at_start full d i = let e : 0 + i ≡ i = omega arith in ap (λ j. get_or full j d) e

@@ -3,16 +3,7 @@ use Rattle.std.proofs.Common.{ℕ, zero, suc, ◌+◌, Bool, List, map}
 use Rattle.linear_law.specs.Names.{IsCanonical, IsPivot}
 use Rattle.linear_law.proofs.Names.{zip_change, each_map}
 use Rattle.simplicial_law.specs.Names.{IsSimplex, Precedes, AgreesOnSimplices, Chain, Cochain, HasCoordinates, IsCoboundary, IsCocycle, coboundary, IsCanonicalClass, IsCanonicalCoboundary, IsCoboundaryPivot, IsCocyclePivot, AreCanonicalClasses, AreTerms, cochain_of}
-use Rattle.report.specs.declared.columns.CartanAnswer.{CartanAnswer}
-use Rattle.report.specs.declared.columns.CartanAnswer.TheVariants.{Yes, No}
-use Rattle.report.specs.declared.columns.CartanPart.{CartanPart}
-use Rattle.report.specs.declared.columns.OperationPart.{OperationPart}
-use Rattle.report.specs.declared.columns.Column.{Column}
-use Rattle.report.specs.declared.columns.ProductPart.{ProductPart}
-use Rattle.report.specs.declared.complex.ComplexPart.{ComplexPart}
-use Rattle.report.specs.declared.plan.Op.{Op}
-use Rattle.report.specs.declared.plan.Op.TheVariants.{Square}
-use Rattle.report.specs.declared.plan.Op.TheVariants.{Power, BocksteinPower}
+use Rattle.certificate_law.specs.Types.{CartanAnswer, Yes, No, CartanPart, OperationPart, Column, ProductPart, ComplexPart, Op, Square}
 use Rattle.report_law.specs.Names.{ArePivots, ArePrimitives, IsAnswer, IsColumn, IsCycleAt, IsPrimitive, IsPrimitiveAt, IsCartanDifference, IsCartanProduct, IsOperation, cartan_op, cartan_pairs, target_degree, AreClasses, Classes, IsOperationColumn, classes_in, cochains_in, line_degree, block_of, line_of, unnumbered, AreTables, IsCartanPart, IsOperationPart, IsProductPart}
 
 pub record SameSimplices (F G : List (List ℕ)) : Type 0 where
@@ -100,8 +91,7 @@ column_there h d n p zs z values primitive c = record { coordinates = coordinate
 
 operation_there : {F G : List (List ℕ)} → SameSimplices F G → (p : ℕ) (op : Op) (q : ℕ) (a b : Cochain) → IsOperation F p op q a b → IsOperation G p op q a b
 operation_there h p (Square k) q a b g = record { defined = g.defined; value = agrees h _ 2 b _ g.value }
-operation_there h p (Power s) q a b g = record { odd = g.odd; defined = g.defined; scale = g.scale; is_scale = g.is_scale; value = agrees h _ p b _ g.value }
-operation_there h p (BocksteinPower s) q a b g = record { odd = g.odd; defined = g.defined; scale = g.scale; is_scale = g.is_scale; value = agrees h _ p b _ g.value }
+operation_there h p _ q a b g = record { odd = g.odd; defined = g.defined; scale = g.scale; is_scale = g.is_scale; value = agrees h _ p b _ g.value }
 
 difference_there : {F G : List (List ℕ)} → SameSimplices F G → (p a b n : ℕ) (x y d : Cochain) → IsCartanDifference F p a b n x y d → IsCartanDifference G p a b n x y d
 difference_there {F} {G} h p a b n x y d g = record {

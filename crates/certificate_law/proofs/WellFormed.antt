@@ -3,7 +3,7 @@ use Rattle.std.proofs.Common.{◌≡◌, ℕ, zero, suc, ◌<◌, ◌&&◌, Bool
 use Rattle.std.specs.List.{list_all}
 use Rattle.std.specs.Ordering.{is_lt}
 use Rattle.std.specs.declared.cmp.Ordering.{Ordering}
-use Rattle.std.specs.declared.cmp.Ordering.TheVariants.{Less, Equal, Greater}
+use Rattle.std.specs.declared.cmp.Ordering.TheVariants.{Less}
 use Rattle.std.specs.Cmp.Lexicographic.{nat_list_cmp_total}
 use Rattle.std.proofs.lemmas.Bool.{and_parts}
 use Rattle.linear_law.specs.Names.{Each, IsAscending}
@@ -11,15 +11,14 @@ use Rattle.linear_law.proofs.Names.{each_get_or, each_map, each_of_map}
 use Rattle.simplicial_law.specs.Names.{IsInOrder, IsSimplex, Precedes, Chain, AreTerms, simplex_cmp}
 use Rattle.complex_file.specs.Names.{is_ascending}
 use Rattle.report_law.specs.Names.{AreTermsBelow}
-use Rattle.report_law.proofs.Names.{ascends as ascending-list}
+use Rattle.report_law.proofs.Names.{ascends as ascending-list, each-all}
+use Rattle.certificate_law.specs.Types.{cartan_no}
 use Rattle.report_text_law.specs.Names.{are_values, ascends, is_chain, is_line, is_simplex, is_u32, is_term, is_unit, is_vertex, terms_ascend}
-use Rattle.report_text_law.specs.declared.line.Line.TheVariants.{CartanNo as cartan_no}
 use Rattle.certificate_law.specs.Names.{IsOn, IsOnBelow}
 
 same_test : (vs : List ℕ) → ascends vs ≡ is_ascending vs
-same_test [] = refl
-same_test (v ∷ []) = refl
 same_test (v ∷ w ∷ ws) = ap (λ (b : Bool). nat_lt v w && b) (same_test (w ∷ ws))
+same_test _ = refl
 
 pub facet_ascends : (f : List ℕ) → is_simplex f ≡ true → IsAscending f
 facet_ascends [] h = tt
@@ -43,15 +42,11 @@ value_bounds p a i b j n v h = unit_bounds p v (last_test (is_u32 a) (is_u32 i) 
 -- ---- chains
 
 coefficients : (p : ℕ) (ts : Chain) → list_all (is_term p) ts ≡ true → Each (λ t. (0 < t.0) × (t.0 < p)) ts
-coefficients p [] h = tt
-coefficients p (t ∷ ts) h =
-    let parts = and_parts (is_term p t) (list_all (is_term p) ts) h in
-    (unit_bounds p t.0 (and_parts (is_unit p t.0) (is_simplex t.1) parts.0).0, coefficients p ts parts.1)
+coefficients p ts h = each-all (is_term p) (λ t. (0 < t.0) × (t.0 < p)) (λ t k. unit_bounds p t.0 (and_parts (is_unit p t.0) (is_simplex t.1) k).0) ts h
 
 less : (o : Ordering) → is_lt o ≡ true → o ≡ Less
 less Less h = refl
-less Equal h = absurd cc
-less Greater h = absurd cc
+less _ h = absurd cc
 
 InOrder : Chain → Type 0
 InOrder [] = Unit {0}

@@ -7,42 +7,24 @@ use Rattle.std.proofs.lemmas.List.{length-map}
 use Rattle.fp_field.specs.Served.{served}
 use Rattle.signed_sum.specs.Names.{numbers_from}
 use Rattle.linear_law.specs.Names.{Among, Each, IsAscending}
-use Rattle.linear_law.proofs.Names.{apart_short, among_map, each_among, each_append, each_get_or, each_map, each_of_map, length_alike, each_of_index}
+use Rattle.linear_law.proofs.Names.{apart_short, among_map, each_among, each_append, each_get_or, each_map, each_of_map, each_right, length_alike, each_of_index}
 use Rattle.simplicial_law.specs.Names.{IsInOrder, IsSimplex, Precedes, Chain, Cochain, IsCanonicalClass, AreCanonicalClasses, AreTerms, cochain_of, simplex_cmp}
 use Rattle.simplicial_law.specs.ListedSimplices.{simplices}
 use Rattle.simplicial_law.proofs.Names.{simplices_whole}
 use Rattle.steenrod_law.specs.Names.{pull_back}
+use Rattle.certificate_law.specs.Types.{ComplexBlock, MapBlock, Sent, CartanAnswer, Yes, No, CartanPart, Column, OpWord, OperationPart, ProductPart, ComplexPart, DegreePart, InducedPart, MapPart, Block, Line as CartanLine, Product, TextLine as Line, below_line, class_line, facet_line, done_line, end_line}
 use Rattle.complex_file.specs.Names.{complex_fault, is_ascending, is_complex, is_facet, Spelled, image, is_vertex as is_vertex_of, are_distinct, facets_at, block_names, is_map, is_name, is_not_empty, name_at}
-use Rattle.complex_file.specs.declared.block.ComplexBlock.{ComplexBlock}
-use Rattle.complex_file.specs.declared.block.MapBlock.{MapBlock}
-use Rattle.complex_file.specs.declared.block.Sent.{Sent}
 use Rattle.complex_file.specs.Jobs.{is_job}
-use Rattle.report.specs.declared.columns.CartanAnswer.{CartanAnswer}
-use Rattle.report.specs.declared.columns.CartanAnswer.TheVariants.{Yes, No}
-use Rattle.report.specs.declared.columns.CartanPart.{CartanPart}
-use Rattle.report.specs.declared.columns.Column.{Column}
-use Rattle.report.specs.declared.columns.OpWord.{OpWord}
-use Rattle.report.specs.declared.columns.OperationPart.{OperationPart}
-use Rattle.report.specs.declared.columns.ProductPart.{ProductPart}
-use Rattle.report.specs.declared.complex.ComplexPart.{ComplexPart}
-use Rattle.report.specs.declared.complex.DegreePart.{DegreePart}
-use Rattle.report.specs.declared.map.InducedPart.{InducedPart}
-use Rattle.report.specs.declared.map.MapPart.{MapPart}
-use Rattle.report.specs.declared.plan.Block.{Block}
-use Rattle.report.specs.declared.plan.Line.{Line as CartanLine}
-use Rattle.report.specs.declared.plan.Product.{Product}
 use Rattle.report.specs.declared.columns.OpWord.TheVariants as word
 use Rattle.report_law.specs.Names.{IsAnswer, IsColumn, IsPrimitive, IsPrimitiveAt, all_lines, blocks, class_numbers, degrees, has_class, is_defined, lines, lines_of_pair, products, Classes, IsOperationColumn, classes_in, cochains_in, line_degree, ranks, below_in, block_of, classes_of, op_named, op_of, line_of, number_pairs, numbers_of, product_of, ranks_of, unnumbered, AreTables, IsCartanPart, IsComplexPart, IsInducedPart, IsMapPart, IsMaximal, IsOperationPart, IsProductPart}
-use Rattle.report_law.proofs.Names.{has-degree, of-blocks, rank-of, get_or-past, of-filter, of-flat_map, of-map, of-numbers, IsMapOf, all-among, ascends as ascending-list, complex-ascends, job-maps, no-fault}
-use Rattle.report_text_law.specs.declared.line.Line.{Line}
+use Rattle.report_law.proofs.Names.{has-degree, of-blocks, rank-of, get_or-past, of-filter, of-flat_map, of-map, of-numbers, IsMapOf, all-among, each-all, rest_in_order, ascends as ascending-list, complex-ascends, job-maps, no-fault}
 use Rattle.report_text_law.specs.Names.{certificate_lines, complex_lines, degree_lines, degrees_from, columns_from, pair_lines, product_lines, operation_lines, answer_lines, cartan_lines, table_lines, send_of, induced_lines, map_lines, are_values, ascends, is_chain, is_line, is_simplex, is_u32, is_term, is_unit, is_vertex, terms_ascend}
-use Rattle.report_text_law.specs.declared.line.Line.TheVariants.{Below as below_line, Class as class_line, Facet as facet_line, Done as done_line, End as end_line}
 use Rattle.report_text_law.specs.WellFormed.{is_well_formed}
 use Rattle.certificate_law.specs.Names.{WellFormedLaw}
 use Rattle.certificate_law.proofs.Building.{at_index}
 use Rattle.certificate_law.proofs.CanonicalData.{in_order_apart}
 use Rattle.certificate_law.proofs.CertifiedBases.{below_at, classes_at, no_degree}
-use Rattle.certificate_law.proofs.JobBlocks.{FacetsFit, facets_fit, known_vertices, vertex_in}
+use Rattle.certificate_law.proofs.JobBlocks.{FacetsFit, all_of, facets_fit, known_vertices, vertex_in}
 use Rattle.certificate_law.proofs.Places.{EachAt}
 use Rattle.certificate_law.proofs.PivotCounts.{ascending_apart, simplex_same_or_not}
 
@@ -52,8 +34,7 @@ abbrev IsFine : ℕ → Line → Type 0
 IsFine p l = is_line p l ≡ true
 
 all_fine : (p : ℕ) (ls : List Line) → Each (IsFine p) ls → list_all (is_line p) ls ≡ true
-all_fine p [] h = refl
-all_fine p (l ∷ ls) h = and_from (is_line p l) (list_all (is_line p) ls) h.0 (all_fine p ls h.1)
+all_fine p ls h = all_of (is_line p) ls (λ l m. each_among (IsFine p) l ls h m)
 
 each_flat : {X : Type 0} (P : Line → Type 0) (f : X → List Line) (xs : List X) → ((x : X) → Among x xs → Each P (f x)) → Each P (flat_map f xs)
 each_flat P f [] h = tt
@@ -70,16 +51,14 @@ small n h = lt-ltb n (2 ^ 32) (omega (arith, h))
 -- ---- simplices and chains
 
 ascends_from : (vs : List ℕ) → IsAscending vs → ascends vs ≡ true
-ascends_from [] h = refl
-ascends_from (v ∷ []) h = refl
 ascends_from (v ∷ w ∷ ws) h = and_from (nat_lt v w) (ascends (w ∷ ws)) (lt-ltb v w h.0.0) (ascends_from (w ∷ ws) h.1)
+ascends_from _ h = refl
 
 abbrev pub AreLow : List (List ℕ) → Type 0
 AreLow facets = Each (λ f. list_all is_vertex f ≡ true) facets
 
 low_vertices : (f s : List ℕ) → list_all is_vertex f ≡ true → Each (λ v. Among v f) s → list_all is_vertex s ≡ true
-low_vertices f [] h w = refl
-low_vertices f (v ∷ vs) h w = and_from (is_vertex v) (list_all is_vertex vs) (all-among is_vertex f v h w.0) (low_vertices f vs h w.1)
+low_vertices f s h w = all_of is_vertex s (λ v m. all-among is_vertex f v h (each_among (λ v. Among v f) v s w m))
 
 fine_simplex : (facets : List (List ℕ)) → AreLow facets → (n : ℕ) (s : List ℕ) → IsSimplex facets n s → is_simplex s ≡ true
 fine_simplex facets low n [] h = absurd (let e = h.size in omega (arith, e))
@@ -94,21 +73,16 @@ fine_facet (v ∷ vs) h =
     and_from (list_all is_vertex (v ∷ vs)) (ascends (v ∷ vs)) parts.1 (ascends_from (v ∷ vs) (ascending-list (v ∷ vs) parts.0))
 
 fine_terms : (facets : List (List ℕ)) → AreLow facets → (n p : ℕ) (ts : Chain) → Each (λ t. (0 < t.0) × (t.0 < p)) ts → Each (λ t. IsSimplex facets n t.1) ts → list_all (is_term p) ts ≡ true
-fine_terms facets low n p [] h on = refl
-fine_terms facets low n p (t ∷ ts) h on =
-    and_from (is_term p t) (list_all (is_term p) ts)
-    (and_from (is_unit p t.0) (is_simplex t.1) (and_from (nat_lt 0 t.0) (nat_lt t.0 p) (lt-ltb 0 t.0 h.0.0) (lt-ltb t.0 p h.0.1)) (fine_simplex facets low n t.1 on.0))
-    (fine_terms facets low n p ts h.1 on.1)
-
-next_order : (s : List ℕ) (ss : List (List ℕ)) → IsInOrder (s ∷ ss) → IsInOrder ss
-next_order s ss h j k l m = h (suc j) (suc k) (omega (arith, l)) (omega (arith, m))
+fine_terms facets low n p ts h on =
+    all_of (is_term p) ts (λ t m.
+    let small = each_among (λ t. (0 < t.0) × (t.0 < p)) t ts h m in
+    and_from (is_unit p t.0) (is_simplex t.1) (and_from (nat_lt 0 t.0) (nat_lt t.0 p) (lt-ltb 0 t.0 small.0) (lt-ltb t.0 p small.1)) (fine_simplex facets low n t.1 (each_among (λ t. IsSimplex facets n t.1) t ts on m)))
 
 fine_order : (ts : Chain) → IsInOrder (map (λ t. t.1) ts) → terms_ascend ts ≡ true
-fine_order [] h = refl
-fine_order (t ∷ []) h = refl
 fine_order (t ∷ u ∷ us) h =
     let first : Precedes t.1 u.1 = h 0 1 (omega arith) (omega arith) in
-    and_from (is_lt (simplex_cmp t.1 u.1)) (terms_ascend (u ∷ us)) (ap is_lt first) (fine_order (u ∷ us) (next_order t.1 (map (λ (t : ℕ × List ℕ). t.1) (u ∷ us)) h))
+    and_from (is_lt (simplex_cmp t.1 u.1)) (terms_ascend (u ∷ us)) (ap is_lt first) (fine_order (u ∷ us) (rest_in_order t.1 (map (λ (t : ℕ × List ℕ). t.1) (u ∷ us)) h))
+fine_order _ h = refl
 
 fine_chain : (facets : List (List ℕ)) → AreLow facets → (n p : ℕ) (ts : Chain) → AreTerms facets n p ts → is_chain p ts ≡ true
 fine_chain facets low n p ts h = and_from (list_all (is_term p) ts) (terms_ascend ts) (fine_terms facets low n p ts h.coefficients h.simplices) (fine_order ts h.in_order)
@@ -125,15 +99,8 @@ fine_values p (v ∷ vs) h = and_from (nat_lt v p) (are_values p vs) (lt-ltb v p
 
 each_first : {X Y : Type 0} (R : X → Y → Type 0) (P : X → Type 0) → ((x : X) (y : Y) → R x y → P x) → (xs : List X) (ys : List Y) → AllZip R xs ys → Each P xs
 each_first R P f [] [] h = tt
-each_first R P f [] (y ∷ ys) h = absurd h
-each_first R P f (x ∷ xs) [] h = absurd h
 each_first R P f (x ∷ xs) (y ∷ ys) h = (f x y h.0, each_first R P f xs ys h.1)
-
-each_second : {X Y : Type 0} (R : X → Y → Type 0) (P : Y → Type 0) → ((x : X) (y : Y) → R x y → P y) → (xs : List X) (ys : List Y) → AllZip R xs ys → Each P ys
-each_second R P f [] [] h = tt
-each_second R P f [] (y ∷ ys) h = absurd h
-each_second R P f (x ∷ xs) [] h = absurd h
-each_second R P f (x ∷ xs) (y ∷ ys) h = (f x y h.0, each_second R P f xs ys h.1)
+each_first R P f _ _ h = absurd h
 
 -- the values and the chain of a column are such
 abbrev IsFineColumn : ℕ → Column → Type 0
@@ -274,7 +241,7 @@ module _ (p : ℕ) (b : ComplexBlock) (c : ComplexPart) (good : Each (λ f. is_f
       let y = part.below refl n l in
       let R : List ℕ → Chain → Type 0 = IsPrimitiveAt b.facets n p in
       let belows : Each (λ ts. is_chain p ts ≡ true) d.below = subst (λ (ys : List Chain). Each (λ ts. is_chain p ts ≡ true) ys) (sym (below_at c n))
-      (each_second R (λ ts. is_chain p ts ≡ true) (λ s ts q. fine_primitive b.facets low n p q.bound ts q.primitive) y.pivots (below_in c n) y.primitives) in
+      (each_right R (λ ts. is_chain p ts ≡ true) (λ s ts q. fine_primitive b.facets low n p q.bound ts q.primitive) y.pivots (below_in c n) y.primitives) in
       let classes : Each (λ ts. is_chain p ts ≡ true) d.classes = subst (λ (zs : List Chain). Each (λ ts. is_chain p ts ≡ true) zs) (sym (classes_at c n))
       (each_map (λ ts q. fine_chain b.facets low n p ts q) (classes_in (classes_of c) n) z.terms) in
       let rank : length d.classes ≤ 200000 = (let e = ap (λ (zs : List Chain). length zs) (classes_at c n) in omega (arith, h, e)) in (
@@ -293,7 +260,7 @@ module _ (p : ℕ) (b : ComplexBlock) (c : ComplexPart) (good : Each (λ f. is_f
       let top = few.degrees in
       let n : ℕ = x.a + x.b in
       let R : Cochain → Column → Type 0 = λ z y. IsColumn true b.facets n p (cochains_in (classes_of c) n) z y.values y.primitive in
-      let columns = each_second R (IsFineColumn p) (λ z y q. fine_column b.facets low n p (cochains_in (classes_of c) n) z y q) _ (map unnumbered x.columns) h.block in
+      let columns = each_right R (IsFineColumn p) (λ z y q. fine_column b.facets low n p (cochains_in (classes_of c) n) z y q) _ (map unnumbered x.columns) h.block in
       let left = few_classes x.a in
       let right = few_classes x.b in (
         and_from (is_u32 x.a) (is_u32 x.b) (small x.a (let l = at.0 in omega (arith, l, top))) (small x.b (let l = at.1 in omega (arith, l, top))),
@@ -321,7 +288,7 @@ module _ (p : ℕ) (b : ComplexBlock) (c : ComplexPart) (good : Each (λ f. is_f
         and_from (is_u32 x.number) (is_u32 x.from && is_u32 x.to) (small x.number (omega (arith, k, from, top)))
             (and_from (is_u32 x.from) (is_u32 x.to) (small x.from (omega (arith, from, top))) (small x.to (omega (arith, to, top)))),
         fine_columns p 1 x.columns (omega (arith, e, f, r))
-            (each_second R (IsFineColumn p) (λ z y q. fine_column b.facets low x.to p (cochains_in (classes_of c) x.to) q.result y q.is_column) (cochains_in (classes_of c) x.from) x.columns h),
+            (each_right R (IsFineColumn p) (λ z y q. fine_column b.facets low x.to p (cochains_in (classes_of c) x.to) q.result y q.is_column) (cochains_in (classes_of c) x.from) x.columns h),
       )
 
   fine_cartan : (x : CartanPart) → Among x c.cartans → IsCartanPart true b.facets p (classes_of c) x → Each (IsFine p) (cartan_lines x)
@@ -374,14 +341,10 @@ pub record IsSound (b : ComplexBlock) : Type 0 where
   pub fit : FacetsFit b.facets
   pub ascending : Each IsAscending b.facets
 
-facets_good : (fs : List (List ℕ)) → list_all is_facet fs ≡ true → Each (λ f. is_facet f ≡ true) fs
-facets_good [] h = tt
-facets_good (f ∷ fs) h = let parts = and_parts (is_facet f) (list_all is_facet fs) h in (parts.0, facets_good fs parts.1)
-
 sound : (b : ComplexBlock) → is_name b.name ≡ true → is_complex b.facets ≡ true → IsSound b
 sound b named h =
     let parts = and_parts (list_all is_facet b.facets) (is_none (complex_fault b.facets)) h in
-    let good = facets_good b.facets parts.0 in
+    let good = each-all is_facet (λ f. is_facet f ≡ true) (λ f k. k) b.facets parts.0 in
     record {
       named = named;
       good = good;
@@ -439,10 +402,9 @@ low_facets (b ∷ bs) (suc k) h = low_facets bs k h.1
 
 pub few_degrees_at : (p : ℕ) (bs : List ComplexBlock) (cs : List ComplexPart) (k : ℕ) → Each IsSound bs → AllZip (IsComplexPart true true p) bs cs → AreFew (ranks (get_or (map classes_of cs) k []))
 few_degrees_at p [] [] k h z = record { degrees = omega arith; classes = λ n. omega arith }
-few_degrees_at p [] (c ∷ cs) k h z = absurd z
-few_degrees_at p (b ∷ bs) [] k h z = absurd z
 few_degrees_at p (b ∷ bs) (c ∷ cs) zero h z = few p b c h.0.good h.0.low h.0.fit h.0.ascending z.0
 few_degrees_at p (b ∷ bs) (c ∷ cs) (suc k) h z = few_degrees_at p bs cs k h.1 z.1
+few_degrees_at p _ _ k h z = absurd z
 
 module _ (job : Spelled) (kept : IsWritable job) (cs : List ComplexPart) (all : AllZip (IsComplexPart true true job.prime) job.complexes cs) (b : MapBlock) (m : MapPart) (named : is_name b.name ≡ true) (is : IsMapOf job.complexes b)
     (part : IsMapPart true job (map classes_of cs) b m) where
@@ -475,7 +437,7 @@ module _ (job : Spelled) (kept : IsWritable job) (cs : List ComplexPart) (all : 
       let n = length-map (classes_in to_classes x.q) cochain_of in (
         small x.q (omega (arith, q, top)),
         fine_columns p 1 x.columns (omega (arith, e, n, r, rank))
-            (each_second R (IsFineColumn p) (λ z y q. fine_column f (low_facets job.complexes b.from kept.complexes) x.q p (cochains_in from_classes x.q) _ y q) (cochains_in to_classes x.q) x.columns h),
+            (each_right R (IsFineColumn p) (λ z y q. fine_column f (low_facets job.complexes b.from kept.complexes) x.q p (cochains_in from_classes x.q) _ y q) (cochains_in to_classes x.q) x.columns h),
       )
 
   fine_map : Each (IsFine job.prime) (map_lines m)
@@ -492,19 +454,17 @@ module _ (job : Spelled) (kept : IsWritable job) (cs : List ComplexPart) (all : 
 module _ (job : Spelled) (kept : IsWritable job) (cs : List ComplexPart) (all : AllZip (IsComplexPart true true job.prime) job.complexes cs) where
   fine_complexes : (bs : List ComplexBlock) (ds : List ComplexPart) → Each IsSound bs → AllZip (IsComplexPart true true job.prime) bs ds → Each (IsFine job.prime) (flat_map complex_lines ds)
   fine_complexes [] [] s h = tt
-  fine_complexes [] (d ∷ ds) s h = absurd h
-  fine_complexes (b ∷ bs) [] s h = absurd h
   fine_complexes (b ∷ bs) (d ∷ ds) s h =
       each_append (IsFine job.prime) (complex_lines d) (flat_map complex_lines ds) (fine_complex job.prime b d s.0.good s.0.low s.0.fit s.0.ascending h.0 s.0.named) (fine_complexes bs ds s.1 h.1)
+  fine_complexes _ _ s h = absurd h
 
   fine_maps : (bs : List MapBlock) (ms : List MapPart) → list_all is_name (map (λ m. m.name) bs) ≡ true → Each (IsMapOf job.complexes) bs → AllZip (IsMapPart true job (map classes_of cs)) bs ms
       → Each (IsFine job.prime) (flat_map map_lines ms)
   fine_maps [] [] n s h = tt
-  fine_maps [] (m ∷ ms) n s h = absurd h
-  fine_maps (b ∷ bs) [] n s h = absurd h
   fine_maps (b ∷ bs) (m ∷ ms) n s h =
       let names = and_parts (is_name b.name) (list_all is_name (map (λ (m : MapBlock). m.name) bs)) n in
       each_append (IsFine job.prime) (map_lines m) (flat_map map_lines ms) (fine_map job kept cs all b m names.0 s.0 h.0) (fine_maps bs ms names.1 s.1 h.1)
+  fine_maps _ _ n s h = absurd h
 
 pub well_formed_law : WellFormedLaw
 unfolding is_well_formed

@@ -4,16 +4,7 @@ use Rattle.linear_law.specs.Names.{Congruent, Each, combination}
 use Rattle.simplicial_law.specs.Names.{IsSimplex, AgreesOnSimplices, Chain, Cochain, IsCocycle, coboundary, pairing, cochain_of}
 use Rattle.steenrod_law.specs.Names.{cup_product, pull_back}
 use Rattle.complex_file.specs.Names.{facet_fault, has_name, end_fault, send_fault}
-use Rattle.report.specs.declared.columns.CartanAnswer.{CartanAnswer}
-use Rattle.report.specs.declared.columns.CartanAnswer.TheVariants.{Yes, No}
-use Rattle.report.specs.declared.columns.CartanPart.{CartanPart}
-use Rattle.report.specs.declared.columns.Column.{Column}
-use Rattle.report.specs.declared.columns.OperationPart.{OperationPart}
-use Rattle.report.specs.declared.columns.PairColumn.{PairColumn}
-use Rattle.report.specs.declared.columns.ProductPart.{ProductPart}
-use Rattle.report.specs.declared.complex.ComplexPart.{ComplexPart}
-use Rattle.report.specs.declared.map.InducedPart.{InducedPart}
-use Rattle.report.specs.declared.map.MapPart.{MapPart}
+use Rattle.certificate_law.specs.Types.{CartanAnswer, Yes, No, CartanPart, Column, OperationPart, PairColumn, ProductPart, ComplexPart, InducedPart, MapPart}
 use Rattle.report_law.specs.Names.{IsOperation, boundary_coefficient, listed, blocks, induced_degrees, lines, products, IsLineDifference, class_at, line_degree, below_in, block_of, classes_of, line_of, number_pairs, numbers_of, op_of, product_of, ranks_of, passing_sum, sizes_of}
 use Rattle.certificate_law.specs.ListedDegrees.{HasNewLeast, IsCounted, IsOn, IsOnBelow, coboundaries_of, simplex_count}
 use Rattle.certificate_law.specs.Parts.{rank_in, sent_by}

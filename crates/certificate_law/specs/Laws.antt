@@ -3,17 +3,9 @@ use Rattle.std.specs.Prelude.{◌≡◌, ℕ, ◌+◌, ◌<◌, ◌^◌, true, m
 use Rattle.linear_law.specs.Names.{Each}
 use Rattle.complex_file.specs.Names.{Spelled}
 use Rattle.complex_file.specs.Jobs.{is_job}
-use Rattle.report.specs.declared.columns.CartanAnswer.{CartanAnswer}
-use Rattle.report.specs.declared.columns.CartanAnswer.TheVariants.{Yes, No}
-use Rattle.report.specs.declared.columns.CartanPart.{CartanPart}
-use Rattle.report.specs.declared.form.Form.TheVariants.{Certificate}
-use Rattle.report.specs.declared.job.Report.{Report}
-use Rattle.report.specs.declared.map.MapPart.{MapPart}
+use Rattle.certificate_law.specs.Types.{CartanAnswer, Yes, No, CartanPart, Certificate, Report, MapPart, TextLine as Line, below_line, cartan_no, cartan_yes, class_line, column_line, complex_line, cycle_line, done_line, end_line, facet_line, heading_line, map_line, prime_line, with_line, degree_line, induced_line, operation_line, pair_line, product_line}
 use Rattle.report_law.specs.Names.{ComplexPromise, InducedPromise, IsReportOf, IsWithinLimit}
-use Rattle.report_text_law.specs.declared.line.Line.{Line}
 use Rattle.report_text_law.specs.Names.{certificate_lines, send_of}
-use Rattle.report_text_law.specs.declared.line.Line.TheVariants.{Below as below_line, CartanNo as cartan_no, CartanYes as cartan_yes, Class as class_line, Column as column_line, Complex as complex_line, Cycle as cycle_line, Done as done_line, End as end_line, Facet as facet_line, Heading as heading_line, Map as map_line, Prime as prime_line, With as with_line}
-use Rattle.report_text_law.specs.declared.line.Line.TheVariants.{Degree as degree_line, Induced as induced_line, Operation as operation_line, Pair as pair_line, Product as product_line}
 use Rattle.report_text_law.specs.WellFormed.{is_well_formed}
 use Rattle.certificate_law.specs.Certifies.{Certifies, FailsFirst}
 use Rattle.certificate_law.specs.Parts.{complex_named, itself, sent_by}

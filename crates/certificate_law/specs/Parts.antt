@@ -1,10 +1,8 @@
 -- What is read off a report: ranks, the complexes of its maps, and where its maps send a vertex.
 use Rattle.std.specs.Prelude.{ℕ, if◌then◌else◌, List, [], ◌∷◌, length}
 use Rattle.std.specs.Str.{bytes_eq}
+use Rattle.certificate_law.specs.Types.{ComplexBlock, ComplexPart, MapPart}
 use Rattle.complex_file.specs.Names.{image}
-use Rattle.complex_file.specs.declared.block.ComplexBlock.{ComplexBlock}
-use Rattle.report.specs.declared.complex.ComplexPart.{ComplexPart}
-use Rattle.report.specs.declared.map.MapPart.{MapPart}
 use Rattle.report_law.specs.Names.{classes_in, classes_of}
 
 -- the printed rank of degree n; 0 above the last degree

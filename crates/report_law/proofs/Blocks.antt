@@ -1,16 +1,11 @@
 -- What the listed blocks are, and the matrices of those that are not listed.
-use Rattle.std.proofs.Common.{◌≡◌, ℕ, zero, suc, ◌+◌, ◌*◌, ◌<◌, ◌≤◌, ◌⊎◌, inl, inr, ◌&&◌, ◌==◌, Bool, true, false, not, cond, List, [], ◌∷◌, map, length, get_or, arith, refl, sym, ap, subst, ◌∙◌, flat_map, nat_le, nat_lt, eqb-true, leb-true, ltb-true, lt-ltb}
+use Rattle.std.proofs.Common.{◌≡◌, ℕ, suc, ◌+◌, ◌*◌, ◌<◌, ◌≤◌, ◌⊎◌, inl, inr, ◌&&◌, ◌==◌, Bool, true, not, cond, List, [], ◌∷◌, map, length, get_or, arith, refl, sym, ap, subst, ◌∙◌, flat_map, nat_le, nat_lt, eqb-true, leb-true, ltb-true, lt-ltb, true≢false}
 use Rattle.std.proofs.lemmas.Bool.{and_from, and_parts, cases_Bool, cases_lt}
 use Rattle.signed_sum.specs.Names.{numbers_from}
 use Rattle.linear_law.specs.Names.{Among}
 use Rattle.linear_law.proofs.Names.{among_map}
 use Rattle.simplicial_law.specs.Names.{Chain}
-use Rattle.report.specs.declared.columns.OperationPart.{OperationPart}
-use Rattle.report.specs.declared.map.InducedPart.{InducedPart}
-use Rattle.report.specs.declared.plan.Block.{Block}
-use Rattle.report.specs.declared.plan.Op.{Op}
-use Rattle.report.specs.declared.plan.Op.TheVariants.{Square}
-use Rattle.report.specs.declared.plan.Op.TheVariants.{Power, BocksteinPower}
+use Rattle.report_law.specs.Types.{OperationPart, InducedPart, Block, Op, Square, Power, BocksteinPower}
 use Rattle.report_law.specs.Names.{block_on, blocks, degrees, has_class, induced_degrees, is_defined, operations, target_degree, Classes, classes_in, ranks, block_of, induced_matrix_among, is_same_op, matrix_of, op_of, operation_matrix_among}
 use Rattle.report_law.proofs.Lists.{get_or-past, in-filter, in-flat_map, in-numbers, of-filter, of-flat_map, of-map}
 
@@ -62,9 +57,8 @@ pub rank-of : (c : Classes) (n : ℕ) → get_or (ranks c) n 0 ≡ length (class
 rank-of c n = go c n
   where
     go : (ds : List (List Chain)) (n : ℕ) → get_or (ranks ds) n 0 ≡ length (get_or ds n [])
-    go [] n = refl
-    go (d ∷ ds) zero = refl
     go (d ∷ ds) (suc n) = go ds n
+    go _ _ = refl
 
 -- a degree has classes or not
 pub rank-or-none : (c : Classes) (n : ℕ) → (has_class (ranks c) n ≡ true) ⊎ (classes_in c n ≡ [])
@@ -78,14 +72,9 @@ rank-or-none c n = go (classes_in c n) refl
 
 pub same-op : (a b : Op) → is_same_op a b ≡ true → a ≡ b
 same-op (Square j) (Square k) h = ap Square (eqb-true j k h)
-same-op (Square j) (Power k) h = absurd cc
-same-op (Square j) (BocksteinPower k) h = absurd cc
-same-op (Power j) (Square k) h = absurd cc
 same-op (Power j) (Power k) h = ap Power (eqb-true j k h)
-same-op (Power j) (BocksteinPower k) h = absurd cc
-same-op (BocksteinPower j) (Square k) h = absurd cc
-same-op (BocksteinPower j) (Power k) h = absurd cc
 same-op (BocksteinPower j) (BocksteinPower k) h = ap BocksteinPower (eqb-true j k h)
+same-op _ _ h = absurd cc
 
 eqb-itself : (k : ℕ) → (k == k) ≡ true
 eqb-itself k = grind arith
@@ -127,15 +116,12 @@ matrix-found p none op q (o ∷ os) = elim (cases_Bool (o.from == q && is_same_o
             | inl e ↦
                 let same : (o.from == q && is_same_op op (op_of o)) ≡ true =
                 and_from (o.from == q) (is_same_op op (op_of o)) (ap (λ (x : Block). x.from == q) e ∙ eqb-itself q) (ap (λ (x : Block). is_same_op op x.op) e ∙ op-itself op) in
-                absurd (never (sym same ∙ f))
+                absurd (true≢false (sym same ∙ f))
             | inr k ↦ n.1 k
           ],
         )
       ]
 ]
-  where
-    never : true ≡ false → ⊥
-    never q = cc
 
 -- ---- the matrix of a map in one degree
 
@@ -162,15 +148,12 @@ induced-found none q (x ∷ xs) = elim (cases_Bool (x.q == q)) [
         | inr n ↦ inr (
           here ∙ n.0,
           λ m. elim m [
-            | inl e ↦ absurd (never (sym (ap (λ (k : ℕ). k == q) e ∙ eqb-itself q) ∙ f))
+            | inl e ↦ absurd (true≢false (sym (ap (λ (k : ℕ). k == q) e ∙ eqb-itself q) ∙ f))
             | inr k ↦ n.1 k
           ],
         )
       ]
 ]
-  where
-    never : true ≡ false → ⊥
-    never q = cc
 
 pub in-induced : (from to : List ℕ) (q : ℕ) → has_class from q ≡ true → has_class to q ≡ true → Among q (induced_degrees from to)
 in-induced from to q a b =

@@ -135,14 +135,12 @@ module _ (facets : List (List ℕ)) (ascending : Each IsAscending facets) (n p :
 
       values_are : (ss : List (List ℕ)) (ts : List Chain) → AllZip (λ s terms. IsCanonicalClass facets n p s (cochain_of terms)) ss ts → map value (class_rows ss ts) ≡ map cochain_of ts
       values_are [] [] h = refl
-      values_are [] (t ∷ ts) h = absurd h
-      values_are (s ∷ ss) [] h = absurd h
       values_are (s ∷ ss) (t ∷ ts) h = ap (λ (us : List Cochain). cochain_of t ∷ us) (values_are ss ts h.1)
+      values_are _ _ h = absurd h
 
       each_is : (ss : List (List ℕ)) (ts : List Chain) → AllZip (λ s terms. IsCanonicalClass facets n p s (cochain_of terms)) ss ts → Each IsClassRow (class_rows ss ts)
-      each_is [] ts h = tt
-      each_is (s ∷ ss) [] h = tt
       each_is (s ∷ ss) (t ∷ ts) h = (h.0, each_is ss ts h.1)
+      each_is _ _ h = tt
 
       class_leads : map lead rows ≡ are.pivots
       class_leads = leads_are are.pivots classes are.canonical

@@ -11,13 +11,7 @@ use Rattle.steenrod_law.proofs.ClassLaws.{matrix-law, product-closed, product-ma
 use Rattle.fp_field.specs.Orbits.{orbit_words}
 use Rattle.steenrod_law.proofs.OrbitTables.{orbit_words_law}
 use Rattle.steenrod_law.specs.Names.{cochain_products, scaled_operation, copies}
-use Rattle.report.specs.declared.columns.Column.{Column}
-use Rattle.report.specs.declared.columns.OperationPart.{OperationPart}
-use Rattle.report.specs.declared.columns.PairColumn.{PairColumn}
-use Rattle.report.specs.declared.columns.ProductPart.{ProductPart}
-use Rattle.report.specs.declared.complex.ComplexPart.{ComplexPart}
-use Rattle.report.specs.declared.plan.Block.{Block}
-use Rattle.report.specs.declared.plan.Op.{Op}
+use Rattle.report_law.specs.Types.{Column, OperationPart, PairColumn, ProductPart, ComplexPart, Block, Op}
 use Rattle.report_law.specs.Names.{IsColumn, IsOperation, BasesPromise, listed, OperationPromise, ProductPromise, block_on, blocks, element_degree, is_defined, target_degree, IsOperationColumn, classes_in, ranks, block_of, classes_of, matrix_of, op_of, operation_matrix, unnumbered, IsOperationPart, IsProductPart}
 use Rattle.report_law.proofs.Blocks.{in-blocks, matrix-found, of-blocks, rank-or-none}
 use Rattle.report_law.proofs.Coordinates.{AreBases, agrees-sym, coordinates-alike, no-coordinates}
@@ -43,9 +37,8 @@ module _ (facets : List (List ℕ)) (p : ℕ) (is_served : IsTrue (served p)) (c
     product-columns : (us : List Cochain) (ys : List PairColumn) → AllZip (λ u y. IsColumn detailed facets (x.a + x.b) p (listed c (x.a + x.b)) u y.values y.primitive) us (map unnumbered ys)
         → AllZip (λ column u. HasCoordinates facets (x.a + x.b) p (listed c (x.a + x.b)) u column) (map (λ y. y.values) ys) us
     product-columns [] [] h = tt
-    product-columns [] (y ∷ ys) h = absurd h
-    product-columns (u ∷ us) [] h = absurd h
     product-columns (u ∷ us) (y ∷ ys) h = (h.0.coordinates, product-columns us ys h.1)
+    product-columns _ _ h = absurd h
 
     pub product_promise : ProductPromise facets p c x
     product_promise z w cs ds cz cw hz hw = (
@@ -69,13 +62,12 @@ module _ (facets : List (List ℕ)) (p : ℕ) (is_served : IsTrue (served p)) (c
     -- the columns of a listed block
     block-columns : (detailed : Bool) (o : OperationPart) → o.from ≡ q → op ≡ op_of o → o.to ≡ n → (zs : List Cochain) (ys : List Column) → AllZip (IsOperationColumn detailed facets p (classes_of c) (block_of o)) zs ys → AllZip IsMadeColumn (matrix_of ys) zs
     block-columns detailed o a b t [] [] h = tt
-    block-columns detailed o a b t [] (y ∷ ys) h = absurd h
-    block-columns detailed o a b t (z ∷ zs) [] h = absurd h
     block-columns detailed o a b t (z ∷ zs) (y ∷ ys) h =
         let r = h.0.result in
         let is : IsOperation facets p op q z r = subst (λ (x : Op). IsOperation facets p x q z r) (sym b) (subst (λ (m : ℕ). IsOperation facets p (op_of o) m z r) a h.0.is_result) in
         let has : HasCoordinates facets n p (listed c n) r y.values = subst (λ (m : ℕ). HasCoordinates facets m p (listed c m) r y.values) t h.0.is_column.coordinates in
         (coordinates-alike facets n p field.large (listed c n) (made z) r y.values (agrees-sym (constant.there facets z r is)) has, block-columns detailed o a b t zs ys h.1)
+    block-columns detailed o a b t _ _ h = absurd h
 
     pub listed-columns : (detailed : Bool) (o : OperationPart) → o.from ≡ q → op ≡ op_of o → o.to ≡ n → IsOperationPart detailed facets p (classes_of c) o → AllZip IsMadeColumn (matrix_of o.columns) (listed c q)
     listed-columns detailed o a b t h = block-columns detailed o a b t (listed c q) o.columns (subst (λ (m : ℕ). AllZip (IsOperationColumn detailed facets p (classes_of c) (block_of o)) (listed c m) o.columns) a h)

@@ -1,5 +1,5 @@
 -- Coordinates of cochains that agree, and of columns.
-use Rattle.std.proofs.Common.{◌≡◌, ℕ, zero, suc, ◌+◌, ◌*◌, ◌<◌, inl, inr, List, [], ◌∷◌, map, length, get_or, arith, refl, sym, ap, subst, ◌∙◌}
+use Rattle.std.proofs.Common.{◌≡◌, ℕ, suc, ◌+◌, ◌*◌, ◌<◌, inl, inr, List, [], ◌∷◌, map, length, get_or, arith, refl, sym, ap, subst, ◌∙◌}
 use Rattle.std.proofs.lemmas.Bool.{cases_lt}
 use Rattle.std.proofs.lemmas.List.{length-map}
 use Rattle.linear_law.specs.Names.{negated, Each, combination}
@@ -56,7 +56,7 @@ module _ (facets : List (List ℕ)) (n p : ℕ) (large : 1 < p) where
       (m.plus c (combination cs zs) z (combination-closed cs zs h.1) h.0)
 
   -- what has coordinates for cocycles is a cocycle
-  coordinates-closed : (zs : List Cochain) (z : Cochain) (cs : List ℕ) → Each (IsCocycle facets n p) zs → HasCoordinates facets n p zs z cs → IsCocycle facets n p z
+  pub coordinates-closed : (zs : List Cochain) (z : Cochain) (cs : List ℕ) → Each (IsCocycle facets n p) zs → HasCoordinates facets n p zs z cs → IsCocycle facets n p z
   coordinates-closed zs z cs closed h =
       let m = cocycles facets n p large in
       let b : Cochain = λ s. z s + negated p (combination cs zs s) in
@@ -82,9 +82,8 @@ module _ (facets : List (List ℕ)) (n p : ℕ) (large : 1 < p) where
 
   zeros-at : (zs : List Cochain) (i : ℕ) → get_or (zeros zs) i 0 ≡ 0
   unfolding zeros
-  zeros-at [] i = refl
-  zeros-at (z ∷ zs) zero = refl
   zeros-at (z ∷ zs) (suc i) = zeros-at zs i
+  zeros-at _ _ = refl
 
   -- the coordinates of a coboundary are 0
   pub bound-coordinates : (zs : List Cochain) → IsCohomologyBasis facets n p zs → (d : Cochain) (cs : List ℕ) → IsCoboundary facets n p d → HasCoordinates facets n p zs d cs → (i : ℕ) → get_or cs i 0 ≡ 0
@@ -100,12 +99,11 @@ module _ (facets : List (List ℕ)) (n p : ℕ) (large : 1 < p) where
 
   -- coefficients 0 combine to 0
   pub no-combination : (cs : List ℕ) (zs : List Cochain) (s : List ℕ) → ((i : ℕ) → get_or cs i 0 ≡ 0) → combination cs zs s ≡ 0
-  no-combination [] zs s h = refl
-  no-combination (c ∷ cs) [] s h = refl
   no-combination (c ∷ cs) (z ∷ zs) s h =
       let e = no-combination cs zs s (λ i. h (suc i)) in
       let first : c ≡ 0 = h 0 in
       ap (λ (k : ℕ). k * z s + combination cs zs s) first ∙ omega (arith, e)
+  no-combination _ _ s h = refl
 
   -- what has coordinates 0 is a coboundary
   pub bound-of-zeros : (zs : List Cochain) (d : Cochain) (cs : List ℕ) → HasCoordinates facets n p zs d cs → ((i : ℕ) → get_or cs i 0 ≡ 0) → IsCoboundary facets n p d

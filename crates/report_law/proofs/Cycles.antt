@@ -58,14 +58,13 @@ pairing-sum f (e ∷ c) ss o h =
 
 picks : (p : ℕ) (cs : List ℕ) (rs : List Row) (i : ℕ) (d : Row) → length cs ≡ length rs → i < length rs → IsReduced p lead value rs → Congruent p (combination cs (map value rs) (lead (get_or rs i d))) (get_or cs i 0)
 picks p [] [] i d l b h = absurd (omega (arith, b))
-picks p [] (r ∷ rs) i d l b h = absurd (omega (arith, l))
-picks p (c ∷ cs) [] i d l b h = absurd (omega (arith, l))
 picks p (c ∷ cs) (r ∷ rs) zero d l b h =
     Congruent_from (Congruent_add (Congruent_scale c h.0) (combination_vanishes p lead value (lead r) cs rs (each_map (λ s k. k.1) rs h.1))) (omega arith)
 picks p (c ∷ cs) (r ∷ rs) (suc i) d l b h =
     let b' : i < length rs = omega (arith, b) in
     let z = (each_get_or (λ s. Congruent p (value r (lead s)) 0 × Congruent p (value s (lead r)) 0) rs i d b' h.1).0 in
     Congruent_from (Congruent_add (Congruent_scale c z) (picks p cs rs i d (omega (arith, l)) b' h.2)) (omega arith)
+picks p _ _ i d l b h = absurd (omega (arith, l))
 
 leads-table : (bound : List ℕ → Cochain) (ts : List (List ℕ)) → map lead (map (λ t. (t, bound t)) ts) ≡ ts
 leads-table bound [] = refl
@@ -73,10 +72,9 @@ leads-table bound (t ∷ ts) = ap (λ (us : List (List ℕ)). t ∷ us) (leads-t
 
 row-at : (ss : List (List ℕ)) (ts : List Chain) (i : ℕ) → length ss ≡ length ts → i < length ts → value (get_or (class_rows ss ts) i ([], λ s. 0)) ≡ cochain_of (get_or ts i [])
 row-at [] [] i l b = absurd (omega (arith, b))
-row-at [] (t ∷ ts) i l b = absurd (omega (arith, l))
-row-at (s ∷ ss) [] i l b = absurd (omega (arith, l))
 row-at (s ∷ ss) (t ∷ ts) zero l b = refl
 row-at (s ∷ ss) (t ∷ ts) (suc i) l b = row-at ss ts i (omega (arith, l)) (omega (arith, b))
+row-at _ _ i l b = absurd (omega (arith, l))
 
 module _ (facets : List (List ℕ)) (ascending : Each IsAscending facets) (n p : ℕ) (field : IsField p) (s : List ℕ) (on : IsSimplex facets n s) (terms : Chain) (cycle : IsCycleAt facets n p s terms) where
   abbrev here : List (List ℕ)
@@ -191,9 +189,8 @@ module _ (facets : List (List ℕ)) (ascending : Each IsAscending facets) (n p :
           where
             go : (ss : List (List ℕ)) (ts : List Chain) → AllZip (λ s terms. IsCanonicalClass facets n p s (cochain_of terms)) ss ts → length ss ≡ length ts
             go [] [] h = refl
-            go [] (t ∷ ts) h = absurd h
-            go (s ∷ ss) [] h = absurd h
             go (s ∷ ss) (t ∷ ts) h = let k = go ss ts h.1 in omega (arith, k)
+            go _ _ h = absurd h
 
     pub reads : (d : Cochain) (cs : List ℕ) → HasCoordinates facets n p (map cochain_of classes) d cs → Congruent p (pairing d terms) (get_or cs i 0)
     reads d cs h =

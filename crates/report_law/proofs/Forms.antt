@@ -1,21 +1,10 @@
 -- The report of a certificate is that of each form.
-use Rattle.std.proofs.Common.{ℕ, true, List, [], ◌∷◌, refl}
-use Rattle.std.specs.List.{AllZip}
-use Rattle.linear_law.proofs.Names.{each_map}
+use Rattle.std.proofs.Common.{ℕ, true, List, refl}
+use Rattle.linear_law.proofs.Names.{each_map, zip_change}
 use Rattle.simplicial_law.specs.Names.{Chain, Cochain}
-use Rattle.complex_file.specs.declared.block.ComplexBlock.{ComplexBlock}
+use Rattle.report_law.specs.Types.{ComplexBlock, CartanAnswer, Yes, No, ComplexPart, Form}
 use Rattle.report.specs.Names.{has_details, has_tables}
-use Rattle.report.specs.declared.columns.CartanAnswer.{CartanAnswer}
-use Rattle.report.specs.declared.columns.CartanAnswer.TheVariants.{Yes, No}
-use Rattle.report.specs.declared.complex.ComplexPart.{ComplexPart}
-use Rattle.report.specs.declared.form.Form.{Form}
 use Rattle.report_law.specs.Names.{IsAnswer, IsColumn, FormsLaw, IsComplexPart}
-
-zip-map : {X Y : Type 0} (R S : X → Y → Type 0) → ((x : X) (y : Y) → R x y → S x y) → (xs : List X) (ys : List Y) → AllZip R xs ys → AllZip S xs ys
-zip-map R S f [] [] h = tt
-zip-map R S f [] (y ∷ ys) h = absurd h
-zip-map R S f (x ∷ xs) [] h = absurd h
-zip-map R S f (x ∷ xs) (y ∷ ys) h = (f x y h.0, zip-map R S f xs ys h.1)
 
 module _ (form : Form) where
   of-column : (facets : List (List ℕ)) (n p : ℕ) (zs : List Cochain) (z : Cochain) (values : List ℕ) (primitive : Chain) → IsColumn true facets n p zs z values primitive → IsColumn (has_details form) facets n p zs z values primitive
@@ -33,9 +22,9 @@ module _ (form : Form) where
         classes = h.classes;
         tables = λ t. record {
           products = k.products;
-          product_parts = each_map (λ x b. record { numbers = b.numbers; block = zip-map _ _ (λ z y a. of-column _ _ _ _ _ _ _ a) _ _ b.block }) c.products k.product_parts;
+          product_parts = each_map (λ x b. record { numbers = b.numbers; block = zip_change _ _ (λ z y a. of-column _ _ _ _ _ _ _ a) _ _ b.block }) c.products k.product_parts;
           operations = k.operations;
-          operation_parts = each_map (λ o b. zip-map _ _ (λ z y a. record { result = a.result; is_result = a.is_result; is_column = of-column _ _ _ _ _ _ _ a.is_column }) _ _ b) c.operations k.operation_parts;
+          operation_parts = each_map (λ o b. zip_change _ _ (λ z y a. record { result = a.result; is_result = a.is_result; is_column = of-column _ _ _ _ _ _ _ a.is_column }) _ _ b) c.operations k.operation_parts;
           cartans = k.cartans;
           cartan_parts = each_map (λ l b. record { difference = b.difference; is_difference = b.is_difference; is_answer = of-answer _ _ _ _ _ _ b.is_answer }) c.cartans k.cartan_parts;
         };
@@ -46,15 +35,15 @@ module _ (form : Form) where
 pub forms_law : FormsLaw
 forms_law form job report h = record {
   prime = h.prime;
-  complexes = zip-map _ _ (λ block c a. of-complex form job.prime block c a) job.complexes report.complexes h.complexes;
-  maps = λ t. zip-map _ _
+  complexes = zip_change _ _ (λ block c a. of-complex form job.prime block c a) job.complexes report.complexes h.complexes;
+  maps = λ t. zip_change _ _
       (λ block m a. record {
         name = a.name;
         from_name = a.from_name;
         to_name = a.to_name;
         sends = λ u. a.sends refl;
         induced = a.induced;
-        induced_parts = each_map (λ x b. zip-map _ _ (λ z y c. of-column form _ _ _ _ _ _ _ c) _ _ b) m.induced a.induced_parts;
+        induced_parts = each_map (λ x b. zip_change _ _ (λ z y c. of-column form _ _ _ _ _ _ _ c) _ _ b) m.induced a.induced_parts;
       })
       job.maps report.maps (h.maps refl);
 }

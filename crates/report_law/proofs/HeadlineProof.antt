@@ -4,14 +4,10 @@ use Rattle.std.specs.List.{AllZip}
 use Rattle.fp_field.specs.Served.{served}
 use Rattle.fp_field.proofs.ServedLemmas.{served_field}
 use Rattle.linear_law.specs.Names.{Each, IsAscending}
-use Rattle.linear_law.proofs.Names.{each_get_or, each_map}
+use Rattle.linear_law.proofs.Names.{each_get_or, each_map, zip_each}
+use Rattle.report_law.specs.Types.{ComplexBlock, MapBlock, ComplexPart, Form, MapPart}
 use Rattle.complex_file.specs.Names.{Spelled, facets_at, image}
-use Rattle.complex_file.specs.declared.block.ComplexBlock.{ComplexBlock}
-use Rattle.complex_file.specs.declared.block.MapBlock.{MapBlock}
 use Rattle.report.specs.Names.{has_details, has_tables}
-use Rattle.report.specs.declared.complex.ComplexPart.{ComplexPart}
-use Rattle.report.specs.declared.form.Form.{Form}
-use Rattle.report.specs.declared.map.MapPart.{MapPart}
 use Rattle.report_law.specs.Names.{ComplexPromise, MapPromise, HeadlineLaw, induced_degrees, AreClasses, Classes, ranks, classes_of, part_at, IsComplexPart, IsInducedPart, IsMapPart}
 use Rattle.report_law.proofs.CanonicalData.{bases-of}
 use Rattle.report_law.proofs.Carrying.{bases_promise, operation_promises, product_promise}
@@ -34,10 +30,7 @@ module _ (form : Form) (p : ℕ) (is_served : IsTrue (served p)) where
       }
 
   complex-promises : (blocks : List ComplexBlock) (cs : List ComplexPart) → Each (λ b. Each IsAscending b.facets) blocks → AllZip (IsComplexPart (has_tables form) (has_details form) p) blocks cs → AllZip (ComplexPromise form p) blocks cs
-  complex-promises [] [] a h = tt
-  complex-promises [] (c ∷ cs) a h = absurd h
-  complex-promises (b ∷ bs) [] a h = absurd h
-  complex-promises (b ∷ bs) (c ∷ cs) a h = (complex-promise b c a.0 h.0, complex-promises bs cs a.1 h.1)
+  complex-promises blocks cs a h = zip_each (λ b. Each IsAscending b.facets) (IsComplexPart (has_tables form) (has_details form) p) (ComplexPromise form p) complex-promise blocks cs a h
 
   pub part-of : (blocks : List ComplexBlock) (cs : List ComplexPart) (k : ℕ) → k < length blocks → AllZip (IsComplexPart (has_tables form) (has_details form) p) blocks cs → IsComplexPart (has_tables form) (has_details form) p (get_or blocks k (record { name = []; facets = [] })) (part_at cs k)
   part-of [] cs k l h = absurd (omega (arith, l))
@@ -46,9 +39,8 @@ module _ (form : Form) (p : ℕ) (is_served : IsTrue (served p)) where
   part-of (b ∷ bs) (c ∷ cs) (suc k) l h = part-of bs cs k (omega (arith, l)) h.1
 
 pub classes-at : (parts : List ComplexPart) (k : ℕ) → get_or (map classes_of parts) k [] ≡ classes_of (part_at parts k)
-classes-at [] k = refl
-classes-at (c ∷ cs) zero = refl
 classes-at (c ∷ cs) (suc k) = classes-at cs k
+classes-at _ _ = refl
 
 module _ (form : Form) (has : IsTrue (has_tables form)) (job : Spelled) (parts : List ComplexPart) (is_served : IsTrue (served job.prime)) (ascending : Each (λ b. Each IsAscending b.facets) job.complexes)
     (are : AllZip (IsComplexPart (has_tables form) (has_details form) job.prime) job.complexes parts) where
@@ -72,10 +64,7 @@ module _ (form : Form) (has : IsTrue (has_tables form)) (job : Spelled) (parts :
       (K.tables has).operations (K.tables has).operation_parts (L.tables has).operations (L.tables has).operation_parts
 
   map-promises : (blocks : List MapBlock) (ms : List MapPart) → Each (IsMapOf job.complexes) blocks → AllZip (IsMapPart (has_details form) job (map classes_of parts)) blocks ms → AllZip (MapPromise job parts) blocks ms
-  map-promises [] [] is h = tt
-  map-promises [] (m ∷ ms) is h = absurd h
-  map-promises (b ∷ bs) [] is h = absurd h
-  map-promises (b ∷ bs) (m ∷ ms) is h = (map-promise b m is.0 h.0, map-promises bs ms is.1 h.1)
+  map-promises blocks ms is h = zip_each (IsMapOf job.complexes) (IsMapPart (has_details form) job (map classes_of parts)) (MapPromise job parts) map-promise blocks ms is h
 
 pub headline_law : HeadlineLaw
 headline_law form job report kept h =

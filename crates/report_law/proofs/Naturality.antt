@@ -10,9 +10,7 @@ use Rattle.steenrod_law.proofs.InducedMaps.{matrices-commute, pull_back-cocycle,
 use Rattle.fp_field.specs.Orbits.{orbit_words}
 use Rattle.steenrod_law.proofs.OrbitTables.{orbit_words_law}
 use Rattle.steenrod_law.specs.Names.{IsSimplicial, pull_back, copies}
-use Rattle.report.specs.declared.columns.Column.{Column}
-use Rattle.report.specs.declared.complex.ComplexPart.{ComplexPart}
-use Rattle.report.specs.declared.map.MapPart.{MapPart}
+use Rattle.report_law.specs.Types.{Column, ComplexPart, MapPart}
 use Rattle.report_law.specs.Names.{IsColumn, InducedPromise, listed, blocks, element_degree, induced_degrees, target_degree, classes_in, ranks, block_of, classes_of, induced_matrix, matrix_of, operation_matrix, IsInducedPart, IsOperationPart}
 use Rattle.report_law.proofs.Blocks.{in-induced, induced-found, rank-or-none}
 use Rattle.report_law.proofs.Carrying.{any_basis, matrix-columns}
@@ -39,9 +37,8 @@ module _ (p : ℕ) (is_served : IsTrue (served p)) (f : ℕ → ℕ)
   listed-columns : (q : ℕ) (ws : List Cochain) (ys : List Column) → AllZip (λ w y. IsColumn detailed K q p (listed from q) (pull_back f w) y.values y.primitive) ws ys
       → AllZip (IsPulledColumn q) (matrix_of ys) (map (pull_back f) ws)
   listed-columns q [] [] h = tt
-  listed-columns q [] (y ∷ ys) h = absurd h
-  listed-columns q (w ∷ ws) [] h = absurd h
   listed-columns q (w ∷ ws) (y ∷ ys) h = (h.0.coordinates, listed-columns q ws ys h.1)
+  listed-columns q _ _ h = absurd h
 
   no-rows : (q : ℕ) → classes_in (classes_of from) q ≡ [] → (ts : List Chain) → Each (IsCocycle L q p) (map cochain_of ts) → AllZip (IsPulledColumn q) (copies (length ts) []) (map (pull_back f) (map cochain_of ts))
   no-rows q e [] h = tt

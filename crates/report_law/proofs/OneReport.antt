@@ -8,34 +8,11 @@ use Rattle.linear_law.specs.Names.{IsField, Among, Each, IsAscending}
 use Rattle.linear_law.proofs.Names.{Congruent_refl, among_map, each_among, each_get_or, each_unmap, each_zip}
 use Rattle.simplicial_law.specs.Names.{AgreesOnSimplices, Cochain, IsCohomologyBasis, AreCanonicalBases}
 use Rattle.steenrod_law.specs.Names.{cochain_products, pull_back}
+use Rattle.report_law.specs.Types.{ComplexBlock, MapBlock, Sent, CartanAnswer, Yes, No, CartanPart, Column, OpWord, OperationPart, PairColumn, ProductPart, ComplexPart, DegreePart, Form, Certificate, Report, InducedPart, MapPart, Block, Line, Op, Square, Product, Power, BocksteinPower}
 use Rattle.complex_file.specs.Names.{Spelled, facets_at, image}
-use Rattle.complex_file.specs.declared.block.ComplexBlock.{ComplexBlock}
-use Rattle.complex_file.specs.declared.block.MapBlock.{MapBlock}
-use Rattle.complex_file.specs.declared.block.Sent.{Sent}
 use Rattle.complex_file.specs.Jobs.{is_job}
 use Rattle.report.specs.Names.{has_details, has_tables, outline, outline_answer, outline_column, outline_complex, outline_degree, outline_induced, outline_line, outline_map, outline_operation, outline_pair, outline_product}
-use Rattle.report.specs.declared.columns.CartanAnswer.{CartanAnswer}
-use Rattle.report.specs.declared.columns.CartanAnswer.TheVariants.{Yes, No}
-use Rattle.report.specs.declared.columns.CartanPart.{CartanPart}
-use Rattle.report.specs.declared.columns.Column.{Column}
-use Rattle.report.specs.declared.columns.OpWord.{OpWord}
-use Rattle.report.specs.declared.columns.OperationPart.{OperationPart}
-use Rattle.report.specs.declared.columns.PairColumn.{PairColumn}
-use Rattle.report.specs.declared.columns.ProductPart.{ProductPart}
-use Rattle.report.specs.declared.complex.ComplexPart.{ComplexPart}
-use Rattle.report.specs.declared.complex.DegreePart.{DegreePart}
-use Rattle.report.specs.declared.form.Form.{Form}
-use Rattle.report.specs.declared.form.Form.TheVariants.{Certificate}
-use Rattle.report.specs.declared.job.Report.{Report}
-use Rattle.report.specs.declared.map.InducedPart.{InducedPart}
-use Rattle.report.specs.declared.map.MapPart.{MapPart}
-use Rattle.report.specs.declared.plan.Block.{Block}
-use Rattle.report.specs.declared.plan.Line.{Line}
-use Rattle.report.specs.declared.plan.Op.{Op}
-use Rattle.report.specs.declared.plan.Op.TheVariants.{Square}
-use Rattle.report.specs.declared.plan.Product.{Product}
 use Rattle.report.specs.declared.columns.OpWord.TheVariants as word
-use Rattle.report.specs.declared.plan.Op.TheVariants.{Power, BocksteinPower}
 use Rattle.report_law.specs.Names.{IsColumn, OneReportLaw, cartan_op, has_class, is_defined, Classes, IsInducedBlock, IsOperationBlock, IsOperationColumn, IsProductBlock, IsVerdict, class_at, classes_in, cochains_in, line_degree, ranks, below_in, block_of, classes_of, line_of, number_pairs, numbers_of, op_named, part_at, product_of, unnumbered, AreTables, IsCartanPart, IsComplexPart, IsInducedPart, IsMapPart, IsOperationPart, IsProductPart, IsReportOf}
 use Rattle.report_law.proofs.Blocks.{IsLiveBlock, of-blocks}
 use Rattle.report_law.proofs.CanonicalData.{bases-of}
@@ -58,22 +35,20 @@ rest-same x y xs ys e = ap (λ (l : List _). drop 1 l) e
 -- parts whose outlines are told by their headings
 same-parts : {X Y Z : Type 0} (f : X → Y) (o : X → Z) (P Q : X → Type 0) → ((x y : X) → f x ≡ f y → P x → Q y → o x ≡ o y) → (xs ys : List X) → map f xs ≡ map f ys → Each P xs → Each Q ys → map o xs ≡ map o ys
 same-parts f o P Q g [] [] e h k = refl
-same-parts f o P Q g [] (y ∷ ys) e h k = absurd cc
-same-parts f o P Q g (x ∷ xs) [] e h k = absurd cc
 same-parts f o P Q g (x ∷ xs) (y ∷ ys) e h k =
     ap₂ ◌∷◌ (g x y (first-same (f x) (f y) (map f xs) (map f ys) e) h.0 k.0)
     (same-parts f o P Q g xs ys (rest-same (f x) (f y) (map f xs) (map f ys) e) h.1 k.1)
+same-parts f o P Q g _ _ e h k = absurd cc
 
 degree-lists : (form : Form) (xs ys : List DegreePart) → map (λ d. d.classes) xs ≡ map (λ d. d.classes) ys
     → (IsTrue (has_details form) → (n : ℕ) → n < length xs → get_or (map (λ d. d.below) xs) n [] ≡ get_or (map (λ d. d.below) ys) n []) → map (outline_degree form) xs ≡ map (outline_degree form) ys
 degree-lists form [] [] a b = refl
-degree-lists form [] (y ∷ ys) a b = absurd cc
-degree-lists form (x ∷ xs) [] a b = absurd cc
 degree-lists form (x ∷ xs) (y ∷ ys) a b =
     let c = first-same x.classes y.classes (map (λ d. d.classes) xs) (map (λ d. d.classes) ys) a in
     let d = details-same form x.below y.below (λ t. b t 0 (omega arith)) in
     let first : outline_degree form x ≡ outline_degree form y = (λ t. record { below = d t; classes = c t }) in
     ap₂ ◌∷◌ first (degree-lists form xs ys (rest-same x.classes y.classes (map (λ d. d.classes) xs) (map (λ d. d.classes) ys) a) (λ t n l. b t (suc n) (omega (arith, l))))
+degree-lists form _ _ a b = absurd cc
 
 agrees-refl : (facets : List (List ℕ)) (n p : ℕ) (z : Cochain) → AgreesOnSimplices facets n p z z
 agrees-refl facets n p z = record { at = λ s on. Congruent_refl (z s) }
@@ -106,15 +81,14 @@ module _ (form : Form) (facets : List (List ℕ)) (ascending : Each IsAscending 
       → AllZip (λ u c. IsColumn (has_details form) facets n p (cochains_in classes n) u c.values c.primitive) us (map unnumbered xs)
       → AllZip (λ u c. IsColumn (has_details form) facets n p (cochains_in classes n) u c.values c.primitive) us (map unnumbered ys) → map (outline_pair form) xs ≡ map (outline_pair form) ys
   pair-columns n [] [] [] e h k = refl
-  pair-columns n [] [] (y ∷ ys) e h k = absurd k
   pair-columns n [] (x ∷ xs) ys e h k = absurd h
   pair-columns n (u ∷ us) [] ys e h k = absurd h
-  pair-columns n (u ∷ us) (x ∷ xs) [] e h k = absurd k
   pair-columns n (u ∷ us) (x ∷ xs) (y ∷ ys) e h k =
       let q = first-same (numbers_of x) (numbers_of y) (map numbers_of xs) (map numbers_of ys) e in
       let c = column-once n u (unnumbered x) (unnumbered y) h.0 k.0 in
       let first : outline_pair form x ≡ outline_pair form y = (λ t. record { i = (q t).0; j = (q t).1; values = (c t).values; primitive = (c t).primitive }) in
       ap₂ ◌∷◌ first (pair-columns n us xs ys (rest-same (numbers_of x) (numbers_of y) (map numbers_of xs) (map numbers_of ys) e) h.1 k.1)
+  pair-columns n _ _ _ e h k = absurd k
 
   product-once : (x y : ProductPart) → product_of x ≡ product_of y → IsProductPart (has_details form) facets p classes x → IsProductPart (has_details form) facets p classes y → outline_product form x ≡ outline_product form y
   product-once x y e h k =
@@ -138,19 +112,13 @@ module _ (form : Form) (facets : List (List ℕ)) (ascending : Each IsAscending 
 
   same-word : (w v : OpWord) (k j : ℕ) → op_named w k ≡ op_named v j → w ≡ v
   same-word word.Sq word.Sq k j e = refl
-  same-word word.Sq word.Power k j e = absurd cc
-  same-word word.Sq word.BocksteinPower k j e = absurd cc
-  same-word word.Power word.Sq k j e = absurd cc
   same-word word.Power word.Power k j e = refl
-  same-word word.Power word.BocksteinPower k j e = absurd cc
-  same-word word.BocksteinPower word.Sq k j e = absurd cc
-  same-word word.BocksteinPower word.Power k j e = absurd cc
   same-word word.BocksteinPower word.BocksteinPower k j e = refl
+  same-word _ _ k j e = absurd cc
 
   number-named : (w : OpWord) (k : ℕ) → number-of (op_named w k) ≡ k
   number-named word.Sq k = refl
-  number-named word.Power k = refl
-  number-named word.BocksteinPower k = refl
+  number-named _ k = refl
 
   operation-part-once : (x y : OperationPart) → block_of x ≡ block_of y → IsLiveBlock p (block_of x) × IsOperationPart (has_details form) facets p classes x → IsOperationPart (has_details form) facets p classes y → outline_operation form x ≡ outline_operation form y
   operation-part-once x y e h k =
@@ -237,15 +205,14 @@ module _ (form : Form) (p : ℕ) (is_served : IsTrue (served p)) where
   complexes-once : (blocks : List ComplexBlock) → Each (λ b. Each IsAscending b.facets) blocks → (cs ds : List ComplexPart) → AllZip (IsComplexPart (has_tables form) (has_details form) p) blocks cs → AllZip (IsComplexPart (has_tables form) (has_details form) p) blocks ds
       → (map (outline_complex form) cs ≡ map (outline_complex form) ds) × (map classes_of cs ≡ map classes_of ds)
   complexes-once [] a [] [] h k = (refl, refl)
-  complexes-once [] a [] (d ∷ ds) h k = absurd k
   complexes-once [] a (c ∷ cs) ds h k = absurd h
   complexes-once (b ∷ bs) a [] ds h k = absurd h
-  complexes-once (b ∷ bs) a (c ∷ cs) [] h k = absurd k
   complexes-once (b ∷ bs) a (c ∷ cs) (d ∷ ds) h k =
       let more = complexes-once bs a.1 cs ds h.1 k.1 in (
         ap₂ ◌∷◌ (complex-once form p is_served b a.0 c d h.0 k.0) more.0,
         ap₂ ◌∷◌ (same-listed form p is_served b a.0 c d h.0 k.0) more.1,
       )
+  complexes-once _ a _ _ h k = absurd k
 
 -- ---- sends
 
@@ -319,11 +286,10 @@ module _ (form : Form) (job : Spelled) (is_served : IsTrue (served job.prime)) (
   maps-once : (blocks : List MapBlock) → Each (IsMapOf job.complexes) blocks → (ms ns : List MapPart) → AllZip (IsMapPart (has_details form) job (map classes_of parts)) blocks ms → AllZip (IsMapPart (has_details form) job (map classes_of parts)) blocks ns
       → map (outline_map form) ms ≡ map (outline_map form) ns
   maps-once [] is [] [] h k = refl
-  maps-once [] is [] (n ∷ ns) h k = absurd k
   maps-once [] is (m ∷ ms) ns h k = absurd h
   maps-once (b ∷ bs) is [] ns h k = absurd h
-  maps-once (b ∷ bs) is (m ∷ ms) [] h k = absurd k
   maps-once (b ∷ bs) is (m ∷ ms) (n ∷ ns) h k = ap₂ ◌∷◌ (map-once form job is_served ascending parts are b is.0 m n h.0 k.0) (maps-once bs is.1 ms ns h.1 k.1)
+  maps-once _ is _ _ h k = absurd k
 
 one-outline : (form : Form) (job : Spelled) (r s : Report) → is_job job.prime job.complexes job.maps ≡ true → IsReportOf form job r → IsReportOf form job s → outline form r ≡ outline form s
 one-outline form job r s kept h k =

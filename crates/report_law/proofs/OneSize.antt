@@ -1,16 +1,15 @@
 -- The sizes of a complex.
-use Rattle.std.proofs.Common.{◌≡◌, ℕ, List, [], ◌∷◌, length, refl, sym, ap, ap₂, ◌∙◌, IsTrue, None, Some, true, unwrap_or}
+use Rattle.std.proofs.Common.{◌≡◌, ℕ, List, [], ◌∷◌, length, refl, sym, ap, ap₂, ◌∙◌, IsTrue, None, Some, true}
 use Rattle.std.specs.declared.option.Option.{Option}
 use Rattle.std.specs.List.{AllZip}
 use Rattle.std.proofs.lemmas.List.{length-map}
 use Rattle.fp_field.specs.Served.{served}
 use Rattle.fp_field.proofs.ServedLemmas.{served_field}
 use Rattle.linear_law.specs.Names.{Each, IsAscending}
+use Rattle.report_law.specs.Types.{ComplexBlock, Sizes}
 use Rattle.complex_file.specs.Names.{Spelled}
-use Rattle.complex_file.specs.declared.block.ComplexBlock.{ComplexBlock}
 use Rattle.complex_file.specs.Jobs.{is_job}
 use Rattle.report_law.specs.Names.{LimitLaw, SizesLaw, Classes, ranks, classes_of, AreJobSizes, AreSizes, passing_sum, simplex_counts}
-use Rattle.report.specs.declared.plan.Sizes.{Sizes}
 use Rattle.report_law.proofs.Maps.{job-complexes, job-prime}
 use Rattle.report_law.proofs.SameData.{same-bases}
 
@@ -33,25 +32,18 @@ sizes_law = record {
 same-sizes : (p : ℕ) → IsTrue (served p) → (blocks : List ComplexBlock) → Each (λ b. Each IsAscending b.facets) blocks → (zs ws : List Sizes)
     → AllZip (λ block z. AreSizes p block.facets z) blocks zs → AllZip (λ block z. AreSizes p block.facets z) blocks ws → zs ≡ ws
 same-sizes p s [] a [] [] h k = refl
-same-sizes p s [] a [] (w ∷ ws) h k = absurd k
 same-sizes p s [] a (z ∷ zs) ws h k = absurd h
 same-sizes p s (b ∷ bs) a [] ws h k = absurd h
-same-sizes p s (b ∷ bs) a (z ∷ zs) [] h k = absurd k
 same-sizes p s (b ∷ bs) a (z ∷ zs) (w ∷ ws) h k = ap₂ ◌∷◌ (one p b.facets s a.0 z w h.0 k.0) (same-sizes p s bs a.1 zs ws h.1 k.1)
+same-sizes p s _ a _ _ h k = absurd k
 
 job-sizes : (job : Spelled) → is_job job.prime job.complexes job.maps ≡ true → (zs ws : List Sizes) → AreJobSizes job zs → AreJobSizes job ws → zs ≡ ws
 job-sizes job kept zs ws h k = same-sizes job.prime (job-prime job.prime job.complexes job.maps kept) job.complexes (job-complexes job.prime job.complexes job.maps kept) zs ws h k
 
-some-same : (m n : ℕ) → ◌≡◌ {A = Option ℕ} (Some m) (Some n) → m ≡ n
-some-same m n e = ap (λ (o : Option ℕ). unwrap_or o m) e
-
-some-none : (n : ℕ) → ◌≡◌ {A = Option ℕ} (Some n) None → ⊥
-some-none n e = cc
-
 pub limit_law : LimitLaw
 limit_law = record {
   one = λ job limit m n kept h k.
-      some-same m n (sym h.passes ∙ ap (passing_sum job.prime limit) (job-sizes job kept h.sizes k.sizes h.are k.are) ∙ k.passes);
+      let e : ◌≡◌ {A = Option ℕ} (Some m) (Some n) = sym h.passes ∙ ap (passing_sum job.prime limit) (job-sizes job kept h.sizes k.sizes h.are k.are) ∙ k.passes in cc;
   not_both = λ job limit n kept h k.
-      some-none n (sym h.passes ∙ ap (passing_sum job.prime limit) (job-sizes job kept h.sizes k.sizes h.are k.are) ∙ k.within);
+      let e : ◌≡◌ {A = Option ℕ} (Some n) None = sym h.passes ∙ ap (passing_sum job.prime limit) (job-sizes job kept h.sizes k.sizes h.are k.are) ∙ k.within in cc;
 }

@@ -7,10 +7,8 @@ use Rattle.linear_law.specs.Names.{Congruent, IsField, negated, Among, Each, IsA
 use Rattle.linear_law.proofs.Names.{Congruent_add, Congruent_mul, Congruent_of, Congruent_refl, Congruent_scale, each_among, one-nonzero, same_or_not}
 use Rattle.simplicial_law.specs.Names.{IsSimplex, Precedes, AgreesOnSimplices, Chain, Cochain, IsCoboundary, IsCocycle, IsCohomologyBasis, unit_cochain, IsCanonicalClass, IsCanonicalCoboundary, canonical_cycle, AreCanonicalClasses, AreTerms, cochain_of}
 use Rattle.simplicial_law.proofs.Names.{coboundaries, cocycles, lists_compare, lists_strict}
+use Rattle.report_law.specs.Types.{CartanAnswer, Yes, No, Form}
 use Rattle.report.specs.Names.{details, has_details, has_tables, outline_answer, tables}
-use Rattle.report.specs.declared.columns.CartanAnswer.{CartanAnswer}
-use Rattle.report.specs.declared.columns.CartanAnswer.TheVariants.{Yes, No}
-use Rattle.report.specs.declared.form.Form.{Form}
 use Rattle.report_law.specs.Names.{AreClasses, Classes, ArePivots, ArePrimitives, IsAnswer, IsColumn, IsCycleAt, IsFirstValue, IsObstruction, IsPrimitiveAt, rest_of}
 use Rattle.report_law.proofs.Coordinates.{agrees-sym, agrees-trans, bound-coordinates, coordinates-alike, once}
 use Rattle.report_law.proofs.Unique.{canonical-once, same-order, same-primitive, same-terms}
@@ -24,20 +22,18 @@ partner R (z ∷ zs) (y ∷ ys) x h m = elim m [ inl e ↦ (y, subst (λ (w : _)
 -- partners of one list that are told by it
 pub zip-same : {U X : Type 0} (R S : U → X → Type 0) → ((u : U) (x y : X) → R u x → S u y → x ≡ y) → (us : List U) (xs ys : List X) → AllZip R us xs → AllZip S us ys → xs ≡ ys
 zip-same R S f [] [] [] h k = refl
-zip-same R S f [] [] (y ∷ ys) h k = absurd k
 zip-same R S f [] (x ∷ xs) ys h k = absurd h
 zip-same R S f (u ∷ us) [] ys h k = absurd h
-zip-same R S f (u ∷ us) (x ∷ xs) [] h k = absurd k
 zip-same R S f (u ∷ us) (x ∷ xs) (y ∷ ys) h k = ap₂ ◌∷◌ (f u x y h.0 k.0) (zip-same R S f us xs ys h.1 k.1)
+zip-same R S f _ _ _ h k = absurd k
 
 -- so for outlines of partners
 pub zip-outline : {U X Z : Type 0} (R S : U → X → Type 0) (o : X → Z) → ((u : U) (x y : X) → R u x → S u y → o x ≡ o y) → (us : List U) (xs ys : List X) → AllZip R us xs → AllZip S us ys → map o xs ≡ map o ys
 zip-outline R S o f [] [] [] h k = refl
-zip-outline R S o f [] [] (y ∷ ys) h k = absurd k
 zip-outline R S o f [] (x ∷ xs) ys h k = absurd h
 zip-outline R S o f (u ∷ us) [] ys h k = absurd h
-zip-outline R S o f (u ∷ us) (x ∷ xs) [] h k = absurd k
 zip-outline R S o f (u ∷ us) (x ∷ xs) (y ∷ ys) h k = ap₂ ◌∷◌ (f u x y h.0 k.0) (zip-outline R S o f us xs ys h.1 k.1)
+zip-outline R S o f _ _ _ h k = absurd k
 
 when : {X : Type 0} (b : Bool) (xs ys : List X) → (IsTrue b → xs ≡ ys) → (if b then xs else []) ≡ (if b then ys else [])
 when true xs ys h = h refl
@@ -51,9 +47,8 @@ tables-same form xs ys h = when (has_tables form) xs ys h
 
 zip-with : {U X : Type 0} (R : U → X → Type 0) (P : X → Type 0) (us : List U) (xs : List X) → AllZip R us xs → Each P xs → AllZip (λ u x. R u x × P x) us xs
 zip-with R P [] [] h k = tt
-zip-with R P [] (x ∷ xs) h k = absurd h
-zip-with R P (u ∷ us) [] h k = absurd h
 zip-with R P (u ∷ us) (x ∷ xs) h k = ((h.0, k.0), zip-with R P us xs h.1 k.1)
+zip-with R P _ _ h k = absurd h
 
 module _ (facets : List (List ℕ)) (ascending : Each IsAscending facets) (p : ℕ) (field : IsField p) (n : ℕ) where
   -- ---- classes
@@ -164,9 +159,8 @@ module _ (form : Form) (facets : List (List ℕ)) (ascending : Each IsAscending 
 
 same-lists : (xs ys : List (List Chain)) → length xs ≡ length ys → ((n : ℕ) → n < length xs → get_or xs n [] ≡ get_or ys n []) → xs ≡ ys
 same-lists [] [] l h = refl
-same-lists [] (y ∷ ys) l h = absurd (omega (arith, l))
-same-lists (x ∷ xs) [] l h = absurd (omega (arith, l))
 same-lists (x ∷ xs) (y ∷ ys) l h = ap₂ ◌∷◌ (h 0 (omega arith)) (same-lists xs ys (omega (arith, l)) (λ n b. h (suc n) (omega (arith, b))))
+same-lists _ _ l h = absurd (omega (arith, l))
 
 pub same-bases : (facets : List (List ℕ)) → Each IsAscending facets → (p : ℕ) → IsField p → (xs ys : Classes) → AreClasses facets p xs → AreClasses facets p ys → xs ≡ ys
 same-bases facets ascending p field xs ys h k =

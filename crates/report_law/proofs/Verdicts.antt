@@ -15,14 +15,8 @@ use Rattle.steenrod_law.proofs.Complexes.{extended-cochain, extended-simplex, re
 use Rattle.steenrod_law.proofs.OperationLaws.{to_residues, vertices}
 use Rattle.steenrod_law.proofs.ValuesOnFaces.{value-at}
 use Rattle.steenrod_law.specs.Names.{IsWeakSimplex, cup_product, extended}
+use Rattle.report_law.specs.Types.{CartanAnswer, Yes, No, CartanPart, ComplexPart, Form, Line, Op}
 use Rattle.report.specs.Names.{has_details}
-use Rattle.report.specs.declared.columns.CartanAnswer.{CartanAnswer}
-use Rattle.report.specs.declared.columns.CartanAnswer.TheVariants.{Yes, No}
-use Rattle.report.specs.declared.columns.CartanPart.{CartanPart}
-use Rattle.report.specs.declared.complex.ComplexPart.{ComplexPart}
-use Rattle.report.specs.declared.form.Form.{Form}
-use Rattle.report.specs.declared.plan.Line.{Line}
-use Rattle.report.specs.declared.plan.Op.{Op}
 use Rattle.report_law.specs.Names.{IsAnswer, IsObstruction, IsPrimitive, IsCartanDifference, IsCartanProduct, IsOperation, CartanPromise, IsBoundedBy, IsDetectedBy, Says, all_lines, cartan_op, cartan_pairs, has_class, is_defined, lines, target_degree, class_at, classes_in, line_degree, ranks, classes_of, line_of, IsCartanPart}
 use Rattle.report_law.proofs.Blocks.{has-degree}
 use Rattle.report_law.proofs.Coordinates.{agrees-sym, agrees-trans, bound-coordinates}
@@ -76,10 +70,8 @@ module _ (facets : List (List ℕ)) (p : ℕ) (is_served : IsTrue (served p)) wh
         → AllZip (λ e w. IsCartanProduct facets p a b x y e.0 e.1 w) pairs vs → AllZip (λ e w. IsCartanProduct facets p a b x y e.0 e.1 w) pairs ws
         → (s : List ℕ) → IsSimplex facets target s → Congruent p (sum_over (λ w. w s) vs) (sum_over (λ w. w s) ws)
     parts-alike [] d [] [] h k s on = Congruent_refl 0
-    parts-alike [] d [] (w ∷ ws) h k s on = absurd k
     parts-alike [] d (v ∷ vs) ws h k s on = absurd h
     parts-alike (e ∷ pairs) d [] ws h k s on = absurd h
-    parts-alike (e ∷ pairs) d (v ∷ vs) [] h k s on = absurd k
     parts-alike (e ∷ pairs) d (v ∷ vs) (w ∷ ws) h k s on =
         let i : Op = cartan_op p e.0 in
         let j : Op = cartan_op p e.1 in
@@ -90,6 +82,7 @@ module _ (facets : List (List ℕ)) (p : ℕ) (is_served : IsTrue (served p)) wh
         Congruent_add
         (Congruent_trans (Congruent_of (ap (λ (c : Cochain). c s) h.0.product)) (Congruent_trans same (Congruent_of (ap (λ (c : Cochain). c s) (sym k.0.product)))))
         (parts-alike pairs d.1 vs ws h.1 k.1 s on)
+    parts-alike _ d _ _ h k s on = absurd k
 
     -- two differences of one line agree
     pub difference-once : (d e : Cochain) → is_defined p (a + b) (cartan_op p n) ≡ true → IsCartanDifference facets p a b n x y d → IsCartanDifference facets p a b n x y e → AgreesOnSimplices facets target p d e

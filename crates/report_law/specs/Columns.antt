@@ -4,8 +4,7 @@ use Rattle.std.specs.Prelude.{◌≡◌, IsTrue, Bool, ℕ, ◌+◌, ◌<◌, ze
 use Rattle.std.specs.List.{AllZip}
 use Rattle.linear_law.specs.Names.{negated, Among, Each, combination}
 use Rattle.simplicial_law.specs.Names.{IsInOrder, AgreesOnSimplices, Chain, Cochain, HasCoordinates, IsCoboundary, IsCanonicalClass, IsCanonicalCoboundary, IsCanonicalPrimitive, IsCoboundaryPivot, canonical_cycle, AreTerms, cochain_of}
-use Rattle.report.specs.declared.columns.CartanAnswer.{CartanAnswer}
-use Rattle.report.specs.declared.columns.CartanAnswer.TheVariants.{Yes, No}
+use Rattle.report_law.specs.Types.{CartanAnswer, Yes, No}
 
 -- ---- primitives
 

@@ -5,19 +5,8 @@ use Rattle.linear_law.specs.Names.{Congruent, sum_over, Each, matrix_times}
 use Rattle.simplicial_law.specs.Names.{IsSimplex, AgreesOnSimplices, Chain, Cochain, HasCoordinates, IsCoboundary, IsCocycle, IsCohomologyBasis, boundary, coboundary, pairing, unit_cochain, AreTerms, cochain_of}
 use Rattle.steenrod_law.specs.Names.{coefficient_products, cup_product, pull_back}
 use Rattle.complex_file.specs.Names.{Spelled, facets_at, image}
-use Rattle.complex_file.specs.declared.block.ComplexBlock.{ComplexBlock}
-use Rattle.complex_file.specs.declared.block.MapBlock.{MapBlock}
+use Rattle.report_law.specs.Types.{ComplexBlock, MapBlock, CartanAnswer, Yes, No, CartanPart, OperationPart, ProductPart, ComplexPart, Form, Report, MapPart, Op}
 use Rattle.report.specs.Names.{has_details, has_tables}
-use Rattle.report.specs.declared.columns.CartanAnswer.{CartanAnswer}
-use Rattle.report.specs.declared.columns.CartanAnswer.TheVariants.{Yes, No}
-use Rattle.report.specs.declared.columns.CartanPart.{CartanPart}
-use Rattle.report.specs.declared.columns.OperationPart.{OperationPart}
-use Rattle.report.specs.declared.columns.ProductPart.{ProductPart}
-use Rattle.report.specs.declared.complex.ComplexPart.{ComplexPart}
-use Rattle.report.specs.declared.form.Form.{Form}
-use Rattle.report.specs.declared.job.Report.{Report}
-use Rattle.report.specs.declared.map.MapPart.{MapPart}
-use Rattle.report.specs.declared.plan.Op.{Op}
 use Rattle.report_law.specs.Differences.{IsOperation}
 use Rattle.report_law.specs.Live.{is_defined, target_degree}
 use Rattle.report_law.specs.Matrices.{IsLineDifference, cochains_in, line_degree}

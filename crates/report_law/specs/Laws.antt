@@ -4,15 +4,9 @@ use Rattle.fp_field.specs.Served.{served}
 use Rattle.linear_law.specs.Names.{Each, IsAscending}
 use Rattle.simplicial_law.specs.Names.{AgreesOnSimplices, Cochain}
 use Rattle.complex_file.specs.Names.{Spelled}
-use Rattle.complex_file.specs.declared.block.ComplexBlock.{ComplexBlock}
+use Rattle.report_law.specs.Types.{ComplexBlock, ComplexPart, Form, Certificate, Report, Op, Sizes}
 use Rattle.complex_file.specs.Jobs.{is_job}
 use Rattle.report.specs.Names.{outline}
-use Rattle.report.specs.declared.complex.ComplexPart.{ComplexPart}
-use Rattle.report.specs.declared.form.Form.{Form}
-use Rattle.report.specs.declared.form.Form.TheVariants.{Certificate}
-use Rattle.report.specs.declared.job.Report.{Report}
-use Rattle.report.specs.declared.plan.Op.{Op}
-use Rattle.report.specs.declared.plan.Sizes.{Sizes}
 use Rattle.report_law.specs.Differences.{IsCartanDifference, IsOperation}
 use Rattle.report_law.specs.Headline.{Headline}
 use Rattle.report_law.specs.Live.{cartan_op, is_defined, target_degree}

@@ -1,3 +1,4 @@
+pub mod Types
 pub mod Live
 pub mod Differences
 pub mod Columns

@@ -3,11 +3,7 @@ use Rattle.std.specs.Prelude.{Bool, ℕ, ◌+◌, ◌-◌, ◌<◌, List, [], ma
 use Rattle.std.specs.List.{AllZip}
 use Rattle.simplicial_law.specs.Names.{IsSimplex, Chain, Cochain, AreCanonicalClasses, cochain_of}
 use Rattle.steenrod_law.specs.Names.{cochain_products, pull_back}
-use Rattle.report.specs.declared.columns.CartanAnswer.{CartanAnswer}
-use Rattle.report.specs.declared.columns.Column.{Column}
-use Rattle.report.specs.declared.plan.Block.{Block}
-use Rattle.report.specs.declared.plan.Line.{Line}
-use Rattle.report.specs.declared.plan.Product.{Product}
+use Rattle.report_law.specs.Types.{CartanAnswer, Column, Block, Line, Product}
 use Rattle.report_law.specs.Columns.{IsAnswer, IsColumn}
 use Rattle.report_law.specs.Differences.{IsCartanDifference, IsOperation}
 use Rattle.report_law.specs.Live.{cartan_op, target_degree}

@@ -3,22 +3,8 @@ use Rattle.std.specs.Prelude.{ℕ, Bool, false, ◌&&◌, ◌==◌, if◌then◌
 use Rattle.simplicial_law.specs.Names.{Chain}
 use Rattle.steenrod_law.specs.Names.{copies}
 use Rattle.signed_sum.specs.Names.{numbers_from}
-use Rattle.report.specs.declared.columns.CartanPart.{CartanPart}
-use Rattle.report.specs.declared.columns.Column.{Column}
-use Rattle.report.specs.declared.columns.OpWord.{OpWord}
-use Rattle.report.specs.declared.columns.OperationPart.{OperationPart}
-use Rattle.report.specs.declared.columns.PairColumn.{PairColumn}
-use Rattle.report.specs.declared.columns.ProductPart.{ProductPart}
-use Rattle.report.specs.declared.complex.ComplexPart.{ComplexPart}
-use Rattle.report.specs.declared.map.InducedPart.{InducedPart}
-use Rattle.report.specs.declared.map.MapPart.{MapPart}
-use Rattle.report.specs.declared.plan.Block.{Block}
-use Rattle.report.specs.declared.plan.Line.{Line}
-use Rattle.report.specs.declared.plan.Op.{Op}
-use Rattle.report.specs.declared.plan.Op.TheVariants.{Square}
-use Rattle.report.specs.declared.plan.Product.{Product}
+use Rattle.report_law.specs.Types.{CartanPart, Column, OpWord, OperationPart, PairColumn, ProductPart, ComplexPart, InducedPart, MapPart, Block, Line, Op, Square, Product, Power, BocksteinPower}
 use Rattle.report.specs.declared.columns.OpWord.TheVariants as word
-use Rattle.report.specs.declared.plan.Op.TheVariants.{Power, BocksteinPower}
 use Rattle.report_law.specs.Matrices.{Classes, classes_in, ranks}
 
 -- the classes by degree, and the ranks

@@ -1,11 +1,8 @@
 -- The report of a point at 2.
 use Rattle.std.specs.Prelude.{[], ◌∷◌, codes}
 use Rattle.complex_file.specs.Names.{Spelled}
-use Rattle.report.specs.declared.columns.CartanAnswer.TheVariants.{Yes}
+use Rattle.report_law.specs.Types.{Yes, ComplexPart, Certificate, Report}
 use Rattle.report.specs.declared.columns.OpWord.TheVariants.{Sq}
-use Rattle.report.specs.declared.complex.ComplexPart.{ComplexPart}
-use Rattle.report.specs.declared.form.Form.TheVariants.{Certificate}
-use Rattle.report.specs.declared.job.Report.{Report}
 use Rattle.report_law.specs.Reports.{IsReportOf}
 
 -- one complex with the one vertex 0

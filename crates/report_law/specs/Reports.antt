@@ -4,18 +4,8 @@ use Rattle.std.specs.List.{AllZip}
 use Rattle.linear_law.specs.Names.{Among, Each, IsAscending}
 use Rattle.simplicial_law.specs.Names.{IsInOrder}
 use Rattle.complex_file.specs.Names.{Spelled, facets_at, image, name_at}
-use Rattle.complex_file.specs.declared.block.ComplexBlock.{ComplexBlock}
-use Rattle.complex_file.specs.declared.block.MapBlock.{MapBlock}
-use Rattle.complex_file.specs.declared.block.Sent.{Sent}
+use Rattle.report_law.specs.Types.{ComplexBlock, MapBlock, Sent, CartanPart, OperationPart, ProductPart, ComplexPart, Form, Report, InducedPart, MapPart}
 use Rattle.report.specs.Names.{has_details, has_tables}
-use Rattle.report.specs.declared.columns.CartanPart.{CartanPart}
-use Rattle.report.specs.declared.columns.OperationPart.{OperationPart}
-use Rattle.report.specs.declared.columns.ProductPart.{ProductPart}
-use Rattle.report.specs.declared.complex.ComplexPart.{ComplexPart}
-use Rattle.report.specs.declared.form.Form.{Form}
-use Rattle.report.specs.declared.job.Report.{Report}
-use Rattle.report.specs.declared.map.InducedPart.{InducedPart}
-use Rattle.report.specs.declared.map.MapPart.{MapPart}
 use Rattle.report_law.specs.Columns.{ArePrimitives}
 use Rattle.report_law.specs.Live.{blocks, induced_degrees, lines, products}
 use Rattle.report_law.specs.Matrices.{AreClasses, Classes, IsInducedBlock, IsOperationBlock, IsProductBlock, IsVerdict, classes_in, ranks}

@@ -11,11 +11,7 @@ use Rattle.simplicial_law.specs.ListedSimplices.{simplices}
 use Rattle.interval_cut_law.specs.Names.{live_cut_count}
 use Rattle.table_reduction_law.specs.Names.{candidate_count, may_element}
 use Rattle.complex_file.specs.Names.{Spelled}
-use Rattle.report.specs.declared.complex.ComplexPart.{ComplexPart}
-use Rattle.report.specs.declared.plan.Block.{Block}
-use Rattle.report.specs.declared.plan.Line.{Line}
-use Rattle.report.specs.declared.plan.Op.{Op}
-use Rattle.report.specs.declared.plan.Sizes.{Sizes}
+use Rattle.report_law.specs.Types.{ComplexPart, Block, Line, Op, Sizes}
 use Rattle.report_law.specs.Live.{blocks, cartan_op, cartan_pairs, element_degree, lines, target_degree}
 use Rattle.report_law.specs.Matrices.{AreClasses, Classes, ranks}
 use Rattle.report_law.specs.Parts.{ranks_of}

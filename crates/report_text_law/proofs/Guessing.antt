@@ -8,12 +8,9 @@ use Rattle.std.proofs.lemmas.Bool.{and_parts, cases_Bool, or_cases}
 use Rattle.std.proofs.lemmas.Slice.Eq.{bytes_eq-Decides}
 use Rattle.fp_field.specs.Served.{served}
 use Rattle.complex_file.specs.Names.{is_name, is_letter, is_digit, is_name_byte, begins_with_letter}
-use Rattle.report.specs.declared.columns.OpWord.{OpWord}
-use Rattle.report.specs.declared.columns.OpWord.TheVariants.{Sq}
-use Rattle.report.specs.declared.form.Form.TheVariants.{Certificate}
-use Rattle.report.specs.declared.columns.OpWord.TheVariants.{Power, BocksteinPower}
-use Rattle.report_text_law.specs.Names.{Chain, heading_line, prime_line, complex_line, facet_line, degree_line, below_line, class_line, product_line, pair_line, with_line, operation_line, column_line, cartan_yes, cartan_no, cycle_line, end_line, map_line, send_line, induced_line, done_line, joined, words, term_word, chain_words, op_word, is_line, is_u32, is_vertex, is_simplex, is_unit, is_term, is_chain, are_values, ascends, terms_ascend, with_digit, number_after, number, numbers, term_pieces, term_of, chain_of, op_of, guess_pair, guess}
-use Rattle.report_text_law.specs.Lines.{Line}
+use Rattle.report_text_law.specs.Types.{OpWord, Certificate}
+use Rattle.report.specs.declared.columns.OpWord.TheVariants.{Sq, Power, BocksteinPower}
+use Rattle.report_text_law.specs.Names.{Chain, heading_line, prime_line, complex_line, facet_line, degree_line, below_line, class_line, product_line, pair_line, with_line, operation_line, column_line, cartan_yes, cartan_no, cycle_line, end_line, map_line, send_line, induced_line, done_line, joined, words, term_word, chain_words, op_word, is_line, is_u32, is_vertex, is_simplex, is_unit, is_term, is_chain, are_values, ascends, terms_ascend, with_digit, number_after, number, numbers, term_pieces, term_of, chain_of, op_of, guess_pair, guess, Line}
 use Rattle.std.specs.Char.{digit_value}
 use Rattle.std.specs.Str.Parse.{AllDigits, digits_value_after}
 use Rattle.std.proofs.lemmas.Str.Parse.{digit_from_value}
@@ -190,8 +187,7 @@ not_is n lt =
 
 op_again : (w : OpWord) → op_of (op_word w) ≡ w
 op_again Sq = refl
-op_again Power = refl
-op_again BocksteinPower = refl
+op_again _ = refl
 
 u32_small : (n : ℕ) → is_u32 n ≡ true → n < 2 ^ 32
 u32_small n h = ltb-true n (2 ^ 32) h
@@ -257,9 +253,7 @@ no_again a i b j n v h lv =
     ∙ ap₂ (λ (x y : ℕ). Some (cartan_no a i b j x y)) (number_again n h.fifth) (number_again v lv)
 
 pub guess_again : (p : ℕ) (l : Line) → p < 2 ^ 32 → is_line p l ≡ true → guess (words Certificate l) ≡ Some l
-guess_again p heading_line bound h = refl
 guess_again p (prime_line q) bound h = ap (λ (n : ℕ). Some (prime_line n)) (number_again q (served_small q h))
-guess_again p (complex_line name) bound h = refl
 guess_again p (facet_line vs) bound h = ap (λ (us : List ℕ). Some (facet_line us)) (numbers_again vs (simplex_small vs h))
 guess_again p (degree_line n k) bound h =
     let s = degree_small n k h in ap₂ (λ (x y : ℕ). Some (degree_line x y)) (number_again n s.0) (number_again k s.1)
@@ -277,12 +271,10 @@ guess_again p (column_line j vs) bound h =
 guess_again p (cartan_yes a i b j n) bound h = yes_again a i b j n (five a i b j n h)
 guess_again p (cartan_no a i b j n v) bound h = let s = six p a i b j n v bound h in no_again a i b j n v s.0 s.1
 guess_again p (cycle_line ts) bound h = ap (λ (us : Chain). Some (cycle_line us)) (chain_again p ts bound h)
-guess_again p end_line bound h = refl
-guess_again p (map_line n a b) bound h = refl
 guess_again p (send_line v w) bound h =
     let s = and_parts (is_vertex v) (is_vertex w) h in ap₂ (λ (x y : ℕ). Some (send_line x y)) (number_again v (vertex_small v s.0)) (number_again w (vertex_small w s.1))
 guess_again p (induced_line q) bound h = ap (λ (n : ℕ). Some (induced_line n)) (number_again q (u32_small q h))
-guess_again p done_line bound h = refl
+guess_again p _ bound h = refl
 
 op_free : (b : ℕ) (w : OpWord) → b < 45 → Free b (op_word w)
 op_free b Sq low = text_free b (codes "Sq") low refl

@@ -1,23 +1,9 @@
 -- The text of an outline is the text of the report.
-use Rattle.std.proofs.Common.{◌≡◌, ◌∙◌, ℕ, ◌+◌, Bool, true, false, List, [], ◌∷◌, ◌++◌, length, ap, ap₂, refl, sym, map, flat_map}
+use Rattle.std.proofs.Common.{◌≡◌, ◌∙◌, ℕ, ◌+◌, List, [], ◌∷◌, ◌++◌, length, ap, ap₂, refl, sym, map, flat_map}
 use Rattle.std.proofs.lemmas.Grind.{flat_map-append}
-use Rattle.report.specs.Names.{has_details, has_tables, details, tables, outline, outline_degree, outline_column, outline_pair, outline_answer, outline_product, outline_operation, outline_line, outline_complex, outline_induced, outline_map}
-use Rattle.report.specs.declared.columns.CartanAnswer.TheVariants.{Yes, No}
-use Rattle.report.specs.declared.columns.CartanPart.{CartanPart}
-use Rattle.report.specs.declared.columns.CartanAnswer.{CartanAnswer}
-use Rattle.report.specs.declared.columns.Column.{Column}
-use Rattle.report.specs.declared.columns.OperationPart.{OperationPart}
-use Rattle.report.specs.declared.columns.PairColumn.{PairColumn}
-use Rattle.report.specs.declared.columns.ProductPart.{ProductPart}
-use Rattle.report.specs.declared.complex.ComplexPart.{ComplexPart}
-use Rattle.report.specs.declared.complex.DegreePart.{DegreePart}
-use Rattle.report.specs.declared.form.Form.{Form}
-use Rattle.report.specs.declared.form.Form.TheVariants.{Basis, Short, Certificate}
-use Rattle.report.specs.declared.job.Report.{Report}
-use Rattle.report.specs.declared.map.InducedPart.{InducedPart}
-use Rattle.report.specs.declared.map.MapPart.{MapPart}
-use Rattle.report_text_law.specs.Names.{OutlineLaw, Chain, facet_line, below_line, class_line, with_line, cycle_line, cartan_yes, cartan_no, column_line, pair_line, degree_line, complex_line, end_line, map_line, product_line, operation_line, induced_line, columns_from, degree_lines, degrees_from, pair_lines, product_lines, operation_lines, answer_lines, cartan_lines, table_lines, complex_lines, send_of, induced_lines, map_lines, heading_line, prime_line, done_line, shown, printed}
-use Rattle.report_text_law.specs.Lines.{Line}
+use Rattle.report_text_law.specs.Types.{Yes, No, CartanAnswer, Column, OperationPart, PairColumn, ProductPart, ComplexPart, DegreePart, Form, Basis, Short, Certificate, InducedPart, MapPart}
+use Rattle.report.specs.Names.{details, tables, outline_degree, outline_column, outline_pair, outline_answer, outline_product, outline_operation, outline_line, outline_complex, outline_induced, outline_map}
+use Rattle.report_text_law.specs.Names.{OutlineLaw, Chain, facet_line, below_line, class_line, with_line, cycle_line, cartan_yes, cartan_no, column_line, pair_line, degree_line, complex_line, end_line, map_line, product_line, operation_line, induced_line, columns_from, degree_lines, degrees_from, pair_lines, product_lines, operation_lines, answer_lines, cartan_lines, table_lines, complex_lines, send_of, induced_lines, map_lines, heading_line, prime_line, done_line, shown, printed, Line}
 use Rattle.report_text_law.specs.Text.{text_of}
 
 -- lines in two parts, of which each is printed alike
@@ -55,13 +41,11 @@ detailed Certificate g basis short xs = refl
 
 with_same : (f : Form) (ts : Chain) → shown f (with_line (details f ts)) ≡ shown f (with_line ts)
 with_same Basis ts = refl
-with_same Short ts = refl
-with_same Certificate ts = refl
+with_same _ ts = refl
 
 cycle_same : (f : Form) (ts : Chain) → shown f (cycle_line (details f ts)) ≡ shown f (cycle_line ts)
 cycle_same Basis ts = refl
-cycle_same Short ts = refl
-cycle_same Certificate ts = refl
+cycle_same _ ts = refl
 
 columns_same : (f : Form) (j : ℕ) (cs : List Column) → printed f (columns_from j (map (outline_column f) cs)) ≡ printed f (columns_from j cs)
 columns_same f j [] = refl

@@ -2,15 +2,12 @@
 use Rattle.std.proofs.Common.{◌≡◌, ◌∙◌, ℕ, zero, suc, true, List, [], ◌∷◌, ◌++◌, ap, refl, sym, subst, append_assoc, Some, None, flat_map, append-nil}
 use Rattle.std.specs.declared.option.Option.{Option}
 use Rattle.std.specs.List.{list_all}
-use Rattle.report_text_law.specs.Names.{is_line, IsCertificate, Begins, Chain, heading_line, prime_line, class_line, with_line, cycle_line, end_line, done_line, map_lines, certificate_lines, Graded, ComplexStage, Facets, Values, Yes, No, Cartans, MapStage, Sends, InducedValues, Finding, State, AtStart, AtPrime, Between, InComplex, BetweenMaps, InMap, Finished, ◌>>=◌, report_of, move, prime_of, step, run}
+use Rattle.report_text_law.specs.Names.{is_line, IsCertificate, Begins, Chain, heading_line, prime_line, class_line, with_line, cycle_line, end_line, done_line, map_lines, certificate_lines, Graded, ComplexStage, Values, Yes, No, MapStage, Sends, InducedValues, Finding, State, AtStart, AtPrime, InComplex, InMap, Finished, ◌>>=◌, report_of, move, prime_of, step, run, Line}
 use Rattle.report_text_law.proofs.Written.{written, front, move_law, some_same, bind_some, guard_some}
-use Rattle.report.specs.declared.job.Report.{Report}
-use Rattle.report.specs.declared.map.MapPart.{MapPart}
+use Rattle.report_text_law.specs.Types.{Report, MapPart}
 use Rattle.report_text_law.proofs.Fine.{IsFine, fine_law}
 use Rattle.report_text_law.proofs.Again.{again, finding}
-use Rattle.report_text_law.specs.Lines.{Line}
-use Rattle.report_text_law.specs.declared.state.ComplexStage.TheVariants.{Degree, Product, Pair, Operation}
-use Rattle.report_text_law.specs.declared.state.MapStage.TheVariants.{Induced}
+use Rattle.report_text_law.specs.declared.state.ComplexStage.TheVariants.{Degree, Pair}
 
 run_law : (s : State) (ls : List Line) (t : State) → run s ls ≡ Some t → IsFine s → (written t ≡ written s ++ ls) × IsFine t
 run_law s [] t e fine =
@@ -52,29 +49,24 @@ filled zero = closing
 filled (suc k) = class_line [] ∷ filled k
 
 rest_of : ComplexStage → List Line
-rest_of (Facets b) = closing
 rest_of (Degree g k bs cs) = filled k
-rest_of (Product m x) = closing
 rest_of (Pair m x i j vs) = with_line [] ∷ closing
-rest_of (Operation o x) = closing
 rest_of (Values o x vs) = with_line [] ∷ closing
 rest_of (Yes c a i b j n) = with_line [] ∷ closing
 rest_of (No c a i b j n v) = cycle_line [] ∷ closing
-rest_of (Cartans c) = closing
+rest_of _ = closing
 
 rest_of_map : MapStage → List Line
-rest_of_map (Sends h) = closing
-rest_of_map (Induced m x) = closing
 rest_of_map (InducedValues m x vs) = with_line [] ∷ closing
+rest_of_map _ = closing
 
 rest : State → List Line
 rest AtStart = heading_line ∷ prime_line 2 ∷ done_line ∷ []
 rest AtPrime = prime_line 2 ∷ done_line ∷ []
-rest (Between f) = done_line ∷ []
 rest (InComplex f s) = rest_of s
-rest (BetweenMaps f ms) = done_line ∷ []
 rest (InMap f ms s) = rest_of_map s
 rest (Finished f ms) = []
+rest _ = done_line ∷ []
 
 abbrev Ends : State → List Line → Type 0
 Ends s ls = (f : Finding) × (ms : List MapPart) × (run s ls ≡ Some (Finished f ms))
@@ -86,31 +78,19 @@ filled_ends f g (suc k) bs cs = filled_ends f g k bs (cs ++ [] ∷ [])
 
 stage_ends : (f : Finding) (s : ComplexStage) → Ends (InComplex f s) (rest_of s)
 unfolding rest_of filled
-stage_ends f (Facets b) = (_, _, refl)
 stage_ends f (Degree g k bs cs) = filled_ends f g k bs cs
-stage_ends f (Product m x) = (_, _, refl)
-stage_ends f (Pair m x i j vs) = (_, _, refl)
-stage_ends f (Operation o x) = (_, _, refl)
-stage_ends f (Values o x vs) = (_, _, refl)
-stage_ends f (Yes c a i b j n) = (_, _, refl)
-stage_ends f (No c a i b j n v) = (_, _, refl)
-stage_ends f (Cartans c) = (_, _, refl)
+stage_ends f _ = (_, _, refl)
 
 map_stage_ends : (f : Finding) (ms : List MapPart) (s : MapStage) → Ends (InMap f ms s) (rest_of_map s)
 unfolding rest_of_map
 map_stage_ends f ms (Sends h) = (_, _, refl)
-map_stage_ends f ms (Induced m x) = (_, _, refl)
-map_stage_ends f ms (InducedValues m x vs) = (_, _, refl)
+map_stage_ends f ms _ = (_, _, refl)
 
 rest_ends : (s : State) → Ends s (rest s)
 unfolding rest
-rest_ends AtStart = (_, _, refl)
-rest_ends AtPrime = (_, _, refl)
-rest_ends (Between f) = (_, _, refl)
 rest_ends (InComplex f s) = stage_ends f s
-rest_ends (BetweenMaps f ms) = (_, _, refl)
 rest_ends (InMap f ms s) = map_stage_ends f ms s
-rest_ends (Finished f ms) = (_, _, refl)
+rest_ends _ = (_, _, refl)
 
 -- lines that are taken begin a certificate
 pub taken_begins : (ls : List Line) (s : State) → run AtStart ls ≡ Some s → Begins ls

@@ -1,13 +1,12 @@
 -- What a whole text spells, and its first bad line.
-use Rattle.std.proofs.Common.{◌≡◌, ◌∙◌, ℕ, zero, suc, ◌+◌, ◌<◌, ◌≤◌, Bool, true, false, cond, List, [], ◌∷◌, ◌++◌, length, length-append, take, drop, ap, refl, sym, subst, arith, append_assoc, Some, None, rules, ◌==◌, map, flat_map, Ok, Err, Result, append-nil}
+use Rattle.std.proofs.Common.{◌≡◌, ◌∙◌, ℕ, ◌+◌, ◌<◌, ◌≤◌, Bool, true, false, cond, List, [], ◌∷◌, ◌++◌, length, length-append, take, drop, ap, refl, sym, subst, arith, append_assoc, Some, None, rules, ◌==◌, map, flat_map, Ok, Err, Result, append-nil}
 use Rattle.std.specs.declared.option.Option.{Option}
-use Rattle.std.specs.List.{onto_first, join_with_byte}
-use Rattle.std.proofs.lemmas.List.Splits.{join_with_byte-slice_split}
-use Rattle.std.proofs.lemmas.List.{take-append-le}
-use Rattle.report.specs.declared.job.Report.{Report}
-use Rattle.report.specs.declared.map.MapPart.{MapPart}
-use Rattle.report.specs.declared.form.Form.TheVariants.{Certificate}
-use Rattle.report_text_law.specs.Names.{Finding, State, AtStart, AtPrime, Between, InComplex, BetweenMaps, InMap, Finished, certificate_lines, ended, report_of, step, ◌>>=◌, spelled, line_at, read, ended_at, after, or_refused, read_from, read_text, pieces, Spells, BeginsText, IsRefused, ReadingLaw, OneReport, OneRefusedLine}
+use Rattle.std.specs.List.{count_by, onto_first, join_with_byte}
+use Rattle.std.proofs.lemmas.List.Splits.{join_with_byte-slice_split, length-slice_split}
+use Rattle.std.proofs.Math.Seq.{take-append-add}
+use Rattle.std.proofs.lemmas.List.{take-append-drop, take-append-le}
+use Rattle.report_text_law.specs.Types.{Report, MapPart, Certificate}
+use Rattle.report_text_law.specs.Names.{Finding, State, AtStart, Finished, certificate_lines, ended, report_of, step, ◌>>=◌, spelled, line_at, read, ended_at, after, or_refused, read_from, read_text, pieces, Spells, BeginsText, IsRefused, ReadingLaw, OneReport, OneRefusedLine}
 use Rattle.report_text_law.specs.Text.{text_of}
 use Rattle.report_text_law.proofs.Written.{bind_some, some_same}
 use Rattle.report_text_law.proofs.Reading.{behind, finished_with}
@@ -24,14 +23,9 @@ read_more s (b ∷ bs) ys =
     ∙ behind (after s b) (λ t. read t bs) (λ t. read t (bs ++ ys)) (λ t. read t ys) (λ t. read_more t bs ys)
     ∙ ap (λ (r : Option State). r >>= λ t. read t ys) (sym (read_step s b bs))
 
-cut_at : (k : ℕ) (xs : List (List ℕ)) → xs ≡ take k xs ++ drop k xs
-cut_at zero xs = refl
-cut_at (suc k) [] = refl
-cut_at (suc k) (x ∷ xs) = ap (λ (t : List (List ℕ)). x ∷ t) (cut_at k xs)
-
 begins_front : (done : List (List ℕ)) (s : State) (k : ℕ) → read AtStart done ≡ Some s → BeginsText (take k done)
 begins_front done s k e =
-    let whole : (read AtStart (take k done) >>= λ t. read t (drop k done)) ≡ Some s = sym (read_more AtStart (take k done) (drop k done)) ∙ sym (ap (read AtStart) (cut_at k done)) ∙ e in
+    let whole : (read AtStart (take k done) >>= λ t. read t (drop k done)) ≡ Some s = sym (read_more AtStart (take k done) (drop k done)) ∙ ap (read AtStart) (take-append-drop k done) ∙ e in
     let m = bind_some (read AtStart (take k done)) (λ t. read t (drop k done)) s whole in
     taken_begins_text (take k done) m.0 m.1
 
@@ -51,10 +45,7 @@ good_to done rest s e k lt =
     subst (λ (t : List (List ℕ)). BeginsText t) (sym (take-append-le k done rest le)) (begins_front done s k e)
 
 take_one : (done : List (List ℕ)) (b : List ℕ) (rest : List (List ℕ)) → take (length done + 1) (done ++ b ∷ rest) ≡ done ++ b ∷ []
-take_one [] b rest = refl
-take_one (d ∷ ds) b rest =
-    let e : length (d ∷ ds) + 1 ≡ suc (length ds + 1) = omega arith in
-    ap (λ (k : ℕ). take k (d ∷ (ds ++ b ∷ rest))) e ∙ ap (λ (t : List (List ℕ)). d ∷ t) (take_one ds b rest)
+take_one done b rest = take-append-add done (b ∷ rest) 1
 
 free_front : (n : ℕ) (xs ys : List (List ℕ)) → EachFree n (xs ++ ys) → EachFree n xs
 free_front n [] ys h = tt
@@ -179,25 +170,18 @@ read_spelled text r e =
     let same : text ≡ flat_map ended w.lines = sym (join_with_byte-slice_split 10 text) ∙ ap (join_with_byte 10) w.all ∙ joined_lines w.lines in
     subst (λ (u : List ℕ). Spells u r) (sym same) (subst (Spells (flat_map ended w.lines)) w.is_it whole)
 
-onto_full : (x : ℕ) (ps : List (List ℕ)) → (b : List ℕ) × (more : List (List ℕ)) × (onto_first x ps ≡ b ∷ more)
-onto_full x [] = (_, _, refl)
-onto_full x (p ∷ ps) = (_, _, refl)
-
-slice_split_cons : (text : List ℕ) → (b : List ℕ) × (more : List (List ℕ)) × (pieces text ≡ b ∷ more)
-slice_split_cons [] = (_, _, refl)
-slice_split_cons (x ∷ xs) = go (x == 10)
-  where
-    go : (t : Bool) → (b : List ℕ) × (more : List (List ℕ)) × (cond t ([] ∷ pieces xs) (onto_first x (pieces xs)) ≡ b ∷ more)
-    go true = (_, _, refl)
-    go false = onto_full x (pieces xs)
+full : (ps : List (List ℕ)) → 0 < length ps → (b : List ℕ) × (more : List (List ℕ)) × (ps ≡ b ∷ more)
+full [] h = absurd (omega (arith, h))
+full (b ∷ more) h = (b, more, refl)
 
 -- a refused line is the least
 pub refused_least : (text : List ℕ) (line : ℕ) → read_text text ≡ Err line → IsRefused text line
 refused_least text line e =
-    let full = slice_split_cons text in
-    let r = refused_from [] full.1 full.0 AtStart line (subst (λ (ps : List (List ℕ)). EachFree 10 ps) full.2 (pieces_free text)) refl
-    (let n : 0 + 1 ≡ 1 = omega arith in ap (λ (k : ℕ). read_from k AtStart (full.0 ∷ full.1)) n ∙ ap (read_from 1 AtStart) (sym full.2) ∙ e) in
-    let s : Refusal (pieces text) line = subst (λ (ps : List (List ℕ)). Refusal ps line) (sym full.2) r in
+    let count : length (pieces text) ≡ count_by (λ b. b == 10) text + 1 = length-slice_split (λ b. b == 10) text in
+    let cut = full (pieces text) (omega (arith, count)) in
+    let r = refused_from [] cut.1 cut.0 AtStart line (subst (λ (ps : List (List ℕ)). EachFree 10 ps) cut.2 (pieces_free text)) refl
+    (let n : 0 + 1 ≡ 1 = omega arith in ap (λ (k : ℕ). read_from k AtStart (cut.0 ∷ cut.1)) n ∙ ap (read_from 1 AtStart) (sym cut.2) ∙ e) in
+    let s : Refusal (pieces text) line = subst (λ (ps : List (List ℕ)). Refusal ps line) (sym cut.2) r in
     record { within = s.within; good = s.good; bad = s.bad; none = λ r h. let g = spelled_read text r h in cc (e, g) }
 
 -- ---- laws

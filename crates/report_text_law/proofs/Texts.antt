@@ -8,14 +8,11 @@ use Rattle.std.proofs.lemmas.Slice.Eq.{bytes_eq-Decides}
 use Rattle.std.proofs.lemmas.List.{map-append}
 use Rattle.std.proofs.lemmas.Grind.{flat_map-append}
 use Rattle.fp_field.specs.Served.{served}
-use Rattle.report.specs.declared.job.Report.{Report}
-use Rattle.report.specs.declared.form.Form.TheVariants.{Certificate}
-use Rattle.report.specs.declared.map.MapPart.{MapPart}
-use Rattle.report_text_law.specs.Lines.{Line}
-use Rattle.report_text_law.specs.Names.{heading_line, prime_line, complex_line, facet_line, degree_line, below_line, class_line, product_line, pair_line, with_line, operation_line, column_line, cartan_yes, cartan_no, cycle_line, end_line, map_line, send_line, induced_line, done_line, complex_lines, map_lines, certificate_lines, Finding, State, AtStart, AtPrime, Between, InComplex, BetweenMaps, InMap, Finished, joined, words, ended, shown, printed, is_line, ◌>>=◌, report_of, move, prime_of, step, run, BeginsText, Spells, spelled, guess, if_same, line_at, read}
+use Rattle.report_text_law.specs.Types.{Report, Certificate, MapPart}
+use Rattle.report_text_law.specs.Names.{heading_line, certificate_lines, Finding, State, AtStart, AtPrime, Finished, joined, words, ended, shown, printed, is_line, ◌>>=◌, report_of, move, prime_of, step, run, BeginsText, Spells, spelled, guess, if_same, line_at, read, Line}
 use Rattle.report_text_law.specs.Text.{text_of}
 use Rattle.report_text_law.specs.WellFormed.{is_well_formed}
-use Rattle.report_text_law.proofs.Written.{stage_lines, map_stage_lines, bind_some, guard_some, some_same}
+use Rattle.report_text_law.proofs.Written.{bind_some, guard_some, some_same}
 use Rattle.report_text_law.proofs.Fine.{IsFine, fine_law}
 use Rattle.report_text_law.proofs.Reading.{sound, taken_begins, begins_taken, complete, finished_with}
 use Rattle.report_text_law.proofs.Free.{EachFree, free_joined, split_joined, cut}
@@ -33,25 +30,7 @@ line_sound bytes l e =
 
 full_words : (l : Line) → (w : List ℕ) × (ws : List (List ℕ)) × (words Certificate l ≡ w ∷ ws)
 full_words heading_line = (_, _, refl)
-full_words (prime_line q) = (_, _, refl)
-full_words (complex_line n) = (_, _, refl)
-full_words (facet_line vs) = (_, _, refl)
-full_words (degree_line n k) = (_, _, refl)
-full_words (below_line ts) = (_, _, refl)
-full_words (class_line ts) = (_, _, refl)
-full_words (product_line a b) = (_, _, refl)
-full_words (pair_line i j vs) = (_, _, refl)
-full_words (with_line ts) = (_, _, refl)
-full_words (operation_line w k q n) = (_, _, refl)
-full_words (column_line j vs) = (_, _, refl)
-full_words (cartan_yes a i b j n) = (_, _, refl)
-full_words (cartan_no a i b j n v) = (_, _, refl)
-full_words (cycle_line ts) = (_, _, refl)
-full_words end_line = (_, _, refl)
-full_words (map_line n a b) = (_, _, refl)
-full_words (send_line v w) = (_, _, refl)
-full_words (induced_line q) = (_, _, refl)
-full_words done_line = (_, _, refl)
+full_words _ = (_, _, refl)
 
 -- a spelling is taken
 line_again : (p : ℕ) (l : Line) → p < 2 ^ 32 → is_line p l ≡ true → line_at (spelled l) ≡ Some l
@@ -67,17 +46,10 @@ line_again p l bound h =
 
 -- ---- the primes of states
 
-fine_prime : (q : ℕ) (ls : List Line) → list_all (is_line q) (heading_line ∷ prime_line q ∷ ls) ≡ true → q < 2 ^ 32
-fine_prime q ls h = served_small q (and_parts (served q) (list_all (is_line q) ls) h).0
-
 prime_small : (s : State) → IsFine s → prime_of s < 2 ^ 32
 prime_small AtStart h = lit< tt
 prime_small AtPrime h = lit< tt
-prime_small (Between f) h = fine_prime f.prime (flat_map complex_lines f.complexes) h
-prime_small (InComplex f s) h = fine_prime f.prime (flat_map complex_lines f.complexes ++ stage_lines s) h
-prime_small (BetweenMaps f ms) h = fine_prime f.prime (flat_map complex_lines f.complexes ++ flat_map map_lines ms) h
-prime_small (InMap f ms s) h = fine_prime f.prime ((flat_map complex_lines f.complexes ++ flat_map map_lines ms) ++ map_stage_lines s) h
-prime_small (Finished f ms) h = fine_prime f.prime ((flat_map complex_lines f.complexes ++ flat_map map_lines ms) ++ done_line ∷ []) h
+prime_small s h = served_small (prime_of s) (and_parts (served (prime_of s)) _ h).0
 
 -- ---- all lines
 
@@ -101,25 +73,7 @@ read_again s (l ∷ ls) t fine e =
 
 pub shown_spelled : (l : Line) → shown Certificate l ≡ ended (spelled l)
 shown_spelled heading_line = refl
-shown_spelled (prime_line q) = refl
-shown_spelled (complex_line n) = refl
-shown_spelled (facet_line vs) = refl
-shown_spelled (degree_line n k) = refl
-shown_spelled (below_line ts) = refl
-shown_spelled (class_line ts) = refl
-shown_spelled (product_line a b) = refl
-shown_spelled (pair_line i j vs) = refl
-shown_spelled (with_line ts) = refl
-shown_spelled (operation_line w k q n) = refl
-shown_spelled (column_line j vs) = refl
-shown_spelled (cartan_yes a i b j n) = refl
-shown_spelled (cartan_no a i b j n v) = refl
-shown_spelled (cycle_line ts) = refl
-shown_spelled end_line = refl
-shown_spelled (map_line n a b) = refl
-shown_spelled (send_line v w) = refl
-shown_spelled (induced_line q) = refl
-shown_spelled done_line = refl
+shown_spelled _ = refl
 
 pub text_lines : (ls : List Line) → printed Certificate ls ≡ flat_map ended (map spelled ls)
 text_lines [] = refl

@@ -1,14 +1,9 @@
 -- What a state stands for: the lines that were read.
 use Rattle.std.proofs.Common.{◌≡◌, ◌∙◌, ℕ, zero, suc, ◌+◌, Bool, true, false, cond, List, [], ◌∷◌, ◌++◌, length, ap, refl, sym, subst, arith, append_assoc, Some, None, length-append, rules, map, flat_map, ◌==◌, append-nil}
 use Rattle.std.specs.declared.option.Option.{Option}
-use Rattle.std.proofs.lemmas.List.{map-append}
-use Rattle.std.proofs.lemmas.Grind.{flat_map-append}
-use Rattle.report_text_law.specs.Names.{ComplexHead, Chain, heading_line, prime_line, complex_line, facet_line, degree_line, below_line, class_line, product_line, pair_line, with_line, operation_line, column_line, cartan_yes, cartan_no, cycle_line, end_line, map_line, send_line, induced_line, done_line, columns_from, degree_lines, degrees_from, pair_lines, product_lines, operation_lines, cartan_lines, complex_lines, send_of, induced_lines, map_lines, Graded, Multiplied, Operated, Judged, ComplexStage, Facets, Values, Yes, No, Cartans, MapHead, Mapped, MapStage, Sends, InducedValues, Finding, State, AtStart, AtPrime, Between, InComplex, BetweenMaps, InMap, Finished, ◌>>=◌, with_degree, with_complex, graded_of, multiplied_from, multiplied_of, operated_from, operated_of, judged_from, judged_of, mapped_of, complex_of, map_of, degree_opens, facet_stands, below_stands, class_stands, pair_stands, values_stand, with_stands, cycle_stands, next, next_of_map, in_complex, in_map, move}
-use Rattle.report.specs.declared.columns.CartanAnswer.TheVariants.{Yes as answers_yes, No as answers_no}
-use Rattle.report.specs.declared.columns.Column.{Column}
-use Rattle.report.specs.declared.complex.DegreePart.{DegreePart}
-use Rattle.report.specs.declared.map.MapPart.{MapPart}
-use Rattle.report_text_law.specs.Lines.{Line}
+use Rattle.std.proofs.lemmas.List.{flat_map_more, map-append}
+use Rattle.report_text_law.specs.Names.{ComplexHead, Chain, heading_line, prime_line, complex_line, facet_line, degree_line, below_line, class_line, product_line, pair_line, with_line, operation_line, column_line, cartan_yes, cartan_no, cycle_line, end_line, map_line, send_line, induced_line, done_line, columns_from, degree_lines, degrees_from, pair_lines, product_lines, operation_lines, cartan_lines, complex_lines, send_of, induced_lines, map_lines, Graded, Multiplied, Operated, Judged, ComplexStage, Facets, Values, Yes, No, Cartans, MapHead, Mapped, MapStage, Sends, InducedValues, Finding, State, AtStart, AtPrime, Between, InComplex, BetweenMaps, InMap, Finished, ◌>>=◌, with_degree, with_complex, graded_of, multiplied_from, multiplied_of, operated_from, operated_of, judged_from, judged_of, mapped_of, complex_of, map_of, degree_opens, facet_stands, below_stands, class_stands, pair_stands, values_stand, with_stands, cycle_stands, next, next_of_map, in_complex, in_map, move, Line}
+use Rattle.report_text_law.specs.Types.{Yes as answers_yes, No as answers_no, Column, DegreePart, MapPart}
 use Rattle.report_text_law.specs.declared.state.ComplexStage.TheVariants.{Degree, Product, Pair, Operation}
 use Rattle.report_text_law.specs.declared.state.MapStage.TheVariants.{Induced}
 
@@ -73,20 +68,23 @@ pub bind_some : {A B : Type 0} (r : Option A) (f : A → Option B) (y : B) → (
 bind_some (Some x) f y h = (x, refl, h)
 bind_some None f y h = cc
 
+-- what holds of all that is made of something that is there
+pub bound : {A B : Type 0} (o : Option A) (make : A → B) (P : B → Type 0) (y : B) → (o >>= λ x. Some (make x)) ≡ Some y → ((x : A) → o ≡ Some x → P (make x)) → P y
+bound (Some x) make P y e f = subst P (some_same e) (f x refl)
+bound None make P y e f = cc
+
 pub guard_some : {A : Type 0} (b : Bool) (r : Option A) (y : A) → cond b r None ≡ Some y → (b ≡ true) × (r ≡ Some y)
 guard_some true r y h = (refl, h)
 guard_some false r y h = cc
 
 flat_more : {X : Type 0} (a : List Line) (f : X → List Line) (xs : List X) (x : X) → a ++ flat_map f (xs ++ x ∷ []) ≡ (a ++ flat_map f xs) ++ f x
-flat_more a f xs x =
-    ap (λ (t : List Line). a ++ t) (flat_map-append f xs (x ∷ []) ∙ ap (λ (t : List Line). flat_map f xs ++ t) (append-nil (f x)))
-    ∙ sym (append_assoc a (flat_map f xs) (f x))
+flat_more a f xs x = sym (flat_map_more f a xs x)
 
 map_more : {X : Type 0} (a : List Line) (f : X → Line) (xs : List X) (x : X) → a ++ map f (xs ++ x ∷ []) ≡ (a ++ map f xs) ++ f x ∷ []
 map_more a f xs x = ap (λ (t : List Line). a ++ t) (map-append f xs (x ∷ [])) ∙ sym (append_assoc a (map f xs) (f x ∷ []))
 
 two_more : (a b : List Line) (u w : Line) → a ++ (b ++ u ∷ w ∷ []) ≡ (a ++ (b ++ u ∷ [])) ++ w ∷ []
-two_more a b u w = ap (λ (t : List Line). a ++ t) (sym (append_assoc b (u ∷ []) (w ∷ []))) ∙ sym (append_assoc a (b ++ u ∷ []) (w ∷ []))
+two_more a b u w = simp (append_assoc)
 
 -- ---- where sections end
 
@@ -127,41 +125,17 @@ graded_law (Facets b) g e = subst (λ (x : Graded). graded_lines x ≡ block_lin
 graded_law (Degree h zero bs cs) g e = subst (λ (x : Graded). graded_lines x ≡ stage_lines (Degree h zero bs cs)) (some_same e) (degree_more h bs cs)
 graded_law _ g e = cc
 
-from_graded : (s : ComplexStage) (m : Multiplied) → (graded_of s >>= λ g. Some (multiplied_from g)) ≡ Some m → multiplied_lines m ≡ stage_lines s
-from_graded s m e =
-    let b = bind_some (graded_of s) (λ g. Some (multiplied_from g)) m e in
-    subst (λ (x : Multiplied). multiplied_lines x ≡ stage_lines s) (some_same b.2) (append-nil (graded_lines b.0) ∙ graded_law s b.0 b.1)
-
 multiplied_law : (s : ComplexStage) (m : Multiplied) → multiplied_of s ≡ Some m → multiplied_lines m ≡ stage_lines s
 multiplied_law (Product m x) n e = subst (λ (y : Multiplied). multiplied_lines y ≡ stage_lines (Product m x)) (some_same e) (flat_more (graded_lines m.graded) product_lines m.products x)
-multiplied_law (Facets b) m e = from_graded (Facets b) m e
-multiplied_law (Degree h k bs cs) m e = from_graded (Degree h k bs cs) m e
-multiplied_law _ m e = cc
-
-from_multiplied : (s : ComplexStage) (o : Operated) → (multiplied_of s >>= λ m. Some (operated_from m)) ≡ Some o → operated_lines o ≡ stage_lines s
-from_multiplied s o e =
-    let b = bind_some (multiplied_of s) (λ m. Some (operated_from m)) o e in
-    subst (λ (x : Operated). operated_lines x ≡ stage_lines s) (some_same b.2) (append-nil (multiplied_lines b.0) ∙ multiplied_law s b.0 b.1)
+multiplied_law s m e = bound (graded_of s) multiplied_from (λ y. multiplied_lines y ≡ stage_lines s) m e (λ g k. append-nil (graded_lines g) ∙ graded_law s g k)
 
 operated_law : (s : ComplexStage) (o : Operated) → operated_of s ≡ Some o → operated_lines o ≡ stage_lines s
 operated_law (Operation p x) o e = subst (λ (y : Operated). operated_lines y ≡ stage_lines (Operation p x)) (some_same e) (flat_more (multiplied_lines p.multiplied) operation_lines p.operations x)
-operated_law (Facets b) o e = from_multiplied (Facets b) o e
-operated_law (Degree h k bs cs) o e = from_multiplied (Degree h k bs cs) o e
-operated_law (Product m x) o e = from_multiplied (Product m x) o e
-operated_law _ o e = cc
-
-from_operated : (s : ComplexStage) (j : Judged) → (operated_of s >>= λ o. Some (judged_from o)) ≡ Some j → judged_lines j ≡ stage_lines s
-from_operated s j e =
-    let b = bind_some (operated_of s) (λ o. Some (judged_from o)) j e in
-    subst (λ (x : Judged). judged_lines x ≡ stage_lines s) (some_same b.2) (append-nil (operated_lines b.0) ∙ operated_law s b.0 b.1)
+operated_law s o e = bound (multiplied_of s) operated_from (λ y. operated_lines y ≡ stage_lines s) o e (λ m k. append-nil (multiplied_lines m) ∙ multiplied_law s m k)
 
 judged_law : (s : ComplexStage) (j : Judged) → judged_of s ≡ Some j → judged_lines j ≡ stage_lines s
 judged_law (Cartans c) j e = subst (λ (y : Judged). judged_lines y ≡ judged_lines c) (some_same e) refl
-judged_law (Facets b) j e = from_operated (Facets b) j e
-judged_law (Degree h k bs cs) j e = from_operated (Degree h k bs cs) j e
-judged_law (Product m x) j e = from_operated (Product m x) j e
-judged_law (Operation o x) j e = from_operated (Operation o x) j e
-judged_law _ j e = cc
+judged_law s j e = bound (operated_of s) judged_from (λ y. judged_lines y ≡ stage_lines s) j e (λ o k. append-nil (operated_lines o) ∙ operated_law s o k)
 
 mapped_law : (s : MapStage) (m : Mapped) → mapped_of s ≡ Some m → mapped_lines m ≡ map_stage_lines s
 mapped_law (Sends h) m e = subst (λ (y : Mapped). mapped_lines y ≡ head_lines h) (some_same e) (append-nil (head_lines h))
@@ -245,20 +219,17 @@ next_law s (degree_line n h) t e =
 next_law s (below_line ts) t e = below_law s ts t e
 next_law s (class_line ts) t e = class_law s ts t e
 next_law s (product_line x y) t e =
-    let b = bind_some (multiplied_of s) (λ m. Some (Product m (record { a = x; b = y; columns = [] }))) t e in
-    subst (IsMore s (product_line x y)) (some_same b.2) (ap (λ (u : List Line). u ++ product_line x y ∷ []) (multiplied_law s b.0 b.1))
+    bound (multiplied_of s) (λ m. Product m (record { a = x; b = y; columns = [] })) (IsMore s (product_line x y)) t e (λ m k. ap (λ (u : List Line). u ++ product_line x y ∷ []) (multiplied_law s m k))
 next_law s (pair_line i j vs) t e = pair_law s i j vs t e
 next_law s (with_line ts) t e = with_law s ts t e
 next_law s (operation_line w k q n) t e =
-    let b = bind_some (operated_of s) (λ o. Some (Operation o (record { word = w; number = k; from = q; to = n; columns = [] }))) t e in
-    subst (IsMore s (operation_line w k q n)) (some_same b.2) (ap (λ (u : List Line). u ++ operation_line w k q n ∷ []) (operated_law s b.0 b.1))
+    bound (operated_of s) (λ o. Operation o (record { word = w; number = k; from = q; to = n; columns = [] })) (IsMore s (operation_line w k q n)) t e
+    (λ o g. ap (λ (u : List Line). u ++ operation_line w k q n ∷ []) (operated_law s o g))
 next_law s (column_line j vs) t e = values_law s j vs t e
 next_law s (cartan_yes a i b j n) t e =
-    let c = bind_some (judged_of s) (λ c. Some (Yes c a i b j n)) t e in
-    subst (IsMore s (cartan_yes a i b j n)) (some_same c.2) (ap (λ (u : List Line). u ++ cartan_yes a i b j n ∷ []) (judged_law s c.0 c.1))
+    bound (judged_of s) (λ c. Yes c a i b j n) (IsMore s (cartan_yes a i b j n)) t e (λ c k. ap (λ (u : List Line). u ++ cartan_yes a i b j n ∷ []) (judged_law s c k))
 next_law s (cartan_no a i b j n v) t e =
-    let c = bind_some (judged_of s) (λ c. Some (No c a i b j n v)) t e in
-    subst (IsMore s (cartan_no a i b j n v)) (some_same c.2) (ap (λ (u : List Line). u ++ cartan_no a i b j n v ∷ []) (judged_law s c.0 c.1))
+    bound (judged_of s) (λ c. No c a i b j n v) (IsMore s (cartan_no a i b j n v)) t e (λ c k. ap (λ (u : List Line). u ++ cartan_no a i b j n v ∷ []) (judged_law s c k))
 next_law s (cycle_line ts) t e = cycle_law s ts t e
 next_law s _ t e = cc
 
@@ -271,8 +242,7 @@ map_next_law : (s : MapStage) (l : Line) (t : MapStage) → next_of_map s l ≡ 
 map_next_law (Sends h) (send_line v w) t e =
     subst (IsMoreOfMap (Sends h) (send_line v w)) (some_same e) (map_more (map_line h.name h.from h.to ∷ []) send_of h.sends (record { from = v; to = w }))
 map_next_law s (induced_line q) t e =
-    let b = bind_some (mapped_of s) (λ m. Some (Induced m (record { q = q; columns = [] }))) t e in
-    subst (IsMoreOfMap s (induced_line q)) (some_same b.2) (ap (λ (u : List Line). u ++ induced_line q ∷ []) (mapped_law s b.0 b.1))
+    bound (mapped_of s) (λ m. Induced m (record { q = q; columns = [] })) (IsMoreOfMap s (induced_line q)) t e (λ m k. ap (λ (u : List Line). u ++ induced_line q ∷ []) (mapped_law s m k))
 map_next_law (Induced m x) (column_line j vs) t e =
     let d = guard_some (j == length x.columns + 1) (Some (InducedValues m x vs)) t e in
     let place : j ≡ length x.columns + 1 = search (rules, d.0) in
@@ -287,8 +257,7 @@ map_next_law _ _ t e = cc
 -- ---- whole complexes and maps
 
 regrouped : (a b c d e f : List Line) → ((((a ++ b) ++ c) ++ d) ++ e) ++ f ≡ a ++ (b ++ (c ++ (d ++ (e ++ f))))
-regrouped a b c d e f =
-    append_assoc (((a ++ b) ++ c) ++ d) e f ∙ append_assoc ((a ++ b) ++ c) d (e ++ f) ∙ append_assoc (a ++ b) c (d ++ (e ++ f)) ∙ append_assoc a b (c ++ (d ++ (e ++ f)))
+regrouped a b c d e f = simp (append_assoc)
 
 pub complex_whole : (j : Judged) → judged_lines j ++ end_line ∷ [] ≡ complex_lines (complex_of j)
 complex_whole j = regrouped (block_lines j.operated.multiplied.graded.block) (degrees_from 0 j.operated.multiplied.graded.degrees) (flat_map product_lines j.operated.multiplied.products) (flat_map operation_lines j.operated.operations) (flat_map cartan_lines j.cartans) (end_line ∷ [])
@@ -297,44 +266,27 @@ pub map_whole : (m : Mapped) → mapped_lines m ++ end_line ∷ [] ≡ map_lines
 map_whole m = append_assoc (head_lines m.head) (flat_map induced_lines m.induced) (end_line ∷ [])
 
 -- each line that is taken is one more that is written
-in_complex_law : (f : Finding) (s : ComplexStage) (l : Line) (t : State) → (next s l >>= λ u. Some (InComplex f u)) ≡ Some t → written t ≡ written (InComplex f s) ++ l ∷ []
-in_complex_law f s l t e =
-    let b = bind_some (next s l) (λ u. Some (InComplex f u)) t e in
-    subst (λ (x : State). written x ≡ written (InComplex f s) ++ l ∷ []) (some_same b.2)
-    (ap (λ (u : List Line). front f ++ u) (next_law s l b.0 b.1) ∙ sym (append_assoc (front f) (stage_lines s) (l ∷ [])))
-
-complex_ends : (f : Finding) (s : ComplexStage) (t : State) → in_complex f s end_line ≡ Some t → written t ≡ written (InComplex f s) ++ end_line ∷ []
-complex_ends f s t e =
-    let b = bind_some (judged_of s) (λ j. Some (Between (with_complex f (complex_of j)))) t e in
-    subst (λ (x : State). written x ≡ written (InComplex f s) ++ end_line ∷ []) (some_same b.2)
-    (flat_more (heading_line ∷ prime_line f.prime ∷ []) complex_lines f.complexes (complex_of b.0)
-    ∙ ap (λ (u : List Line). front f ++ u) (sym (complex_whole b.0) ∙ ap (λ (u : List Line). u ++ end_line ∷ []) (judged_law s b.0 b.1))
-    ∙ sym (append_assoc (front f) (stage_lines s) (end_line ∷ [])))
-
-in_map_law : (f : Finding) (ms : List MapPart) (s : MapStage) (l : Line) (t : State) → (next_of_map s l >>= λ u. Some (InMap f ms u)) ≡ Some t → written t ≡ written (InMap f ms s) ++ l ∷ []
-in_map_law f ms s l t e =
-    let b = bind_some (next_of_map s l) (λ u. Some (InMap f ms u)) t e in
-    subst (λ (x : State). written x ≡ written (InMap f ms s) ++ l ∷ []) (some_same b.2)
-    (ap (λ (u : List Line). front_of_maps f ms ++ u) (map_next_law s l b.0 b.1) ∙ sym (append_assoc (front_of_maps f ms) (map_stage_lines s) (l ∷ [])))
-
-map_ends : (f : Finding) (ms : List MapPart) (s : MapStage) (t : State) → in_map f ms s end_line ≡ Some t → written t ≡ written (InMap f ms s) ++ end_line ∷ []
-map_ends f ms s t e =
-    let b = bind_some (mapped_of s) (λ m. Some (BetweenMaps f (ms ++ map_of m ∷ []))) t e in
-    subst (λ (x : State). written x ≡ written (InMap f ms s) ++ end_line ∷ []) (some_same b.2)
-    (flat_more (front f) map_lines ms (map_of b.0)
-    ∙ ap (λ (u : List Line). front_of_maps f ms ++ u) (sym (map_whole b.0) ∙ ap (λ (u : List Line). u ++ end_line ∷ []) (mapped_law s b.0 b.1))
-    ∙ sym (append_assoc (front_of_maps f ms) (map_stage_lines s) (end_line ∷ [])))
-
-inside_law : (f : Finding) (s : ComplexStage) (l : Line) (t : State) → in_complex f s l ≡ Some t → written t ≡ written (InComplex f s) ++ l ∷ []
-inside_law f s end_line t e = complex_ends f s t e
-inside_law f s l t e = in_complex_law f s l t e
-
-inside_map_law : (f : Finding) (ms : List MapPart) (s : MapStage) (l : Line) (t : State) → in_map f ms s l ≡ Some t → written t ≡ written (InMap f ms s) ++ l ∷ []
-inside_map_law f ms s end_line t e = map_ends f ms s t e
-inside_map_law f ms s l t e = in_map_law f ms s l t e
-
 abbrev AddsTo : State → Line → State → Type 0
 AddsTo s l t = written t ≡ written s ++ l ∷ []
+
+in_complex_law : (f : Finding) (s : ComplexStage) (l : Line) (t : State) → in_complex f s l ≡ Some t → AddsTo (InComplex f s) l t
+in_complex_law f s end_line t e =
+    bound (judged_of s) (λ j. Between (with_complex f (complex_of j))) (AddsTo (InComplex f s) end_line) t e
+    (λ j k. flat_more (heading_line ∷ prime_line f.prime ∷ []) complex_lines f.complexes (complex_of j)
+    ∙ ap (λ (u : List Line). front f ++ u) (sym (complex_whole j) ∙ ap (λ (u : List Line). u ++ end_line ∷ []) (judged_law s j k))
+    ∙ sym (append_assoc (front f) (stage_lines s) (end_line ∷ [])))
+in_complex_law f s l t e =
+    bound (next s l) (λ u. InComplex f u) (AddsTo (InComplex f s) l) t e (λ u k. ap (λ (v : List Line). front f ++ v) (next_law s l u k) ∙ sym (append_assoc (front f) (stage_lines s) (l ∷ [])))
+
+in_map_law : (f : Finding) (ms : List MapPart) (s : MapStage) (l : Line) (t : State) → in_map f ms s l ≡ Some t → AddsTo (InMap f ms s) l t
+in_map_law f ms s end_line t e =
+    bound (mapped_of s) (λ m. BetweenMaps f (ms ++ map_of m ∷ [])) (AddsTo (InMap f ms s) end_line) t e
+    (λ m k. flat_more (front f) map_lines ms (map_of m)
+    ∙ ap (λ (u : List Line). front_of_maps f ms ++ u) (sym (map_whole m) ∙ ap (λ (u : List Line). u ++ end_line ∷ []) (mapped_law s m k))
+    ∙ sym (append_assoc (front_of_maps f ms) (map_stage_lines s) (end_line ∷ [])))
+in_map_law f ms s l t e =
+    bound (next_of_map s l) (λ u. InMap f ms u) (AddsTo (InMap f ms s) l) t e
+    (λ u k. ap (λ (v : List Line). front_of_maps f ms ++ v) (map_next_law s l u k) ∙ sym (append_assoc (front_of_maps f ms) (map_stage_lines s) (l ∷ [])))
 
 pub move_law : (s : State) (l : Line) (t : State) → move s l ≡ Some t → AddsTo s l t
 move_law AtStart heading_line t e = subst (AddsTo AtStart heading_line) (some_same e) refl
@@ -342,8 +294,8 @@ move_law AtPrime (prime_line p) t e = subst (AddsTo AtPrime (prime_line p)) (som
 move_law (Between f) (complex_line name) t e = subst (AddsTo (Between f) (complex_line name)) (some_same e) refl
 move_law (Between f) (map_line name from to) t e = subst (AddsTo (Between f) (map_line name from to)) (some_same e) (ap (λ (u : List Line). u ++ map_line name from to ∷ []) (append-nil (front f)))
 move_law (Between f) done_line t e = subst (AddsTo (Between f) done_line) (some_same e) (ap (λ (u : List Line). u ++ done_line ∷ []) (append-nil (front f)))
-move_law (InComplex f s) l t e = inside_law f s l t e
+move_law (InComplex f s) l t e = in_complex_law f s l t e
 move_law (BetweenMaps f ms) (map_line name from to) t e = subst (AddsTo (BetweenMaps f ms) (map_line name from to)) (some_same e) refl
 move_law (BetweenMaps f ms) done_line t e = subst (AddsTo (BetweenMaps f ms) done_line) (some_same e) refl
-move_law (InMap f ms s) l t e = inside_map_law f ms s l t e
+move_law (InMap f ms s) l t e = in_map_law f ms s l t e
 move_law _ _ t e = cc

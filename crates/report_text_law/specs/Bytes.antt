@@ -3,11 +3,8 @@ use Rattle.std.specs.Prelude.{ℕ, ◌==◌, List, [], ◌∷◌, ◌+◌, ◌-�
 use Rattle.std.specs.declared.option.Option.{Option}
 use Rattle.std.specs.List.{slice_split}
 use Rattle.std.specs.Str.{bytes_eq}
-use Rattle.report.specs.declared.columns.OpWord.{OpWord}
-use Rattle.report.specs.declared.columns.OpWord.TheVariants.{Sq}
-use Rattle.report.specs.declared.job.Report.{Report}
-use Rattle.report.specs.declared.form.Form.TheVariants.{Certificate}
-use Rattle.report.specs.declared.columns.OpWord.TheVariants.{Power, BocksteinPower}
+use Rattle.report_text_law.specs.Types.{OpWord, Report, Certificate}
+use Rattle.report.specs.declared.columns.OpWord.TheVariants.{Sq, Power, BocksteinPower}
 use Rattle.report_text_law.specs.Lines.{Chain, Line, heading_line, prime_line, complex_line, facet_line, degree_line, below_line, class_line, product_line, pair_line, with_line, operation_line, column_line, cartan_yes, cartan_no, cycle_line, end_line, map_line, send_line, induced_line, done_line}
 use Rattle.report_text_law.specs.Spelling.{joined, words}
 use Rattle.report_text_law.specs.Machine.{step, report_of, ◌>>=◌}

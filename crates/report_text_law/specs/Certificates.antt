@@ -1,8 +1,7 @@
 -- Which texts spell a report, and which line of another text is refused.
 use Rattle.std.specs.Prelude.{◌≡◌, ℕ, ◌<◌, ◌≤◌, ◌==◌, true, List, ◌++◌, flat_map, length, take}
 use Rattle.std.specs.List.{list_all, slice_split}
-use Rattle.report.specs.declared.job.Report.{Report}
-use Rattle.report.specs.declared.form.Form.TheVariants.{Certificate}
+use Rattle.report_text_law.specs.Types.{Report, Certificate}
 use Rattle.report_text_law.specs.Lines.{Line, certificate_lines}
 use Rattle.report_text_law.specs.Spelling.{ended}
 use Rattle.report_text_law.specs.Text.{text_of}

@@ -1,9 +1,7 @@
 -- The laws of reading.
 use Rattle.std.specs.Prelude.{◌≡◌, ℕ, true, List, Ok, Err}
+use Rattle.report_text_law.specs.Types.{Report, Form, Certificate}
 use Rattle.report.specs.Names.{outline}
-use Rattle.report.specs.declared.job.Report.{Report}
-use Rattle.report.specs.declared.form.Form.{Form}
-use Rattle.report.specs.declared.form.Form.TheVariants.{Certificate}
 use Rattle.report_text_law.specs.Bytes.{read_text}
 use Rattle.report_text_law.specs.Certificates.{Spells, IsRefused}
 use Rattle.report_text_law.specs.Text.{text_of}

@@ -1,17 +1,6 @@
 -- The lines of a certificate, in their order.
 use Rattle.std.specs.Prelude.{ℕ, ◌+◌, List, [], ◌∷◌, ◌++◌, map, flat_map, length}
-use Rattle.complex_file.specs.declared.block.Sent.{Sent}
-use Rattle.report.specs.declared.columns.CartanAnswer.{CartanAnswer}
-use Rattle.report.specs.declared.columns.CartanAnswer.TheVariants.{Yes, No}
-use Rattle.report.specs.declared.columns.CartanPart.{CartanPart}
-use Rattle.report.specs.declared.columns.Column.{Column}
-use Rattle.report.specs.declared.columns.OperationPart.{OperationPart}
-use Rattle.report.specs.declared.columns.PairColumn.{PairColumn}
-use Rattle.report.specs.declared.columns.ProductPart.{ProductPart}
-use Rattle.report.specs.declared.complex.ComplexPart.{ComplexPart}
-use Rattle.report.specs.declared.complex.DegreePart.{DegreePart}
-use Rattle.report.specs.declared.map.InducedPart.{InducedPart}
-use Rattle.report.specs.declared.map.MapPart.{MapPart}
+use Rattle.report_text_law.specs.Types.{Sent, CartanAnswer, Yes, No, CartanPart, Column, OperationPart, PairColumn, ProductPart, ComplexPart, DegreePart, InducedPart, MapPart}
 pub use Rattle.report_text_law.specs.declared.line.Line.{Line}
 pub use Rattle.report_text_law.specs.declared.line.Line.TheVariants.{Heading as heading_line, Prime as prime_line, Complex as complex_line, Facet as facet_line, Degree as degree_line, Below as below_line, Class as class_line, Product as product_line, Pair as pair_line, With as with_line, Operation as operation_line, Column as column_line, CartanYes as cartan_yes, CartanNo as cartan_no, Cycle as cycle_line, End as end_line, Map as map_line, Send as send_line, Induced as induced_line, Done as done_line}
 

@@ -1,8 +1,7 @@
 -- The text of a report in each form.
 use Rattle.std.specs.Prelude.{ℕ, List}
+use Rattle.report_text_law.specs.Types.{Form, Report}
 use Rattle.report.specs.Names.{tables}
-use Rattle.report.specs.declared.form.Form.{Form}
-use Rattle.report.specs.declared.job.Report.{Report}
 use Rattle.report_text_law.specs.Lines.{certificate_lines}
 use Rattle.report_text_law.specs.Spelling.{printed}
 

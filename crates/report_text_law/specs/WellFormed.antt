@@ -5,7 +5,7 @@ use Rattle.std.specs.Ordering.{is_lt}
 use Rattle.simplicial_law.specs.Names.{simplex_cmp}
 use Rattle.fp_field.specs.Served.{served}
 use Rattle.complex_file.specs.Names.{is_name}
-use Rattle.report.specs.declared.job.Report.{Report}
+use Rattle.report_text_law.specs.Types.{Report}
 use Rattle.report_text_law.specs.Lines.{Chain, Line, heading_line, prime_line, complex_line, facet_line, degree_line, below_line, class_line, product_line, pair_line, with_line, operation_line, column_line, cartan_yes, cartan_no, cycle_line, end_line, map_line, send_line, induced_line, done_line, certificate_lines}
 
 abbrev pub is_u32 : ℕ → Bool
