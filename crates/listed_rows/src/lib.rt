@@ -39,7 +39,7 @@ pub fn row_of<const P: u32>(
 {
     let mut row = Row::new(alloc);
     for term in chain {
-        let Some(place) = place_in(index, n, term.simplex().vertices()) else {
+        let Some(place) = place_in(index, n, term.vertices()) else {
             return Ok(None);
         };
         row.push_last(place, Fp::new(term.coefficient() as u64))?;

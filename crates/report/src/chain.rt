@@ -1,14 +1,15 @@
-ghost use Rattle.std.specs.Prelude.{◌≡◌};
+ghost use Rattle.std.specs.Prelude.{◌≡◌, IfOk};
 
 use comch_io::Listed;
-use simplex_set::Simplex;
+use smallvec::SmallVec;
+use std::alloc::{AllocError, Global};
 use std::marker::Model;
 
 /// A simplex with its coefficient. Contracts see it as the pair of the two.
 #[derive(Debug, Drop)]
 pub struct Term {
     coefficient: u32,
-    simplex: Simplex,
+    vertices: SmallVec<u32, 4>,
 }
 
 impl Model for Term {
@@ -16,18 +17,20 @@ impl Model for Term {
 
     ghost Value = { ℕ × List ℕ };
 
-    ghost view = { λ t. (t.coefficient, t.simplex) };
+    ghost view = { λ t. (t.coefficient, t.vertices.items) };
 }
 
 impl Term {
-    /// The term of this simplex with this coefficient.
-    pub fn new(coefficient: u32, simplex: Simplex) -> Term
-        ensures { result ≡ (coefficient, simplex) }
+    /// The term of the simplex with these vertices with this coefficient.
+    ///
+    /// Up to four vertices lie in the value itself. It fails for want of memory alone.
+    pub fn new(alloc: Global, coefficient: u32, vertices: &[u32]) -> Result<Term, AllocError>
+        ensures { IfOk result (λ t. t ≡ (coefficient, vertices.now)) }
     {
-        Term {
+        Ok(Term {
             coefficient,
-            simplex,
-        }
+            vertices: SmallVec::from_slice(alloc, vertices)?,
+        })
     }
 
     /// The coefficient, as a number from 0.
@@ -37,11 +40,11 @@ impl Term {
         self.coefficient
     }
 
-    /// The simplex.
-    pub fn simplex(&self) -> &Simplex
+    /// The vertices of the simplex, in order.
+    pub fn vertices(&self) -> &[u32]
         ensures { result.now ≡ self.now.1 }
     {
-        &self.simplex
+        self.vertices.as_slice()
     }
 }
 

@@ -15,11 +15,11 @@ pub fn simplex(alloc: Global, words: &[&[u8]]) -> Result<Simplex, AllocError>
     Simplex::new(alloc, &numbers(alloc, words)?)
 }
 
-// The simplex whose vertices stand between full stops.
-fn simplex_of(alloc: Global, word: &[u8]) -> Result<Simplex, AllocError>
-    ensures { IfOk result (λ s. s ≡ simplex_of word.now) }
+// The vertices that stand between full stops.
+fn vertices_of(alloc: Global, word: &[u8]) -> Result<Vec<u32>, AllocError>
+    ensures { IfOk result (λ v. v.items ≡ simplex_of word.now) }
 {
-    simplex(alloc, &pieces(alloc, b'.', word)?)
+    numbers(alloc, &pieces(alloc, b'.', word)?)
 }
 
 // Adds the term that a word spells: a coefficient, a colon and a simplex. A word that is not two pieces adds none.
@@ -28,7 +28,8 @@ fn add_term(alloc: Global, terms: &mut Vec<Term>, word: &[u8]) -> Result<(), All
 {
     let pieces = pieces(alloc, b':', word)?;
     if let [coefficient, vertices] = pieces.as_slice() {
-        terms.push(Term::new(number(coefficient), simplex_of(alloc, vertices)?))?;
+        let vertices = vertices_of(alloc, vertices)?;
+        terms.push(Term::new(alloc, number(coefficient), &vertices)?)?;
     }
     Ok(())
 }
@@ -37,7 +38,7 @@ fn add_term(alloc: Global, terms: &mut Vec<Term>, word: &[u8]) -> Result<(), All
 pub fn chain_of(alloc: Global, words: &[&[u8]]) -> Result<Chain, AllocError>
     ensures { IfOk result (λ c. c ≡ chain_of (texts words.now)) }
 {
-    let mut terms = Vec::new(alloc);
+    let mut terms = Vec::with_capacity(alloc, words.len())?;
     for word in words {
         add_term(alloc, &mut terms, word)?;
     }

@@ -10,6 +10,3 @@ mod word;
 
 pub use reading::line_of;
 pub use well_formed::is_line;
-
-#[cfg(test)]
-mod tests;

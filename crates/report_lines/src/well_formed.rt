@@ -45,13 +45,13 @@ fn is_unit(p: u32, c: u32) -> bool
 fn is_term(p: u32, term: &Term) -> bool
     ensures { result ≡ is_term p term.now }
 {
-    is_unit(p, term.coefficient()) && is_simplex(term.simplex().vertices())
+    is_unit(p, term.coefficient()) && is_simplex(term.vertices())
 }
 
 fn terms_ascend(terms: &[Term]) -> bool
     ensures { result ≡ terms_ascend terms.now }
 {
-    terms.is_sorted_by(|t, u| compare(t.simplex().vertices(), u.simplex().vertices()).is_lt())
+    terms.is_sorted_by(|t, u| compare(t.vertices(), u.vertices()).is_lt())
 }
 
 fn are_terms(p: u32, terms: &[Term]) -> bool

@@ -13,6 +13,3 @@ mod table;
 
 pub use read::read_report;
 pub use refused::ReadRefused;
-
-#[cfg(test)]
-mod tests;

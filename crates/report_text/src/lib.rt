@@ -11,6 +11,3 @@ mod word;
 pub use report::Form;
 pub use spelling::spell;
 pub use text::print;
-
-#[cfg(test)]
-mod tests;

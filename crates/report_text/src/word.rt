@@ -55,7 +55,7 @@ fn add_term(alloc: Global, text: &mut Bytes, term: &Term) -> Result<(), AllocErr
 {
     add_number(alloc, text, u64::from(term.coefficient()))?;
     text.push(b':')?;
-    add_vertices(alloc, text, term.simplex().vertices())
+    add_vertices(alloc, text, term.vertices())
 }
 
 // Terms, each behind a space.

@@ -9,8 +9,6 @@ mod live;
 mod pairs;
 mod plan;
 mod terms;
-#[cfg(test)]
-mod tests;
 
 pub use degrees::{may_degree, target};
 pub use live::{blocks, lines, products};

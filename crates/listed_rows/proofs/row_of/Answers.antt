@@ -10,7 +10,7 @@ push_last-requires g c =
     let n = c.args.n in
     let here = level c.args.index.now n in
     let chain = c.args.chain.now in
-    let there : get_or here k [] ≡ t.1 = c.in-Some.ensures.1 ∙ c.vertices.ensures ∙ c.simplex.ensures in
+    let there : get_or here k [] ≡ t.1 = c.in-Some.ensures.1 ∙ c.vertices.ensures in
     let value : c.new.result ≡ t.0 % g.row.P = c.new.ensures ∙ ap (λ v. v % g.row.P) c.coefficient.ensures in (
       omega arith,
       (

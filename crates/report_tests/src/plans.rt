@@ -1,13 +1,13 @@
 ghost use Rattle.std.specs.Prelude.{◌≡◌, ◌≤◌, ◌^◌, IsTrue, length};
 ghost use Rattle.fp_field.specs.Served.{served};
 
-use crate::{blocks, cartan_pairs, lines, may_degree, products, target, total};
 use comch_io::Listed;
 use may_elements::terms::Terms;
 use may_elements::{MayRefused, MayTable};
 use report::{Block, Line, Op, Product, Sizes};
 use std::alloc::{AllocError, Global};
 use std::test::Fail;
+use term_total::{blocks, cartan_pairs, lines, may_degree, products, target, total};
 
 fn line(a: u32, b: u32, n: u32) -> Line {
     Line {

@@ -1,5 +1,5 @@
-use crate::{ReadRefused, read_report};
 use comch_io::Bytes;
+use report_reader::{ReadRefused, read_report};
 use report_text::{Form, print};
 use std::alloc::{AllocError, Global};
 use std::test::Fail;
@@ -75,12 +75,33 @@ fn certificates_are_printed_again(rt: HostRuntime) -> Result<(), Fail> {
     ];
     for (number, other) in cases {
         let text = changed(alloc, number, other)?;
-        let report = read_report(alloc, text.as_slice());
-        assert!(rt; report.is_ok(), "{other}");
-        if let Ok(report) = report {
-            let again = print(alloc, &report, Form::Certificate)?;
-            assert_eq!(rt; again.as_slice(), text.as_slice());
-        }
+        let report = read_report(alloc, text.as_slice())?;
+        let again = print(alloc, &report, Form::Certificate)?;
+        assert_eq!(rt; again.as_slice(), text.as_slice());
+    }
+    Ok(())
+}
+
+#[test]
+fn a_point_is_printed_in_three_forms(rt: HostRuntime) -> Result<(), Fail> {
+    let alloc = rt.alloc();
+    let text =
+        "comch certificate 1\nprime 3\ncomplex pt\nfacet 7\ndegree 0 rank 1\nclass 1:7\nend\ndone\n";
+    let report = read_report(alloc, text.as_bytes())?;
+    let cases = [
+        (Form::Certificate, text),
+        (
+            Form::Short,
+            "comch report 1\nprime 3\ncomplex pt\ndegree 0 rank 1\nclass 1:7\nend\ndone\n",
+        ),
+        (
+            Form::Basis,
+            "comch basis 1\nprime 3\ncomplex pt\ndegree 0 rank 1\nclass 1:7\nend\ndone\n",
+        ),
+    ];
+    for (form, wanted) in cases {
+        let text = print(alloc, &report, form)?;
+        assert_eq!(rt; text.as_slice(), wanted.as_bytes());
     }
     Ok(())
 }
@@ -109,11 +130,9 @@ fn other_texts_are_refused_at_a_line(rt: HostRuntime) -> Result<(), Fail> {
     ];
     for (number, other, wanted) in cases {
         let text = changed(alloc, number, other)?;
-        let report = read_report(alloc, text.as_slice());
-        if let Err(ReadRefused::ReportRefused { line }) = report {
-            assert_eq!(rt; line, wanted, "{other}");
-        } else {
-            assert!(rt; false, "{other}");
+        match read_report(alloc, text.as_slice()) {
+            Err(ReadRefused::ReportRefused { line }) => assert_eq!(rt; line, wanted, "{other}"),
+            _ => panic!(rt; "{other}"),
         }
     }
     Ok(())
