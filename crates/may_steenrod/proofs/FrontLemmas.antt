@@ -1,8 +1,8 @@
 -- Products with the values on front faces, one front face after the other.
-use Rattle.std.proofs.Common.{◌≡◌, ◌≢◌, ℕ, suc, ◌+◌, ◌-◌, ◌*◌, ◌%◌, ◌<◌, ◌≤◌, inl, inr, List, [], ◌∷◌, length, take, take_all, drop, get_or, arith, refl, sym, ap, ap₂, subst, ◌∙◌, Less}
+use Rattle.std.proofs.Common.{◌≡◌, ◌≢◌, ℕ, suc, ◌+◌, ◌-◌, ◌*◌, ◌%◌, ◌<◌, ◌≤◌, inl, inr, List, [], ◌∷◌, length, take, drop, get_or, arith, refl, sym, ap, subst, ◌∙◌, Less}
 use Rattle.std.proofs.lemmas.Bool.{cases_eq, cases_lt}
 use Rattle.linear_law.specs.Names.{Congruent, sum_over, unit_vector}
-use Rattle.linear_law.proofs.Names.{Congruent_add, Congruent_mod, Congruent_of, Congruent_refl, Congruent_scale, Congruent_trans, unit_one, unit_other}
+use Rattle.linear_law.proofs.Names.{Congruent_add, Congruent_mod, Congruent_of, Congruent_scale, Congruent_trans, unit_one, unit_other}
 use Rattle.simplicial_law.specs.Names.{cochain_of, Cochain, unit_cochain, terms_of, simplex_cmp, IsInOrder}
 use Rattle.simplicial_law.proofs.Names.{unit_away, unit_here}
 use Rattle.sparse_rows.specs.Rows.{IsBelow, value_in}

@@ -1,5 +1,5 @@
 -- Operations and products on cochains of a complex.
-use Rattle.std.proofs.Common.{◌≡◌, ℕ, suc, ◌+◌, ◌*◌, ◌%◌, ◌<◌, List, [], ◌∷◌, length, take, drop, get_or, arith, ap, ap₂, subst, ◌∙◌, ℤ, pos, ◌*ℤ◌, IsTrue}
+use Rattle.std.proofs.Common.{◌≡◌, ℕ, suc, ◌+◌, ◌*◌, ◌%◌, ◌<◌, List, [], ◌∷◌, length, take, drop, get_or, arith, ap, ap₂, subst, ℤ, pos, ◌*ℤ◌, IsTrue}
 use Rattle.fp_field.specs.Served.{served}
 use Rattle.fp_field.proofs.ServedLemmas.{served_field, served_large}
 use Rattle.linear_law.specs.Names.{Congruent}

@@ -3,8 +3,6 @@ ghost use Rattle.std.specs.Prelude.{◌≡◌, ◌≤◌, ◌<◌, ◌+◌, ◌-
 ghost use Rattle.linear_law.specs.Names.{negated};
 ghost use Rattle.fp_field.specs.Served.{served};
 ghost use Rattle.sparse_rows.specs.Rows.{IsBelow};
-ghost use Rattle.operad_law.specs.FormalSums.{IsSameSum};
-ghost use Rattle.table_reduction_law.specs.Names.{may_element};
 ghost use Rattle.complex_index.specs.Names.{IsIndexOf, level};
 ghost use Rattle.may_elements.specs.Stored.{stored_at};
 ghost use Rattle.steenrod_law.specs.Names.{IsBocksteinPower, IsPower, may_operation, power_degree, scaled_operation};
@@ -16,27 +14,28 @@ use crate::places::row_of;
 use complex_index::{Cochain, Indexed};
 use fp_field::Fp;
 use may_elements::MayTable;
-use operad_law::formal_sum::FormalSum;
 use std::alloc::{AllocError, Global};
-use surjection::surj::Surj;
 
-/// A multiple of the operation of degree d, whose May element is given.
+/// A multiple of the operation of degree d, whose May element is stored.
 fn operation<const P: u32>(
     alloc: Global,
-    element: &FormalSum<Surj>,
+    table: &MayTable<P>,
     index: &Indexed,
     alpha: &Cochain<P>,
     d: u32,
     by: Fp<P>,
 ) -> Result<Cochain<P>, AllocError>
     requires prime { IsTrue (served P) }
-    requires element { IsSameSum element.now (may_element P d) }
+    requires stored { IsSome (stored_at d table.now) }
     requires low { alpha.now.degree ≤ 15 }
     requires most { d ≤ P * alpha.now.degree }
     requires inside { IsBelow (length (level index.now alpha.now.degree)) alpha.now.row }
     ensures degree { IfOk result (λ r. r.degree ≡ P * alpha.now.degree - d) }
     ensures values { IfOk result (λ r. HasValues P index.now (P * alpha.now.degree - d) (scaled_operation P d by.entry alpha.now.degree (cochain_in index.now alpha.now.degree alpha.now.row)) r.row) }
 {
+    let Some(element) = table.element(d) else {
+        unreachable!()
+    };
     let degree = P * alpha.degree - d;
     let sum = FaceSum::of_element(alloc, element, alpha.degree, d)?;
     let on = On::new(index, alpha);
@@ -64,10 +63,7 @@ pub fn d_op<const P: u32>(
     ensures values { IfOk result (λ r. HasValues P index.now (P * alpha.now.degree - d) (may_operation P d alpha.now.degree (cochain_in index.now alpha.now.degree alpha.now.row)) r.row) }
     ensures closed { IfOk result (λ r. IsClosed P index.now alpha.now.degree alpha.now.row → IsClosed P index.now (P * alpha.now.degree - d) r.row) }
 {
-    match table.element(d) {
-        Some(element) => operation(alloc, element, index, alpha, d, Fp::new(1)),
-        None => unreachable!(),
-    }
+    operation(alloc, table, index, alpha, d, Fp::new(1))
 }
 
 /// The power `P^s`, for an odd prime. On a cocycle it is a cocycle.
@@ -90,13 +86,7 @@ pub fn p_op<const P: u32>(
     ensures closed { IfOk result (λ r. IsClosed P index.now alpha.now.degree alpha.now.row → IsClosed P index.now (alpha.now.degree + 2 * s * (P - 1)) r.row) }
 {
     let d = (alpha.degree - 2 * s) * (P - 1);
-    match table.element(d) {
-        Some(element) => {
-            let scale = Fp::scale(alpha.degree, s);
-            operation(alloc, element, index, alpha, d, scale)
-        }
-        None => unreachable!(),
-    }
+    operation(alloc, table, index, alpha, d, Fp::scale(alpha.degree, s))
 }
 
 /// The Bockstein power `bP^s`, for an odd prime. On a cocycle it is a cocycle.
@@ -119,11 +109,12 @@ pub fn bp_op<const P: u32>(
     ensures closed { IfOk result (λ r. IsClosed P index.now alpha.now.degree alpha.now.row → IsClosed P index.now (alpha.now.degree + 2 * s * (P - 1) + 1) r.row) }
 {
     let d = (alpha.degree - 2 * s) * (P - 1) - 1;
-    match table.element(d) {
-        Some(element) => {
-            let scale = Fp::scale(alpha.degree, s);
-            operation(alloc, element, index, alpha, d, scale.neg())
-        }
-        None => unreachable!(),
-    }
+    operation(
+        alloc,
+        table,
+        index,
+        alpha,
+        d,
+        Fp::scale(alpha.degree, s).neg(),
+    )
 }

@@ -1,4 +1,4 @@
-use Rattle.std.proofs.Common.{◌≡◌, ◌∙◌, ◌+◌, ◌-◌, ◌*◌, ◌%◌, ◌<◌, ℕ, List, ap, arith, drop, length, length-drop, sym, take, take_all}
+use Rattle.std.proofs.Common.{◌∙◌, ◌-◌, ◌*◌, ◌%◌, ◌<◌, ℕ, List, ap, arith, drop, length, length-drop, sym, take, take_all}
 use Rattle.std.specs.Cmp.Lexicographic.{other_text, same_text}
 use Rattle.complex_index.specs.Names.{level}
 use Rattle.may_steenrod.proofs.FrontLemmas.{added-more, added-start, added-stop}

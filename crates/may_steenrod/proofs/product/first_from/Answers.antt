@@ -1,4 +1,4 @@
-use Rattle.std.proofs.Common.{◌≡◌, ◌∙◌, ◌+◌, ◌-◌, ◌/◌, arith, ap, sym, ℕ, List, Less}
+use Rattle.std.proofs.Common.{◌∙◌, ◌+◌, ◌-◌, ◌/◌, arith, ap, sym, ℕ, List}
 use Rattle.simplicial_law.specs.Names.{simplex_cmp}
 use Rattle.complex_index.specs.Names.{level}
 use Rattle.may_steenrod.proofs.BeginningLemmas.{split-first, split-high, split-low}

@@ -1,4 +1,4 @@
-use Rattle.std.proofs.Common.{◌≡◌, ◌∙◌, ◌<◌, ◌≤◌, ℕ, List, [], ap, arith, get_or, length, lit<, subst, sym, take_all, suc}
+use Rattle.std.proofs.Common.{◌≡◌, ◌∙◌, ◌<◌, ◌≤◌, ℕ, List, ap, arith, get_or, length, lit<, subst, sym, take_all, suc}
 use Rattle.linear_law.proofs.Names.{each_get_or}
 use Rattle.sparse_rows.specs.Rows.{IsBelow}
 use Rattle.complex_index.specs.Names.{level}

@@ -1,48 +1,11 @@
-use Rattle.std.proofs.Common.{◌∙◌, ◌+◌, ◌-◌, ◌≤◌, ℕ, List, [], ◌∷◌, ap, arith, get_or, length, lit<, subst, sym, pos}
-use Rattle.simplicial_law.specs.Names.{CongruentInt}
-use Rattle.interval_cut_law.specs.Names.{operation_value}
-use Rattle.table_reduction_law.specs.Names.{in_turn}
-use Rattle.complex_index.specs.Names.{level}
-use Rattle.may_steenrod.specs.Cochains.{cochain_in}
-use Rattle.may_steenrod.proofs.OperationLemmas.{on-same, values-same}
-use Rattle.may_steenrod.proofs.SquareLemmas.{is_square, square-closed, square-values}
+use Rattle.std.proofs.Common.{◌+◌, ◌-◌}
+use Rattle.may_steenrod.proofs.SquareLemmas.{is_square, square-closed}
 use Rattle.may_steenrod.proofs.square.sq.Goals as goal
 
-pub row_of-requires : goal.row_of-requires
-row_of-requires g c =
-    let few : length c.deref.result.now ≤ 4294967296 = let e = ap (λ (xs : List ℕ). length xs) c.deref.ensures.value in let b = c.in_ok-values.ensures.few in omega arith in
-    (lit< tt, (lit< tt, few))
-
 pub returns-clause-square : goal.returns-clause-square
-returns-clause-square g c =
-    let p = g.row.P in
-    let index = c.args.index.now in
-    let alpha = c.args.alpha.now in
-    let q = alpha.degree in
-    let n = q + c.args.k in
-    let on = c.new-on in
-    let a = cochain_in on.result.index.now on.result.cochain.now.degree on.result.cochain.now.row in
-    let same = c.deref.ensures.value in
-    is_square p index q c.args.k alpha.row c.in_ok-row_of.field-0 c.requires.two c.requires.defined
-    (square-values p index q n (q - c.args.k) alpha.row c.requires.two (on-same p on.result.index.now index on.result.cochain.now alpha on.ensures.index on.ensures.cochain on.result.sound) a
-    c.deref.result.now c.in_ok-row_of.field-0 (values-same p on.result.index.now index on.result.cochain.now alpha on.ensures.index on.ensures.cochain)
-    (ap (λ (xs : List ℕ). length xs) same ∙ c.in_ok-values.ensures.long)
-    (λ x h. subst (λ (xs : List ℕ). CongruentInt p (pos (get_or xs x 0)) (operation_value 2 (in_turn 1 2 (q - c.args.k + 2)) ((λ f. pos (a f)) ∷ (λ f. pos (a f)) ∷ []) (get_or (level index n) x []))) (sym same) (c.in_ok-values.ensures.values x h))
-    c.in_ok-row_of.ensures)
+returns-clause-square g c = is_square g.row.P c.args.index.now c.args.alpha.now.degree c.args.k c.args.alpha.now.row c.in_ok-square_row.field-0 c.requires.two c.requires.defined c.in_ok-square_row.ensures
 
 pub returns-clause-closed : goal.returns-clause-closed
 returns-clause-closed g c =
-    let p = g.row.P in
-    let index = c.args.index.now in
-    let alpha = c.args.alpha.now in
-    let q = alpha.degree in
-    let n = q + c.args.k in
-    let on = c.new-on in
-    let a = cochain_in on.result.index.now on.result.cochain.now.degree on.result.cochain.now.row in
-    let same = c.deref.ensures.value in
-    square-closed p index q n (q - c.args.k) alpha.row c.requires.two c.in_ok-row_of.field-0
-    (square-values p index q n (q - c.args.k) alpha.row c.requires.two (on-same p on.result.index.now index on.result.cochain.now alpha on.ensures.index on.ensures.cochain on.result.sound) a
-    c.deref.result.now c.in_ok-row_of.field-0 (values-same p on.result.index.now index on.result.cochain.now alpha on.ensures.index on.ensures.cochain)
-    (ap (λ (xs : List ℕ). length xs) same ∙ c.in_ok-values.ensures.long)
-    (λ x h. subst (λ (xs : List ℕ). CongruentInt p (pos (get_or xs x 0)) (operation_value 2 (in_turn 1 2 (q - c.args.k + 2)) ((λ f. pos (a f)) ∷ (λ f. pos (a f)) ∷ []) (get_or (level index n) x []))) (sym same) (c.in_ok-values.ensures.values x h))
-    c.in_ok-row_of.ensures)
+    let q = c.args.alpha.now.degree in
+    square-closed g.row.P c.args.index.now q (q + c.args.k) (q - c.args.k) c.args.alpha.now.row c.requires.two c.in_ok-square_row.field-0 c.in_ok-square_row.ensures
