@@ -5,21 +5,16 @@ ghost use Rattle.fp_field.specs.Served.{served};
 ghost use Rattle.sparse_rows.specs.Rows.{IsBelow};
 ghost use Rattle.complex_index.specs.Names.{level};
 ghost use Rattle.may_elements.specs.Stored.{stored_at};
-ghost use Rattle.term_total.specs.Names.{IsPart};
 ghost use Rattle.job_report.specs.Jobs.{CanBeIndexed};
-ghost use Rattle.line_difference.specs.Elements.{AreStored};
 
-use comch_io::Listed;
 use complex_file::{ComplexBlock, Job, read_job};
 use complex_index::{Cochain, Indexed};
 use fp_field::Fp;
 use may_elements::MayTable;
 use may_elements::terms::Terms;
-use report::Sizes;
 use sparse_rows::Row;
 use std::alloc::{AllocError, Global};
 use std::test::Fail;
-use term_total::total;
 
 /// The job with these blocks, in which a semicolon stands for the end of a line, and a comma begins a facet.
 pub fn job_of(alloc: Global, prime: u32, blocks: &str) -> Result<Job, Fail> {
@@ -85,33 +80,5 @@ pub fn element<const P: u32>(alloc: Global, d: u32) -> Result<MayTable<P>, Fail>
 {
     let mut table = MayTable::new(alloc);
     table.grow_to(d, &mut Terms::new(1_000))?;
-    Ok(table)
-}
-
-// The May elements that the live blocks and lines of complexes of these sizes use.
-fn stored<const P: u32>(alloc: Global, parts: &[Sizes]) -> Result<MayTable<P>, Fail>
-    requires prime { IsTrue (served P) }
-    requires parts { Each IsPart parts.now }
-    ensures { IfOk result (λ t. Each (λ z. AreStored P t z.ranks) parts.now) }
-{
-    let mut table = MayTable::new(alloc);
-    let mut terms = Terms::new(1_000_000);
-    match total(alloc, parts, &mut table, &mut terms) {
-        Ok(()) => Ok(table),
-        Err(_) => Err("too many terms".into()),
-    }
-}
-
-/// The May elements that the live blocks and lines of a complex with these ranks use.
-pub fn elements<const P: u32>(alloc: Global, ranks: &[u32]) -> Result<MayTable<P>, Fail>
-    requires prime { IsTrue (served P) }
-    requires few { length ranks.now ≤ 16 }
-    ensures { IfOk result (λ t. AreStored P t ranks.now) }
-{
-    let part = Sizes {
-        simplices: Listed::from(ranks.to_vec(alloc)?),
-        ranks: Listed::from(ranks.to_vec(alloc)?),
-    };
-    let table = stored::<P>(alloc, &[part])?;
     Ok(table)
 }

@@ -4,4 +4,3 @@ mod LevelLemmas
 pub mod Alternating
 pub mod RowLemmas
 mod Pulling
-mod Triangle

@@ -10,6 +10,3 @@ mod maps;
 
 pub use indexed::{Cochain, Indexed};
 pub use maps::{MapOn, pull};
-
-#[cfg(test)]
-mod tests;
