@@ -8,7 +8,6 @@ use cohomology::Basis;
 use comch_io::Listed;
 use complex_index::Indexed;
 use report::{Chain, Term};
-use simplex_set::Simplex;
 use sparse_rows::Row;
 use std::alloc::{AllocError, Global};
 
@@ -22,10 +21,9 @@ pub fn chain_of<const P: u32>(
     requires { IsBelow (length (level index.now n)) row.now }
     ensures { IfOk result (λ c. c ≡ terms_of (level index.now n) row.now) }
 {
-    let mut terms = Vec::new(alloc);
+    let mut terms = Vec::with_capacity(alloc, row.len())?;
     for (place, value) in row.as_slice() {
-        let simplex = Simplex::new(alloc, index.simplex(n, *place))?;
-        terms.push(Term::new(value.value(), simplex))?;
+        terms.push(Term::new(alloc, value.value(), index.simplex(n, *place))?)?;
     }
     Ok(Listed::from(terms))
 }
