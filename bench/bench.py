@@ -5,7 +5,7 @@ usage: bench/bench.py PROGRAM [PRIME] [GROUP ..]
 
 PROGRAM is the built program (crates/comch/out/comch, after `rt run` in crates/comch), PRIME is 2, 3
 or 5 (default 2), and the groups are torus, random, dense, sphere, wide, strip and ground, which run
-`basis`; report and certify, which run these commands; check, may and sample (default: all).
+`basis`; report, certify and bockstein, which run these commands; check, may and sample (default: all).
 
 Each input is made here, written to the program's standard input, and run RUNS times. One line is
 printed for each: simplices, bytes of input and of output, the least of the processor seconds, the
@@ -141,10 +141,11 @@ GROUPS = {
         ("triangles 160", lambda: some_triangles(160, 11776, 1)),
     ],
     "certify": [(f"torus {m}", lambda m=m: torus(m)) for m in (100, 500, 1000, 3000)],
+    "bockstein": [(f"torus {m}", lambda m=m: torus(m)) for m in (100, 1000, 15000)],
 }
 
 # the words that a group is run with; the others run `basis`
-WORDS = {"report": ["report", "--terms", "1000000000000"], "certify": ["certify"]}
+WORDS = {"report": ["report", "--terms", "1000000000000"], "certify": ["certify"], "bockstein": ["bockstein"]}
 
 
 def peak_of(pid):

@@ -1,4 +1,4 @@
-"""comch from Python: bases, products, operations, verdicts and induced maps as plain values.
+"""comch from Python: bases, products, operations, Bocksteins, verdicts and induced maps as plain values.
 
     >>> import comch
     >>> plane = comch.report([[0, 1, 2], [0, 1, 5], [0, 2, 3], [0, 3, 4], [0, 4, 5],
@@ -189,6 +189,23 @@ def certify(complexes, prime=2, maps=None, terms=None):
     return _report(["certify", *_limit(terms)], complexes, prime, maps)
 
 
+def bockstein(complexes, prime=2):
+    """The matrices of the Bockstein by name of the complex and by degree, each on the classes of `basis`.
+
+    There is one from each degree in which the cohomology is not zero, nor in the next.
+    """
+    text = _run(["bockstein"], _asked(complexes, prime, {})[0])
+    found = {}
+    for words in map(str.split, text.splitlines()):
+        if words[0] == "complex":
+            matrices = found[words[1]] = {}
+        elif words[0] == "bockstein":
+            matrix = matrices[int(words[1])] = Matrix()
+        elif words[0] == "column":
+            matrix.columns.append(tuple(map(int, words[3:])))
+    return found
+
+
 def check(certificate):
     """None where the text is a certificate that meets its conditions, else the condition that fails and its first line."""
     text = _run(["check"], certificate)
@@ -209,13 +226,18 @@ def _limit(terms):
     return [] if terms is None else ["--terms", str(terms)]
 
 
-def _report(words, complexes, prime, maps):
+def _asked(complexes, prime, maps):
+    """The input for the program, and the vertex that each number stands for in each complex."""
     named = complexes if isinstance(complexes, dict) else {"x": complexes}
     facets = {name: _facets_of(of) for name, of in named.items()}
     numbers = {name: _numbering(of) for name, of in facets.items()}
     labels = {name: {number: label for label, number in of.items()} for name, of in numbers.items()}
-    text = _run(words, _job(facets, numbers, prime, maps or {}))
-    return _Reader(text, labels).report()
+    return _job(facets, numbers, prime, maps), labels
+
+
+def _report(words, complexes, prime, maps):
+    job, labels = _asked(complexes, prime, maps or {})
+    return _Reader(_run(words, job), labels).report()
 
 
 def _facets_of(given):

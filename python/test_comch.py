@@ -88,6 +88,11 @@ class Answers(unittest.TestCase):
     def test_a_may_element(self):
         self.assertEqual(comch.may(3, 2), [(1, (1, 2, 3, 1, 2)), (1, (1, 2, 3, 2, 3)), (1, (1, 3, 1, 2, 3))])
 
+    def test_bocksteins(self):
+        found = comch.bockstein({"plane": PLANE, "circle": CIRCLE, "sphere": SPHERE})
+        self.assertEqual([list(of) for of in found.values()], [[0, 1], [0], []])
+        self.assertEqual([matrix.columns for matrix in found["plane"].values()], [[(0,)], [(1,)]])
+
     def test_a_check(self):
         empty = "comch certificate 1\nprime 3\ndone\n"
         self.assertIsNone(comch.check(empty))

@@ -8,7 +8,7 @@ use Rattle.table_reduction_law.specs.Names.{may_element}
 use Rattle.clap.specs.Words.{Text}
 use Rattle.fp_field.specs.Served.{served}
 use Rattle.may_elements.specs.Counted.{cut_off}
-use Rattle.comch_app.specs.Names.{IsElementText, Given, element_text, Request, Basis, Certify, Check, May, Report, Sample, IsAnswerable, alone, certify_request, limit_of, may_request, sample_request, report_request, request_by}
+use Rattle.comch_app.specs.Names.{IsElementText, Given, element_text, Request, Basis, Bockstein, Certify, Check, May, Report, Sample, IsAnswerable, alone, certify_request, limit_of, may_request, sample_request, report_request, request_by}
 use Rattle.comch_app.specs.Requests.{number_word}
 
 both : (a b : Bool) → (a && b) ≡ true → (a ≡ true) × (b ≡ true)
@@ -83,9 +83,10 @@ answerable g = from g.command _ (λ word.
     either (bytes_eq word (codes "basis")) _ _ (alone_known Basis tt g.numbers g.terms)
     (either (bytes_eq word (codes "report")) _ _ (report_known g.numbers g.terms)
     (either (bytes_eq word (codes "certify")) _ _ (certify_known g.numbers g.terms)
+    (either (bytes_eq word (codes "bockstein")) _ _ (alone_known Bockstein tt g.numbers g.terms)
     (either (bytes_eq word (codes "check")) _ _ (alone_known Check tt g.numbers g.terms)
     (either (bytes_eq word (codes "may")) _ _ (may_known g.numbers g.terms)
-    (either (bytes_eq word (codes "sample")) _ _ (sample_known g.numbers g.terms) tt))))))
+    (either (bytes_eq word (codes "sample")) _ _ (sample_known g.numbers g.terms) tt)))))))
 
 -- the count tells whether the candidates pass the limit
 pub few : (n c : ℕ) → c ≡ cut_off n → c ≤ 10 ^ 8 → n ≤ 10 ^ 8

@@ -6,12 +6,10 @@ use Rattle.comch_io.specs.Causes.{Rose}
 use Rattle.comch_io.specs.Reading.{Gave, ReadGave}
 use Rattle.comch_io.specs.declared.read_end.ReadEnd.{ReadEnd}
 use Rattle.comch_io.specs.declared.read_end.ReadEnd.TheVariants as end
+use Rattle.complex_file.specs.Names.{Spelled}
 use Rattle.complex_file.specs.Input.{input_of}
 use Rattle.complex_file.specs.declared.kind.InputKind.TheVariants.{TooLong}
-use Rattle.complex_file.specs.declared.kind.InputKind.{InputKind}
-use Rattle.report.specs.declared.form.Form.{Form}
-use Rattle.report.specs.declared.form.Form.TheVariants.{Basis}
-use Rattle.comch_app.specs.Names.{AtFault, Ends, EndsRead, MayAnswers, RefusesWords, ReportAnswers, WritesRefusal, refusal, CheckAnswers, SampleAnswers, AnswersRead, AskedAnswers, IsMade, SaysIt, StopCause, WantedAnswers, most_bytes, Stop, Asked, Request, May, Sample, Wanted, Status, BadWords, InputRefused, OutOfMemory, ReadFault, WriteFault}
+use Rattle.comch_app.specs.Names.{AtFault, Ends, EndsRead, MayAnswers, RefusesWords, WritesRefusal, refusal, CheckAnswers, SampleAnswers, AnswersRead, AskedAnswers, IsMade, SaysIt, StopCause, WantedOf, most_bytes, Stop, Asked, Request, May, Sample, Wanted, Status, BadWords, InputRefused, OutOfMemory, ReadFault, WriteFault}
 use Rattle.comch_app.specs.declared.answer.Stop.TheVariants as stop
 use Rattle.comch_app.specs.declared.answer.Asked.TheVariants as asked
 use Rattle.comch_app.specs.declared.answer.Wanted.TheVariants as wanted
@@ -26,25 +24,24 @@ said_ends : (answers : Status → List ℕ → Type 0) (s : Status) (text : List
 said_ends answers s text old new r never a (inl h) = rw h.0 (whole answers s text old new never a h.1)
 said_ends answers s text old new r never a (inr h) = rw h.0 (s, text, a, h.1)
 
-never_report : (form : Form) (limit : Option ℕ) (bytes text : List ℕ) → ReportAnswers form limit bytes WriteFault text → ⊥
-never_report form limit bytes text (job, spelled, a) = a
+never_wanted : (w : Wanted) (job : Spelled) (text : List ℕ) → WantedOf w job WriteFault text → ⊥
+never_wanted wanted.Bases job text h = h
+never_wanted (wanted.Report form limit) job text h = h
+never_wanted wanted.Bocksteins job text h = h
 
 never_asked : (a : Asked) (bytes text : List ℕ) → AskedAnswers a bytes WriteFault text → ⊥
-never_asked (asked.OfJob wanted.Bases) bytes text h = never_report Basis None bytes text h
-never_asked (asked.OfJob (wanted.Report form limit)) bytes text h = never_report form (Some limit) bytes text h
+never_asked (asked.OfJob w) bytes text (job, spelled, h) = never_wanted w job text h
 never_asked asked.Verdict bytes text h = h
 
 asked_ends : (a : Asked) (failed : Type 0) (bytes : List ℕ) (s : Status) (text : List ℕ) (old new : Option (List ℕ)) (r : Status) → AtFault failed (AskedAnswers a bytes) s text → SaysIt s text old new r → Ends (AtFault failed (AskedAnswers a bytes)) old new r
 asked_ends a failed bytes s text old new r h says = said_ends (AtFault failed (AskedAnswers a bytes)) s text old new r (never_asked a bytes text) h says
 
 memory_asked : (a : Asked) (bytes : List ℕ) → AskedAnswers a bytes OutOfMemory (refusal OutOfMemory)
-memory_asked (asked.OfJob wanted.Bases) bytes = refl
-memory_asked (asked.OfJob (wanted.Report form limit)) bytes = refl
+memory_asked (asked.OfJob w) bytes = refl
 memory_asked asked.Verdict bytes = refl
 
 read_asked : (a : Asked) (bytes : List ℕ) → AskedAnswers a bytes ReadFault (refusal ReadFault)
-read_asked (asked.OfJob wanted.Bases) bytes = refl
-read_asked (asked.OfJob (wanted.Report form limit)) bytes = refl
+read_asked (asked.OfJob w) bytes = refl
 read_asked asked.Verdict bytes = refl
 
 -- an answer that the work itself gave is no failed read
@@ -133,18 +130,13 @@ whole_answers a left left_now given given_now bytes result gave end h = record {
   answer = subst (λ (xs : List ℕ). IfOk result (λ p. AskedAnswers a xs p.0 p.1)) (sym (all_read left_now bytes end)) h;
 }
 
-refused_wanted : (w : Wanted) (bytes : List ℕ) (kind : InputKind) (line : ℕ) (text : List ℕ) → input_of bytes ≡ Err (record { kind = kind; line = line }) → text ≡ refusal (InputRefused kind line)
-    → WantedAnswers w bytes (InputRefused kind line) text
-refused_wanted wanted.Bases bytes kind line text e text_is = (e, text_is)
-refused_wanted (wanted.Report form limit) bytes kind line text e text_is = (e, text_is)
-
 -- so many bytes are more than may be read
 refused_as_long : (bytes : List ℕ) → 1048576 < length bytes → input_of bytes ≡ Err (record { kind = TooLong; line = 0 })
 unfolding input_of
 refused_as_long bytes h = rw (lt-ltb 1048576 (length bytes) h) refl
 
 long_asked : (a : Asked) (bytes text : List ℕ) → most_bytes a < length bytes → text ≡ refusal (InputRefused TooLong 0) → AskedAnswers a bytes (InputRefused TooLong 0) text
-long_asked (asked.OfJob w) bytes text long text_is = refused_wanted w bytes TooLong 0 text (refused_as_long bytes long) text_is
+long_asked (asked.OfJob w) bytes text long text_is = (refused_as_long bytes long, text_is)
 long_asked asked.Verdict bytes text long text_is = (long, refl, refl, text_is)
 
 pub long_answers : (a : Asked) (left left_now : Option (List ℕ)) (given given_now most : ℕ) (e : ReadEnd) (s : Status) (text : List ℕ) → most ≡ most_bytes a → e ≡ end.TooLong

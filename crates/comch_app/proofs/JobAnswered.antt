@@ -11,14 +11,14 @@ use Rattle.report.specs.declared.job.Report.{Report}
 use Rattle.report_law.proofs.Names.{headline_law}
 use Rattle.report_law.specs.Names.{IsReportOf, PassesLimit}
 use Rattle.report_text_law.specs.Text.{text_of}
-use Rattle.comch_app.specs.Names.{IsReportText, JobAnswers, ReportAnswers, refusal, IsMade, WantedAnswers, WantedOf, Wanted, Status, Done, TooManyTerms}
+use Rattle.comch_app.specs.Names.{BocksteinAnswers, InputAnswers, IsReportText, JobAnswers, refusal, IsMade, WantedOf, Wanted, Status, Done, TooManyTerms}
 use Rattle.comch_app.specs.declared.answer.Wanted.TheVariants as wanted
 
 -- the text of a report that was made
 pub is_report_text : (form : Form) (job : Spelled) (r : Report) (text : List ℕ) → is_job job.prime job.complexes job.maps ≡ true → IsReportOf form job r → text ≡ text_of form r → IsReportText form job text
 is_report_text form job r text kept made same = record { report = r; of_job = made; headline = headline_law form job r kept made; text_is = same }
 
-spelled_answers : (form : Form) (limit : Option ℕ) (bytes : List ℕ) (job : Spelled) (s : Status) (text : List ℕ) → input_of bytes ≡ Ok job → JobAnswers form limit job s text → ReportAnswers form limit bytes s text
+spelled_answers : (form : Form) (limit : Option ℕ) (bytes : List ℕ) (job : Spelled) (s : Status) (text : List ℕ) → input_of bytes ≡ Ok job → JobAnswers form limit job s text → InputAnswers (JobAnswers form limit) bytes s text
 spelled_answers form limit bytes job Done text e a = (job, e, a)
 spelled_answers form limit bytes job (TooManyTerms count most) text e a = (job, e, a)
 spelled_answers form limit bytes job _ text e a = absurd a
@@ -28,13 +28,23 @@ job_made form limit job Done text a = tt
 job_made form limit job (TooManyTerms count most) text (same, passes, text_is) = text_is
 job_made form limit job _ text a = absurd a
 
-pub wanted_answers : (w : Wanted) (bytes : List ℕ) (job : Spelled) (s : Status) (text : List ℕ) → input_of bytes ≡ Ok job → WantedOf w job s text → WantedAnswers w bytes s text
+bockstein_answers : (bytes : List ℕ) (job : Spelled) (s : Status) (text : List ℕ) → input_of bytes ≡ Ok job → BocksteinAnswers job s text → InputAnswers BocksteinAnswers bytes s text
+bockstein_answers bytes job Done text e a = (job, e, a)
+bockstein_answers bytes job _ text e a = absurd a
+
+bockstein_made : (job : Spelled) (s : Status) (text : List ℕ) → BocksteinAnswers job s text → IsMade s text
+bockstein_made job Done text a = tt
+bockstein_made job _ text a = absurd a
+
+pub wanted_answers : (w : Wanted) (bytes : List ℕ) (job : Spelled) (s : Status) (text : List ℕ) → input_of bytes ≡ Ok job → WantedOf w job s text → InputAnswers (WantedOf w) bytes s text
 wanted_answers wanted.Bases bytes job s text e a = spelled_answers Basis None bytes job s text e a
 wanted_answers (wanted.Report form limit) bytes job s text e a = spelled_answers form (Some limit) bytes job s text e a
+wanted_answers wanted.Bocksteins bytes job s text e a = bockstein_answers bytes job s text e a
 
 pub wanted_made : (w : Wanted) (job : Spelled) (s : Status) (text : List ℕ) → WantedOf w job s text → IsMade s text
 wanted_made wanted.Bases job s text a = job_made Basis None job s text a
 wanted_made (wanted.Report form limit) job s text a = job_made form (Some limit) job s text a
+wanted_made wanted.Bocksteins job s text a = bockstein_made job s text a
 
 -- counted terms that pass the limit are answered by their refusal
 pub passes_limit : (form : Form) (limit count most : ℕ) (job : Spelled) (r : Result (Status × List ℕ) AllocError) → IfOk r (λ p. p.0 ≡ TooManyTerms count most) → IfOk r (λ p. p.1 ≡ refusal (TooManyTerms count most))

@@ -10,6 +10,7 @@ use Rattle.report.specs.declared.form.Form.{Form}
 use Rattle.report.specs.declared.job.Report.{Report}
 use Rattle.report_law.specs.Names.{Headline, IsReportOf, IsWithinLimit, PassesLimit}
 use Rattle.report_text_law.specs.Text.{text_of}
+use Rattle.bockstein_text.specs.Names.{IsBocksteinText}
 use Rattle.std.specs.Cmp.Lexicographic.{slice_cmp}
 use Rattle.std.specs.Ordering.{nat_cmp}
 use Rattle.operad_law.specs.FormalSums.{IsFormalSum, IsSameSum}
@@ -20,7 +21,7 @@ use Rattle.comch_app.specs.declared.status.Status.{Status}
 use Rattle.comch_app.specs.declared.status.Status.TheVariants.{Done, BadWords, InputRefused, TooManyTerms, OutOfMemory, ReadFault, WriteFault}
 use Rattle.comch_app.specs.Refusals.{refusal}
 
--- ---- bases, reports and certificates
+-- ---- bases, reports, certificates and Bocksteins
 
 -- The text of the report of a job in a form: what is listed is the job's canonical data, and the headline holds of it.
 pub record IsReportText (form : Form) (job : Spelled) (text : List ℕ) : Type 0 where
@@ -35,13 +36,18 @@ JobAnswers form limit job Done text = IfSome limit (IsWithinLimit job) × IsRepo
 JobAnswers form limit job (TooManyTerms count most) text = (limit ≡ Some most) × PassesLimit job most count × (text ≡ refusal (TooManyTerms count most))
 JobAnswers form limit job _ text = ⊥
 
--- What may be answered to these bytes, where a report in this form is wanted: the answer to the job that they spell, or
--- the line of their first fault. Want of memory and a failed read may stand in the place of both.
-abbrev pub ReportAnswers : Form → Option ℕ → List ℕ → Status → List ℕ → Type 0
-ReportAnswers form limit bytes (InputRefused kind line) text = (input_of bytes ≡ Err (record { kind = kind; line = line })) × (text ≡ refusal (InputRefused kind line))
-ReportAnswers form limit bytes OutOfMemory text = text ≡ refusal OutOfMemory
-ReportAnswers form limit bytes ReadFault text = text ≡ refusal ReadFault
-ReportAnswers form limit bytes status text = (job : Spelled) × (input_of bytes ≡ Ok job) × JobAnswers form limit job status text
+-- What is answered to a job whose Bocksteins are wanted: their text.
+abbrev pub BocksteinAnswers : Spelled → Status → List ℕ → Type 0
+BocksteinAnswers job Done text = IsBocksteinText job text
+BocksteinAnswers job _ text = ⊥
+
+-- What may be answered to these bytes: what is answered to the job that they spell, or the line of their first fault. Want
+-- of memory and a failed read may stand in the place of both.
+abbrev pub InputAnswers : (Spelled → Status → List ℕ → Type 0) → List ℕ → Status → List ℕ → Type 0
+InputAnswers answers bytes (InputRefused kind line) text = (input_of bytes ≡ Err (record { kind = kind; line = line })) × (text ≡ refusal (InputRefused kind line))
+InputAnswers answers bytes OutOfMemory text = text ≡ refusal OutOfMemory
+InputAnswers answers bytes ReadFault text = text ≡ refusal ReadFault
+InputAnswers answers bytes status text = (job : Spelled) × (input_of bytes ≡ Ok job) × answers job status text
 
 -- ---- May elements
 

@@ -9,7 +9,7 @@ use Rattle.report_text_law.specs.Names.{IsRefused, Spells}
 use Rattle.certificate_law.specs.Names.{Certifies, FailsFirst, MapShown, itself}
 use Rattle.comch_app.specs.declared.status.Status.{Status}
 use Rattle.comch_app.specs.declared.status.Status.TheVariants.{Done, No, InputRefused, OutOfMemory, ReadFault}
-use Rattle.comch_app.specs.Answers.{ReportAnswers}
+use Rattle.comch_app.specs.Answers.{InputAnswers, JobAnswers}
 use Rattle.comch_app.specs.Refusals.{ended, refusal}
 
 -- The text is the certificate of a report that certifies. So all that the headline promises holds of what it lists, of the
@@ -40,7 +40,7 @@ pub record IsCertified (text : List ℕ) : Type 0 where
   pub bytes : List ℕ
   pub limit : ℕ
   pub allowed : limit ≤ 10 ^ 12
-  pub written : ReportAnswers Certificate (Some limit) bytes Done text
+  pub written : InputAnswers (JobAnswers Certificate (Some limit)) bytes Done text
 
 abbrev pub IsNo : Status → Type 0
 IsNo (No condition line) = Unit {0}

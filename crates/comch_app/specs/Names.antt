@@ -3,7 +3,7 @@ pub use Rattle.comch_app.specs.declared.answer.Asked.{Asked}
 pub use Rattle.comch_app.specs.declared.answer.Stop.{Stop}
 pub use Rattle.comch_app.specs.declared.answer.Wanted.{Wanted}
 pub use Rattle.comch_app.specs.declared.request.Request.{Request}
-pub use Rattle.comch_app.specs.declared.request.Request.TheVariants.{Basis, Certify, Check, May, Report, Sample}
+pub use Rattle.comch_app.specs.declared.request.Request.TheVariants.{Basis, Bockstein, Certify, Check, May, Report, Sample}
 pub use Rattle.comch_app.specs.declared.status.Status.{Status}
 pub use Rattle.comch_app.specs.declared.status.Status.TheVariants.{BadWords, Done, InputRefused, No, OutOfMemory, ReadFault, TooManyTerms, WriteFault}
 pub use Rattle.comch_app.specs.Codes.{code_of}
@@ -11,7 +11,7 @@ pub use Rattle.comch_app.specs.CommandLine.{Given, GivesUp, IsRule, bare, comman
 pub use Rattle.comch_app.specs.Requests.{IsAnswerable, ReadsInput, alone, certify_request, limit_of, may_at, may_request, report_request, request_by, request_named, request_of, sample_at, sample_request}
 pub use Rattle.comch_app.specs.Refusals.{refusal}
 pub use Rattle.comch_app.specs.Elements.{element_heading, element_text, spaced_number, term_line}
-pub use Rattle.comch_app.specs.Answers.{AtFault, Ends, EndsRead, IsElementText, IsReportText, JobAnswers, MayAnswers, RefusesWords, ReportAnswers, WritesRefusal}
+pub use Rattle.comch_app.specs.Answers.{AtFault, BocksteinAnswers, Ends, EndsRead, InputAnswers, IsElementText, IsReportText, JobAnswers, MayAnswers, RefusesWords, WritesRefusal}
 pub use Rattle.comch_app.specs.Checks.{CheckAnswers, IsCertified, IsNo, IsRefuted, IsShown}
 pub use Rattle.comch_app.specs.Samples.{SampleAnswers, number_line, sample_text}
-pub use Rattle.comch_app.specs.Steps.{AnswersRead, AskedAnswers, IsAskable, IsMade, IsReadWhole, IsWithinMost, SaidCause, SaysIt, StopCause, WantedAnswers, WantedOf, most_bytes}
+pub use Rattle.comch_app.specs.Steps.{AnswersRead, AskedAnswers, IsAskable, IsMade, IsReadWhole, IsWithinMost, SaidCause, SaysIt, StopCause, WantedOf, most_bytes}

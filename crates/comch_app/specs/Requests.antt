@@ -6,14 +6,14 @@ use Rattle.clap.specs.Words.{Text}
 use Rattle.fp_field.specs.Served.{served}
 use Rattle.complex_file.specs.Names.{is_not_empty, number_after}
 use Rattle.comch_app.specs.declared.request.Request.{Request}
-use Rattle.comch_app.specs.declared.request.Request.TheVariants.{Basis, Report, Certify, Check, May, Sample}
+use Rattle.comch_app.specs.declared.request.Request.TheVariants.{Basis, Bockstein, Report, Certify, Check, May, Sample}
 use Rattle.comch_app.specs.CommandLine.{Given, given}
 
 -- the number that a word of one to thirteen digits writes
 unfoldable pub number_word : Text → Option ℕ
 number_word word = if is_not_empty word && nat_le (length word) 13 then number_after 0 word else None
 
--- `basis` and `check` stand without numbers and without `--terms`
+-- `basis`, `bockstein` and `check` stand without numbers and without `--terms`
 abbrev pub alone : Request → List Text → Option Text → Option Request
 alone request [] None = Some request
 alone request _ _ = None
@@ -55,9 +55,10 @@ request_named word numbers terms =
     if bytes_eq word (codes "basis") then alone Basis numbers terms
     else (if bytes_eq word (codes "report") then report_request numbers terms
     else (if bytes_eq word (codes "certify") then certify_request numbers terms
+    else (if bytes_eq word (codes "bockstein") then alone Bockstein numbers terms
     else (if bytes_eq word (codes "check") then alone Check numbers terms
     else (if bytes_eq word (codes "may") then may_request numbers terms
-    else (if bytes_eq word (codes "sample") then sample_request numbers terms else None)))))
+    else (if bytes_eq word (codes "sample") then sample_request numbers terms else None))))))
 
 abbrev pub request_by : Given → Option Request
 request_by g = option_and_then (λ word. request_named word g.numbers g.terms) g.command
@@ -71,6 +72,7 @@ abbrev pub IsAnswerable : Request → Type 0
 IsAnswerable Basis = Unit {0}
 IsAnswerable (Report limit) = limit ≤ 10 ^ 12
 IsAnswerable (Certify limit) = limit ≤ 10 ^ 12
+IsAnswerable Bockstein = Unit {0}
 IsAnswerable Check = Unit {0}
 IsAnswerable (Sample n p) = ((1 ≤ n) × (n ≤ 994)) × IsTrue (served p)
 IsAnswerable (May p d) = IsTrue (served p) × (d ≤ 60)
@@ -80,5 +82,6 @@ abbrev pub ReadsInput : Option Request → Type 0
 ReadsInput (Some Basis) = Unit {0}
 ReadsInput (Some (Report limit)) = Unit {0}
 ReadsInput (Some (Certify limit)) = Unit {0}
+ReadsInput (Some Bockstein) = Unit {0}
 ReadsInput (Some Check) = Unit {0}
 ReadsInput _ = ⊥

@@ -14,7 +14,7 @@ use Rattle.comch_app.specs.declared.answer.Wanted.{Wanted}
 use Rattle.comch_app.specs.declared.answer.Wanted.TheVariants as wanted
 use Rattle.complex_file.specs.Names.{Spelled}
 use Rattle.report.specs.declared.form.Form.TheVariants.{Basis}
-use Rattle.comch_app.specs.Answers.{JobAnswers, ReportAnswers}
+use Rattle.comch_app.specs.Answers.{BocksteinAnswers, InputAnswers, JobAnswers}
 use Rattle.comch_app.specs.Checks.{CheckAnswers}
 use Rattle.comch_app.specs.Refusals.{refusal}
 
@@ -47,6 +47,7 @@ SaidCause status before now result = ((result ≡ status) × (now ≡ before)) �
 abbrev pub IsWithinMost : Wanted → Type 0
 IsWithinMost wanted.Bases = Unit {0}
 IsWithinMost (wanted.Report form limit) = limit ≤ 10 ^ 12
+IsWithinMost wanted.Bocksteins = Unit {0}
 
 abbrev pub IsAskable : Asked → Type 0
 IsAskable (asked.OfJob wanted) = IsWithinMost wanted
@@ -61,13 +62,10 @@ most_bytes asked.Verdict = 33554432
 abbrev pub WantedOf : Wanted → Spelled → Status → List ℕ → Type 0
 WantedOf wanted.Bases = JobAnswers Basis None
 WantedOf (wanted.Report form limit) = JobAnswers form (Some limit)
-
-abbrev pub WantedAnswers : Wanted → List ℕ → Status → List ℕ → Type 0
-WantedAnswers wanted.Bases = ReportAnswers Basis None
-WantedAnswers (wanted.Report form limit) = ReportAnswers form (Some limit)
+WantedOf wanted.Bocksteins = BocksteinAnswers
 
 abbrev pub AskedAnswers : Asked → List ℕ → Status → List ℕ → Type 0
-AskedAnswers (asked.OfJob wanted) = WantedAnswers wanted
+AskedAnswers (asked.OfJob wanted) = InputAnswers (WantedOf wanted)
 AskedAnswers asked.Verdict = CheckAnswers
 
 -- What may be answered to bytes that were read: those that the source gave, and behind them those that it tells to be left.

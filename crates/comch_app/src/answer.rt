@@ -1,10 +1,11 @@
 ghost use Rattle.std.specs.Prelude.{◌≡◌, ◌≤◌, ◌^◌, IfOk, None, Some};
 ghost use Rattle.complex_file.specs.Names.{content};
-ghost use Rattle.comch_app.specs.Names.{IsReportText, JobAnswers, AnswersRead, AskedAnswers, IsAskable, IsMade, IsReadWhole, IsWithinMost, StopCause, WantedAnswers, WantedOf, most_bytes};
+ghost use Rattle.comch_app.specs.Names.{AnswersRead, AskedAnswers, BocksteinAnswers, InputAnswers, IsAskable, IsMade, IsReadWhole, IsWithinMost, JobAnswers, StopCause, WantedOf, most_bytes};
 
 use crate::Status;
 use crate::refusal::{input_refused, too_many_terms};
 use crate::verdict::{MOST_BYTES, verdict};
+use bockstein_text::print_bocksteins;
 use comch_io::{Bytes, ReadEnd, Source, read_all};
 use complex_file::{InputKind, Job, JobRefused, read_job};
 use job_report::{MakeRefused, make_bases, make_report};
@@ -21,6 +22,8 @@ pub enum Wanted {
     Bases,
     /// Its report in a form, where its counted terms do not pass the limit.
     Report { form: Form, limit: u64 },
+    /// Its Bocksteins.
+    Bocksteins,
 }
 
 /// What is asked of bytes.
@@ -79,6 +82,14 @@ fn report_answer(
     }
 }
 
+// The Bocksteins of a job.
+fn bocksteins_answer(alloc: Global, job: &Job) -> Result<(Status, Bytes), AllocError>
+    ensures { IfOk result (λ p. BocksteinAnswers (content job.now) p.0 p.1) }
+{
+    let text = print_bocksteins(alloc, job)?;
+    Ok((Status::Done, text))
+}
+
 // The answer to a job.
 fn job_answer(alloc: Global, job: &Job, wanted: Wanted) -> Result<(Status, Bytes), AllocError>
     requires { IsWithinMost wanted }
@@ -87,13 +98,14 @@ fn job_answer(alloc: Global, job: &Job, wanted: Wanted) -> Result<(Status, Bytes
     match wanted {
         Wanted::Bases => bases_answer(alloc, job),
         Wanted::Report { form, limit } => report_answer(alloc, job, form, limit),
+        Wanted::Bocksteins => bocksteins_answer(alloc, job),
     }
 }
 
 // The answer to the bytes of an input.
 fn bytes_answer(alloc: Global, bytes: &[u8], wanted: Wanted) -> Result<(Status, Bytes), AllocError>
     requires { IsWithinMost wanted }
-    ensures answer { IfOk result (λ p. WantedAnswers wanted bytes.now p.0 p.1) }
+    ensures answer { IfOk result (λ p. InputAnswers (WantedOf wanted) bytes.now p.0 p.1) }
     ensures made { IfOk result (λ p. IsMade p.0 p.1) }
 {
     match read_job(alloc, bytes) {

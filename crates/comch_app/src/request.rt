@@ -10,6 +10,8 @@ pub enum Request {
     Report { limit: u64 },
     /// The certificate of a job, within the same limit.
     Certify { limit: u64 },
+    /// The Bocksteins of a job's complexes.
+    Bockstein,
     /// Whether a text is a certificate that certifies.
     Check,
     /// The May element of this degree for this prime.

@@ -2,7 +2,7 @@ ghost use Rattle.std.specs.Prelude.{◌≡◌, ◌≢◌, ℕ, ◌<◌, ◌≤�
 ghost use Rattle.std.specs.Io.KnownBytes.{IsAtEnd};
 ghost use Rattle.comch_io.specs.Causes.{Rose};
 ghost use Rattle.fp_field.specs.Served.{served};
-ghost use Rattle.comch_app.specs.Names.{Basis, Certify, Check, May, Report, Sample, Ends, EndsRead, MayAnswers, RefusesWords, ReportAnswers, WritesRefusal, CheckAnswers, IsCertified, IsNo, SampleAnswers, ReadsInput, request_of, AskedAnswers, IsAskable, SaidCause, SaysIt};
+ghost use Rattle.comch_app.specs.Names.{Basis, Bockstein, Certify, Check, May, Report, Sample, BocksteinAnswers, Ends, EndsRead, InputAnswers, JobAnswers, MayAnswers, RefusesWords, WritesRefusal, CheckAnswers, IsCertified, IsNo, SampleAnswers, ReadsInput, request_of, AskedAnswers, IsAskable, SaidCause, SaysIt};
 
 use crate::Status;
 use crate::answer::{Asked, Stop, Wanted, answer};
@@ -102,15 +102,18 @@ pub fn run<S: Source, K: Sink>(
         × (source.new ≡ source.old) }
     ensures words { result ≡ Status.BadWords → request_of (map string_bytes words.now) ≡ None }
 
-    // What `basis`, `report` and `certify` answer to the bytes that were read.
+    // What `basis`, `report`, `certify` and `bockstein` answer to the bytes that were read.
     ensures basis { request_of (map string_bytes words.now) ≡ Some Basis →
-        EndsRead (ReportAnswers Form.Basis None) (S.left source.old) (S.left source.new) (S.given source.old) (S.given source.new)
+        EndsRead (InputAnswers (JobAnswers Form.Basis None)) (S.left source.old) (S.left source.new) (S.given source.old) (S.given source.new)
         (S.faults source.old) (S.faults source.new) (K.written sink.old) (K.written sink.new) result }
     ensures report { (limit : ℕ) → request_of (map string_bytes words.now) ≡ Some (Report limit) →
-        EndsRead (ReportAnswers Form.Short (Some limit)) (S.left source.old) (S.left source.new) (S.given source.old) (S.given source.new)
+        EndsRead (InputAnswers (JobAnswers Form.Short (Some limit))) (S.left source.old) (S.left source.new) (S.given source.old) (S.given source.new)
         (S.faults source.old) (S.faults source.new) (K.written sink.old) (K.written sink.new) result }
     ensures certify { (limit : ℕ) → request_of (map string_bytes words.now) ≡ Some (Certify limit) →
-        EndsRead (ReportAnswers Form.Certificate (Some limit)) (S.left source.old) (S.left source.new) (S.given source.old) (S.given source.new)
+        EndsRead (InputAnswers (JobAnswers Form.Certificate (Some limit))) (S.left source.old) (S.left source.new) (S.given source.old) (S.given source.new)
+        (S.faults source.old) (S.faults source.new) (K.written sink.old) (K.written sink.new) result }
+    ensures bockstein { request_of (map string_bytes words.now) ≡ Some Bockstein →
+        EndsRead (InputAnswers BocksteinAnswers) (S.left source.old) (S.left source.new) (S.given source.old) (S.given source.new)
         (S.faults source.old) (S.faults source.new) (K.written sink.old) (K.written sink.new) result }
 
     // What `check` answers; it never says no to what `certify` writes.
@@ -152,6 +155,9 @@ pub fn run<S: Source, K: Sink>(
             let form = Form::Certificate;
             let wanted = Wanted::Report { form, limit };
             reading_run(alloc, source, sink, Asked::OfJob(wanted))
+        }
+        Ok(Some(Request::Bockstein)) => {
+            reading_run(alloc, source, sink, Asked::OfJob(Wanted::Bocksteins))
         }
         Ok(Some(Request::Check)) => reading_run(alloc, source, sink, Asked::Verdict),
         Ok(Some(Request::May { prime, degree })) => may_run(alloc, sink, prime, degree),

@@ -188,6 +188,8 @@ fn request_named(word: &str, numbers: &[&str], terms: Option<&str>) -> Option<Re
         report_request(numbers, terms)
     } else if word == "certify" {
         certify_request(numbers, terms)
+    } else if word == "bockstein" {
+        alone(Request::Bockstein, numbers, terms)
     } else if word == "check" {
         alone(Request::Check, numbers, terms)
     } else if word == "may" {

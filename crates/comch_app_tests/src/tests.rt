@@ -48,7 +48,7 @@ fn try_row(
 #[test]
 fn jobs_are_answered(rt: HostRuntime) -> Result<(), Fail> {
     let alloc = rt.alloc();
-    let rows: [(&str, u32, &str, u8, &str); 27] = [
+    let rows: [(&str, u32, &str, u8, &str); 29] = [
         ("basis", 5, "", 0, "comch basis 1;prime 5;done;"),
         (
             "basis",
@@ -152,6 +152,22 @@ fn jobs_are_answered(rt: HostRuntime) -> Result<(), Fail> {
             0,
             EMPTY_MAPS_CERTIFIED,
         ),
+        (
+            "bockstein",
+            3,
+            MOORE,
+            0,
+            "comch bockstein 1;prime 3;complex moore;bockstein 0 to 1;column 1 is 0;\
+            bockstein 1 to 2;column 1 is 1;end;done;",
+        ),
+        (
+            "bockstein",
+            3,
+            TORUS,
+            0,
+            "comch bockstein 1;prime 3;complex torus;bockstein 0 to 1;column 1 is 0 0;\
+            bockstein 1 to 2;column 1 is 0;column 2 is 0;end;done;",
+        ),
     ];
     for (line, prime, blocks, code, text) in rows {
         try_row(&rt, alloc, line, prime, blocks, code, text)?;
@@ -227,6 +243,7 @@ fn other_words_are_refused_unread(rt: HostRuntime) -> Result<(), Fail> {
         "may +3 2",
         "may 3 00000000000002",
         "may 3 2 --terms 5",
+        "bockstein 2",
         "check 2",
         "check --terms 5",
         "sample 3",

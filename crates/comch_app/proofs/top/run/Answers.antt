@@ -19,6 +19,9 @@ returns-in-Err-clause-report g c limit some = memory_ends (asked.OfJob (wanted.R
 pub returns-in-Err-clause-certify : goal.returns-in-Err-clause-certify
 returns-in-Err-clause-certify g c limit some = memory_ends (asked.OfJob (wanted.Report form.Certificate limit)) _ _ _ _ _ _ [] _ _ _ (none_given _ _) c.said.ensures.says
 
+pub returns-in-Err-clause-bockstein : goal.returns-in-Err-clause-bockstein
+returns-in-Err-clause-bockstein g c some = memory_ends (asked.OfJob wanted.Bocksteins) _ _ _ _ _ _ [] _ _ _ (none_given _ _) c.said.ensures.says
+
 pub returns-in-Err-clause-check : goal.returns-in-Err-clause-check
 returns-in-Err-clause-check g c some = memory_ends asked.Verdict _ _ _ _ _ _ [] _ _ _ (none_given _ _) c.said.ensures.says
 

@@ -1,0 +1,3 @@
+pub mod Bocksteins
+pub mod Steps
+pub mod Names
