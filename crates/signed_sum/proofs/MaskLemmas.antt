@@ -1,13 +1,6 @@
 -- Words as masks: their boundary and their turn.
-use Rattle.std.proofs.Common.{◌≡◌, ℕ, zero, suc, ◌+◌, ◌≤◌, ◌<◌, ◌^◌, true, false, Bool, ◌*◌, List, [], ◌∷◌, length, map, refl, sym, ◌∙◌, ap, subst, inl, inr, arith, ℤ, pos, neg_ℤ, nat_abs, ◌*ℤ◌, All}
-use Rattle.std.proofs.lemmas.Int.{ints}
-use Rattle.std.proofs.lemmas.Map.Lookups.{exact_pairs, exact_unsigned}
-use Rattle.std.specs.Ordering.{bool_cmp, nat_cmp, ordering_then}
-use Rattle.std.specs.declared.cmp.Ordering.TheVariants.{Equal}
-use Rattle.std.proofs.lemmas.List.Elements.{All-map, All-weaker}
-use Rattle.signed_sum.proofs.SumLemmas.{total-map, value_at-same}
-use Rattle.signed_sum.proofs.WordLemmas.{IsBound, at_turned, bound-length, bound-turn, bound-twice, bound-words, degree-append, length-letters, length-turn, letters-mask, mask-below, mask-letters, turned-round, whole-word}
-use Rattle.signed_sum.specs.Names.{signed, value_at, weight_of, IsSign, after_turns, IsWord, behind_letter, last_letter, letter_count, letter_degree, letters, letters_before_last, mask_boundary, mask_degree, mask_of, mask_turn, parity, word_boundary, word_degree, word_turn}
+use Rattle.std.{proofs.Common.{◌≡◌, ℕ, zero, suc, ◌+◌, ◌≤◌, ◌<◌, ◌^◌, true, false, Bool, ◌*◌, List, [], ◌∷◌, length, map, refl, sym, ◌∙◌, ap, subst, inl, inr, arith, ℤ, pos, neg_ℤ, nat_abs, ◌*ℤ◌, All}, proofs.lemmas.Int.ints, proofs.lemmas.Map.Lookups.{exact_pairs, exact_unsigned}, specs.Ordering.{bool_cmp, nat_cmp, ordering_then}, specs.declared.cmp.Ordering.TheVariants.Equal, proofs.lemmas.List.Elements.{All-map, All-weaker}}
+use Rattle.signed_sum.{proofs.SumLemmas.{total-map, value_at-same}, proofs.WordLemmas.{IsBound, at_turned, bound-length, bound-turn, bound-twice, bound-words, degree-append, length-letters, length-turn, letters-mask, mask-below, mask-letters, turned-round, whole-word}, specs.Names.{signed, value_at, weight_of, IsSign, after_turns, IsWord, behind_letter, last_letter, letter_count, letter_degree, letters, letters_before_last, mask_boundary, mask_degree, mask_of, mask_turn, parity, word_boundary, word_degree, word_turn}}
 
 exact_bool : (a b : Bool) → bool_cmp a b ≡ Equal → a ≡ b
 exact_bool false false e = refl

@@ -1,12 +1,6 @@
 -- Pairs: their degree, boundary and turn.
-use Rattle.std.proofs.Common.{◌≡◌, ℕ, zero, suc, ◌+◌, ◌≤◌, ◌++◌, List, [], ◌∷◌, refl, sym, ◌∙◌, ap, inl, inr, arith, ℤ, pos, ◌+ℤ◌, neg_ℤ, ◌*ℤ◌, All, Bool, true, false, IsTrue, ◌&&◌}
-use Rattle.std.proofs.lemmas.Int.{ints}
-use Rattle.std.proofs.lemmas.List.Elements.{All-append, All-map, All-weaker}
-use Rattle.signed_sum.specs.Names.{signed, total, value_at, weight_of, IsSign, after_turns, pair_boundary, pair_degree, pair_turn, paired_before, paired_behind}
-use Rattle.signed_sum.proofs.Ring.{mul-add, mul_assoc, mul_comm}
-use Rattle.signed_sum.proofs.SignLemmas.{signed-mul}
-use Rattle.signed_sum.proofs.SumLemmas.{total-append, total-map, value_at-nothing, value_at-same, value_at-scaled, value_at-signed, value_at-sum, weight_of-append}
-use Rattle.signed_sum.proofs.MaskLemmas.{abs-signed, weight-map}
+use Rattle.std.proofs.{Common.{◌≡◌, ℕ, zero, suc, ◌+◌, ◌≤◌, ◌++◌, List, [], ◌∷◌, refl, sym, ◌∙◌, ap, inl, inr, arith, ℤ, pos, ◌+ℤ◌, neg_ℤ, ◌*ℤ◌, All, Bool, true, false, IsTrue, ◌&&◌}, lemmas.Int.ints, lemmas.List.Elements.{All-append, All-map, All-weaker}}
+use Rattle.signed_sum.{specs.Names.{signed, total, value_at, weight_of, IsSign, after_turns, pair_boundary, pair_degree, pair_turn, paired_before, paired_behind}, proofs.Ring.{mul-add, mul_assoc, mul_comm}, proofs.SignLemmas.signed-mul, proofs.SumLemmas.{total-append, total-map, value_at-nothing, value_at-same, value_at-scaled, value_at-signed, value_at-sum, weight_of-append}, proofs.MaskLemmas.{abs-signed, weight-map}}
 
 -- ---- values
 pub value_at-before : {X Y : Type 0} (phi : X × Y → ℤ) (y : Y) (ts : List (X × ℤ)) → value_at phi (paired_before y ts) ≡ value_at (λ x. phi (x, y)) ts

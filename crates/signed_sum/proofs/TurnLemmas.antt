@@ -1,10 +1,7 @@
 -- The difference of the turn and the identity, and the sum of the powers of the turn: what they give
 -- one after the other, and with a boundary.
-use Rattle.std.proofs.Common.{◌≡◌, ℕ, zero, suc, List, sym, ap, ◌∙◌, arith, ℤ, pos, ◌-ℤ◌, ◌*ℤ◌}
-use Rattle.std.proofs.lemmas.Int.{ints}
-use Rattle.signed_sum.specs.Names.{value_at, difference, power_sum, after_turns}
-use Rattle.signed_sum.proofs.Ring.{mul-add, mul-sub, mul_assoc, mul_comm, one-mul}
-use Rattle.signed_sum.proofs.SumLemmas.{value_at-nothing, value_at-sub, value_at-sum}
+use Rattle.std.proofs.{Common.{◌≡◌, ℕ, zero, suc, List, sym, ap, ◌∙◌, arith, ℤ, pos, ◌-ℤ◌, ◌*ℤ◌}, lemmas.Int.ints}
+use Rattle.signed_sum.{specs.Names.{value_at, difference, power_sum, after_turns}, proofs.Ring.{mul-add, mul-sub, mul_assoc, mul_comm, one-mul}, proofs.SumLemmas.{value_at-nothing, value_at-sub, value_at-sum}}
 
 -- phi at the element after n turns, with the sign
 abbrev pub at_turn : {X : Type 0} → (X → X × ℤ) → ℕ → (X → ℤ) → X → ℤ

@@ -1,13 +1,6 @@
 -- The turn and the boundary of a word.
-use Rattle.std.proofs.Common.{◌≡◌, ℕ, zero, suc, ◌+◌, ◌*◌, ◌%◌, ◌/◌, ◌<◌, ◌^◌, ◌==◌, true, false, Bool, List, [], ◌∷◌, ◌++◌, length, refl, sym, ◌∙◌, ap, subst, arith, append_assoc, append-nil, ℤ, pos, ◌+ℤ◌, ◌*ℤ◌, All, eqb-true}
-use Rattle.std.proofs.Math.Nat.{pow-succ'}
-use Rattle.std.proofs.lemmas.Bool.{eqb-false}
-use Rattle.std.proofs.lemmas.Int.{ints}
-use Rattle.std.proofs.lemmas.List.Elements.{All-cons, All-map, All-nil, All-weaker}
-use Rattle.signed_sum.proofs.Ring.{mul_comm, one-mul}
-use Rattle.signed_sum.proofs.SignLemmas.{signed-+, signed-mul, signed-parity, signed-signed, signed-zero}
-use Rattle.signed_sum.proofs.SumLemmas.{total-map, total-signed, value_at-same, value_at-signed, value_at-sum}
-use Rattle.signed_sum.specs.Names.{signed, total, value_at, after_turns, behind_letter, last_letter, letter_degree, letters, letters_before_last, mask_of, word_boundary, word_degree, word_turn}
+use Rattle.std.proofs.{Common.{◌≡◌, ℕ, zero, suc, ◌+◌, ◌*◌, ◌%◌, ◌/◌, ◌<◌, ◌^◌, ◌==◌, true, false, Bool, List, [], ◌∷◌, ◌++◌, length, refl, sym, ◌∙◌, ap, subst, arith, append_assoc, append-nil, ℤ, pos, ◌+ℤ◌, ◌*ℤ◌, All, eqb-true}, Math.Nat.pow-succ', lemmas.Bool.eqb-false, lemmas.Int.ints, lemmas.List.Elements.{All-cons, All-map, All-nil, All-weaker}}
+use Rattle.signed_sum.{proofs.Ring.{mul_comm, one-mul}, proofs.SignLemmas.{signed-+, signed-mul, signed-parity, signed-signed, signed-zero}, proofs.SumLemmas.{total-map, total-signed, value_at-same, value_at-signed, value_at-sum}, specs.Names.{signed, total, value_at, after_turns, behind_letter, last_letter, letter_degree, letters, letters_before_last, mask_of, word_boundary, word_degree, word_turn}}
 
 pub degree-append : (deg : Bool → ℕ) (w v : List Bool) → word_degree deg (w ++ v) ≡ word_degree deg w + word_degree deg v
 degree-append deg [] v = omega arith
@@ -19,7 +12,7 @@ two-even zero = refl
 two-even (suc a) = let h = two-even a in omega arith
 
 -- signs as factors
-signed-times : (n : ℕ) (a z : ℤ) → signed n a *ℤ z ≡ signed n (a *ℤ z)
+pub signed-times : (n : ℕ) (a z : ℤ) → signed n a *ℤ z ≡ signed n (a *ℤ z)
 signed-times n a z = mul_comm (signed n a) z ∙ sym (signed-mul n z a) ∙ ap (signed n) (mul_comm z a)
 
 pub times-signed : (n : ℕ) (z : ℤ) → signed n (pos 1) *ℤ z ≡ signed n z

@@ -1,7 +1,5 @@
 -- How many lists of places there are in which none is below the one before it.
-use Rattle.std.proofs.Common.{◌≡◌, ℕ, zero, suc, ◌+◌, ◌∷◌, length, map, refl, sym, ap, ◌∙◌, arith, min, length-append, nat_lt}
-use Rattle.std.proofs.lemmas.Bool.Decides.{nat_tests}
-use Rattle.std.proofs.lemmas.List.{length-map}
+use Rattle.std.proofs.{Common.{◌≡◌, ℕ, zero, suc, ◌+◌, ◌∷◌, length, map, refl, sym, ap, ◌∙◌, arith, min, length-append, nat_lt}, lemmas.Bool.Decides.nat_tests, lemmas.List.length-map}
 use Rattle.interval_cut_law.specs.Names.{rising_lists}
 use Rattle.table_reduction_law.specs.Names.{binomial}
 

@@ -1,19 +1,11 @@
 -- The terms with marks are those of the definition, and their sum is the composition.
-use Rattle.std.proofs.Common.{◌≡◌, ℕ, suc, ◌+◌, ◌-◌, ◌*◌, ◌≤◌, true, false, cond, eqb, List, [], ◌∷◌, ◌++◌, length, map, refl, sym, ap, ◌∙◌, arith, subst, ℤ, pos, negsuc, All}
-use Rattle.std.proofs.lemmas.Int.{ints}
-use Rattle.std.proofs.lemmas.List.{length-map}
-use Rattle.std.proofs.lemmas.List.Elements.{All-head, All-tail, All-weaker}
-use Rattle.signed_sum.specs.Names.{inversion_count, rearrangement_sign, stands_before, is_degenerate, numbers_from, normalized, value_at}
-use Rattle.signed_sum.proofs.Names.{value_at-kept_terms, numbers_from-append}
+use Rattle.std.proofs.{Common.{◌≡◌, ℕ, suc, ◌+◌, ◌-◌, ◌*◌, ◌≤◌, true, false, cond, eqb, List, [], ◌∷◌, ◌++◌, length, map, refl, sym, ap, ◌∙◌, arith, subst, ℤ, pos, negsuc, All}, lemmas.Int.ints, lemmas.List.length-map, lemmas.List.Elements.{All-head, All-tail, All-weaker}}
+use Rattle.signed_sum.{specs.Names.{inversion_count, rearrangement_sign, stands_before, is_degenerate, numbers_from, normalized, value_at}, proofs.Names.{value_at-kept_terms, numbers_from-append}}
 use Rattle.surjection_law.specs.Names.{caesura_count, arity, multiplicity}
 use Rattle.interval_cut_law.specs.Names.{rising_lists}
-use Rattle.operad_law.specs.FormalSums.{IsSameSum}
-use Rattle.operad_law.specs.Parity.{is_odd}
-use Rattle.operad_law.proofs.WordLemmas.{signed-odd}
-use Rattle.composition_law.specs.Surjections.{composition, cut_entries, cut_term, cuts_at, grown, lifted, spliced, symbols_of, values_of, with_values, IsRising}
-use Rattle.surjection.specs.Names.{AreComposed, IsSurjection-term, length-values, multiplicity-grown, occurs-k, values-with_values, IsReady, is_odd_order, marked, marked_term, terms_behind, AddsTerms, Mark, Outer, Inner}
-use Rattle.composition_law.proofs.Cuts.{IsCutOf, each_cut}
-use Rattle.surjection.proofs.OrderLemmas.{spliced-ordered}
+use Rattle.operad_law.{specs.FormalSums.IsSameSum, specs.Parity.is_odd, proofs.WordLemmas.signed-odd}
+use Rattle.composition_law.{specs.Surjections.{composition, cut_entries, cut_term, cuts_at, grown, lifted, spliced, symbols_of, values_of, with_values, IsRising}, proofs.Cuts.{IsCutOf, each_cut}}
+use Rattle.surjection.{specs.Names.{AreComposed, IsSurjection-term, length-values, multiplicity-grown, occurs-k, values-with_values, IsReady, is_odd_order, marked, marked_term, terms_behind, AddsTerms, Mark, Outer, Inner}, proofs.OrderLemmas.spliced-ordered}
 
 values-marked : (c : Mark) (u : List ℕ) → values_of (marked c u) ≡ u
 values-marked c [] = refl

@@ -1,16 +1,11 @@
 -- The sign of a term: the marks tell in which order the caesuras of the two lists come.
-use Rattle.std.proofs.Common.{◌≡◌, ℕ, zero, suc, ◌+◌, ◌-◌, ◌*◌, ◌<◌, ◌≤◌, ◌≢◌, ◌⊎◌, ◌==◌, Bool, true, false, not, cond, List, [], ◌∷◌, ◌++◌, length, map, drop, refl, sym, ap, ◌∙◌, inl, inr, arith, subst, eq-eqb, ne_eqb}
-use Rattle.std.proofs.lemmas.Bool.{cases_eq}
-use Rattle.signed_sum.specs.Names.{count_before, inversion_count, stands_before, numbers_from, occurs}
-use Rattle.signed_sum.proofs.Names.{Apart, apart-above, apart-append, apart-below, before-first, pairs-among, pairs-later, length-numbers_from, occurs-01}
-use Rattle.surjection_law.specs.Names.{caesura_count, multiplicity}
-use Rattle.surjection_law.proofs.BoundaryByValueTwice.{multiplicity-other, multiplicity-same}
-use Rattle.surjection_law.proofs.SurjectionTerms.{multiplicity-at_least}
-use Rattle.operad_law.specs.Parity.{is_odd}
-use Rattle.operad_law.proofs.WordLemmas.{differ, differ-assoc, differ-none, is_odd-plus}
-use Rattle.composition_law.specs.Surjections.{numbered, piece, spliced, symbols_of, values_of, with_values, IsRising}
-use Rattle.surjection.specs.Names.{occurs-mapped, is_odd_order_from, marked, Mark, Plain, Outer, Inner}
-use Rattle.composition_law.proofs.Cuts.{rising-bound}
+use Rattle.std.proofs.{Common.{◌≡◌, ℕ, zero, suc, ◌+◌, ◌-◌, ◌*◌, ◌<◌, ◌≤◌, ◌≢◌, ◌⊎◌, ◌==◌, Bool, true, false, not, cond, List, [], ◌∷◌, ◌++◌, length, map, drop, refl, sym, ap, ◌∙◌, inl, inr, arith, subst, eq-eqb, ne_eqb}, lemmas.Bool.cases_eq}
+use Rattle.signed_sum.{specs.Names.{count_before, inversion_count, stands_before, numbers_from, occurs}, proofs.Names.{Apart, apart-above, apart-append, apart-below, before-first, pairs-among, pairs-later, length-numbers_from, occurs-01}}
+use Rattle.surjection_law.{specs.Names.{caesura_count, multiplicity}, proofs.Multiplicity.{multiplicity-other, multiplicity-same}, proofs.SurjectionTerms.multiplicity-at_least}
+use Rattle.operad_law.{specs.Parity.is_odd, proofs.WordLemmas.{differ, differ-assoc, differ-none, is_odd-plus}}
+use Rattle.composition_law.{specs.Surjections.{numbered, piece, spliced, symbols_of, values_of, with_values, IsRising}, proofs.Cuts.rising-bound}
+use Rattle.table_reduction_law.proofs.Permutations.{map-in}
+use Rattle.surjection.specs.Names.{is_odd_order_from, marked, Mark, Plain, Outer, Inner}
 
 -- ---- entries with numbers and with marks
 
@@ -115,7 +110,7 @@ module _ (k : ℕ) (f g : ℕ → ℕ) where
   ]
 
   gone : (x : ℕ) (u : List ℕ) → k ≡ f x → multiplicity k (map f u) ≡ 0 → occurs x u ≡ 0
-  gone x u e z = elim (occurs-01 x u) [ inl o ↦ o | inr o ↦ absurd (let p = multiplicity-at_least k (map f u) (ap (λ j. occurs j (map f u)) e ∙ occurs-mapped f x u o) in omega (arith, p, z)) ]
+  gone x u e z = elim (occurs-01 x u) [ inl o ↦ o | inr o ↦ absurd (let p = multiplicity-at_least k (map f u) (ap (λ j. occurs j (map f u)) e ∙ map-in f x u o) in omega (arith, p, z)) ]
 
   pub spliced-ordered : (u : List ℕ) (a b c n : ℕ) (p r : List ℕ) → c + length r ≡ suc n → IsRising c p n → length p + 1 ≡ multiplicity k (map f u) →
       AreOrdered a (caesura_count u) b (caesura_count r) (spliced k c (with_values g (numbered b r)) (with_values f (numbered a u)) p) (spliced k c (with_values g (marked Inner r)) (with_values f (marked Outer u)) p)

@@ -1,28 +1,10 @@
 -- Equal neighbours and gaps, step by step; and that a list without a fault is a surjection.
-use Rattle.std.proofs.Common.{◌≡◌, ℕ, zero, suc, ◌+◌, ◌-◌, ◌<◌, ◌≤◌, ◌==◌, max, true, false, List, [], ◌∷◌, length, drop, get_or, None, Some, is_some, refl, sym, ap, ◌∙◌, inl, inr, arith, find, eq-eqb, ne_eqb, eqb-true}
-use Rattle.std.proofs.Math.Seq.{drop-cons}
-use Rattle.std.proofs.lemmas.Bool.{cases_Bool, cases_eq, eqb-false}
-use Rattle.signed_sum.specs.Names.{begins_with, is_degenerate, numbers_from, occurs}
-use Rattle.signed_sum.proofs.Names.{numbers_from-least, occurs-01, occurs-cons, occurs-mid}
+use Rattle.std.proofs.{Common.{◌≡◌, ℕ, zero, suc, ◌+◌, ◌-◌, ◌<◌, ◌≤◌, ◌==◌, max, true, false, List, [], ◌∷◌, length, drop, None, Some, is_some, refl, sym, ap, ◌∙◌, inl, inr, arith, find, ne_eqb, eqb-true}, lemmas.Bool.{cases_Bool, cases_eq, eqb-false}}
+use Rattle.signed_sum.{specs.Names.{begins_with, is_degenerate, numbers_from, occurs}, proofs.Names.{occurs-01, occurs-mid, occurs-range}}
 use Rattle.surjection_law.specs.Names.{IsOnto, IsSurjection, arity}
-use Rattle.operad_law.proofs.PermLemmas.{numbers_from-has}
-use Rattle.surjection.specs.Names.{equal_neighbours_from, gap_of}
+use Rattle.surjection.specs.{ActionLaws.occurs-arity, Names.{equal_neighbours_from, gap_of}}
 
 -- ---- equal neighbours
-first_two : (xs : List ℕ) (i : ℕ) → i + 1 < length xs → drop i xs ≡ get_or xs i 0 ∷ get_or xs (i + 1) 0 ∷ drop (suc (i + 1)) xs
-first_two xs i h =
-    let e : i + 1 ≡ suc i = omega arith in
-    drop-cons xs i 0 (omega arith) ∙ ap (λ v. get_or xs i 0 ∷ v) (ap (λ k. drop k xs) (sym e) ∙ drop-cons xs (i + 1) 0 h)
-
-pub neighbours-found : (xs : List ℕ) (i : ℕ) → i + 1 < length xs → get_or xs i 0 ≡ get_or xs (i + 1) 0 → equal_neighbours_from (i + 1) (drop i xs) ≡ Some (i + 2)
-neighbours-found xs i h e =
-    let n : suc (i + 1) ≡ i + 2 = omega arith in
-    rw (first_two xs i h, eq-eqb (get_or xs i 0) (get_or xs (i + 1) 0) e) (ap Some n)
-
-pub neighbours-next : (xs : List ℕ) (i : ℕ) → i + 1 < length xs → (get_or xs i 0 ≡ get_or xs (i + 1) 0 → ⊥) → equal_neighbours_from (i + 1) (drop i xs) ≡ equal_neighbours_from (i + 1 + 1) (drop (i + 1) xs)
-neighbours-next xs i h n =
-    let m : i + 1 + 1 ≡ suc (i + 1) = omega arith in
-    rw (first_two xs i h, ne_eqb (get_or xs i 0) (get_or xs (i + 1) 0) n, m) (ap (equal_neighbours_from (suc (i + 1))) (sym (drop-cons xs (i + 1) 0 h)))
 
 pub neighbours-end : (xs : List ℕ) (i from : ℕ) → length xs ≤ i + 1 → equal_neighbours_from from (drop i xs) ≡ None
 neighbours-end [] zero from h = refl
@@ -52,9 +34,6 @@ gap-next u v most h n =
     let o : occurs v u ≡ 1 = eqb-true (occurs v u) 1 n in
     rw (e, o) (ap (λ k. find (λ w. occurs w u == 0) (numbers_from k (most - (v + 1)))) s)
 
-pub gap-end : (u : List ℕ) (v most : ℕ) → most ≤ v → find (λ w. occurs w u == 0) (numbers_from v (most - v)) ≡ None
-gap-end u v most h = let e : most - v ≡ 0 = omega arith in rw e refl
-
 -- ---- no fault
 find-none : (u : List ℕ) (a n v : ℕ) → find (λ w. occurs w u == 0) (numbers_from a n) ≡ None → a ≤ v → v < a + n → occurs v u ≡ 1
 find-none u a zero v e h k = absurd (omega arith)
@@ -68,23 +47,15 @@ find-none u a (suc n) v e h k = elim (cases_Bool (occurs a u == 0)) [
       ]
 ]
 
-occurs-arity : (u : List ℕ) → 1 ≤ length u → occurs (arity u) u ≡ 1
-occurs-arity [] h = absurd (omega arith)
-occurs-arity (x ∷ []) h = let e : max x 0 ≡ x = omega arith in rw e (occurs-mid x [] [])
-occurs-arity (x ∷ y ∷ u) h = elim (cases_eq (arity (x ∷ y ∷ u)) x) [
+arity-occurs : (u : List ℕ) → 1 ≤ length u → occurs (arity u) u ≡ 1
+arity-occurs [] h = absurd (omega arith)
+arity-occurs (x ∷ []) h = let e : max x 0 ≡ x = omega arith in rw e (occurs-mid x [] [])
+arity-occurs (x ∷ y ∷ u) h = elim (cases_eq (arity (x ∷ y ∷ u)) x) [
   | inl e ↦ ap (λ w. occurs w (x ∷ y ∷ u)) e ∙ occurs-mid x [] (y ∷ u)
   | inr n ↦
       let e : arity (x ∷ y ∷ u) ≡ arity (y ∷ u) = omega arith in
-      rw (ne_eqb (arity (x ∷ y ∷ u)) x n) (ap (λ w. occurs w (y ∷ u)) e ∙ occurs-arity (y ∷ u) (omega arith))
+      rw (ne_eqb (arity (x ∷ y ∷ u)) x n) (ap (λ w. occurs w (y ∷ u)) e ∙ arity-occurs (y ∷ u) (omega arith))
 ]
-
-most_value : (v : ℕ) (u : List ℕ) → occurs v u ≡ 1 → v ≤ arity u
-most_value v [] o = absurd (omega (arith, o))
-most_value v (x ∷ u) o = elim (occurs-cons v x u) [ inl e ↦ omega (arith, e) | inr e ↦ omega (arith, most_value v u (sym e ∙ o)) ]
-
-up_to : (a m v : ℕ) → occurs v (numbers_from a m) ≡ 1 → v < a + m
-up_to a zero v o = absurd (omega (arith, o))
-up_to a (suc m) v o = elim (occurs-cons v a (numbers_from (suc a) m)) [ inl e ↦ omega (arith, e) | inr e ↦ omega (arith, up_to (suc a) m v (sym e ∙ o)) ]
 
 -- without a gap each value from 1 to the greatest comes, and no other
 no_gap : (u : List ℕ) → 1 ≤ length u → gap_of u ≡ None → IsOnto (arity u) u
@@ -93,24 +64,15 @@ no_gap u some e v = elim (cases_Bool (occurs 0 u == 1)) [
   | inr z ↦
       let r : find (λ w. occurs w u == 0) (numbers_from 1 (arity u - 1)) ≡ None = rw z at e in
       let none : occurs 0 u ≡ 0 = elim (occurs-01 0 u) [ inl k ↦ k | inr k ↦ absurd (eqb-false (occurs 0 u) 1 z k) ] in
-      elim (occurs-01 v u) [
-        | inr o ↦
-            let pos : 1 ≤ v = elim (cases_eq v 0) [ inl q ↦ absurd (let k : occurs 0 u ≡ 1 = ap (λ w. occurs w u) (sym q) ∙ o in omega arith) | inr q ↦ omega arith ] in
-            o ∙ sym (numbers_from-has 1 (arity u) v pos (omega (arith, most_value v u o)))
-        | inl o ↦ elim (occurs-01 v (numbers_from 1 (arity u))) [
-          | inl k ↦ o ∙ sym k
-          | inr k ↦ absurd (
-              let least : (w : ℕ) → occurs w (numbers_from 1 (arity u)) ≡ 1 → 1 ≤ w = λ w q. elim (cases_eq w 0) [
-                | inl zero_is ↦ absurd (let l = numbers_from-least 1 (arity u) 0 (ap (λ j. occurs j (numbers_from 1 (arity u))) (sym zero_is) ∙ q) in omega (arith, l))
-                | inr some_is ↦ omega arith
-              ] in
-              let below = up_to 1 (arity u) v k in
-              elim (cases_eq v (arity u)) [
-                | inl top ↦ let q : occurs v u ≡ 1 = ap (λ w. occurs w u) top ∙ occurs-arity u some in omega arith
-                | inr n ↦ let q = find-none u 1 (arity u - 1) v r (least v k) (omega arith) in omega arith
-              ])
-        ]
-      ]
+      occurs-range 1 (arity u) u
+      (λ w o. (
+        elim (cases_eq w 0) [ inl q ↦ absurd (let k : occurs 0 u ≡ 1 = ap (λ x. occurs x u) (sym q) ∙ o in omega arith) | inr q ↦ omega arith ],
+        omega (arith, occurs-arity w u o),
+      ))
+      (λ w a b. elim (cases_eq w (arity u)) [
+        | inl top ↦ ap (λ x. occurs x u) top ∙ arity-occurs u some
+        | inr n ↦ find-none u 1 (arity u - 1) w r a (omega arith)
+      ]) v
 ]
 
 pub no_fault : (u : List ℕ) → 1 ≤ length u → length u ≤ 255 → arity u ≤ 32 → gap_of u ≡ None → equal_neighbours_from 1 u ≡ None → IsSurjection u

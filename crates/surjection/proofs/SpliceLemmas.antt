@@ -1,7 +1,5 @@
 -- The entries of a term, as they are written one after the other.
-use Rattle.std.proofs.Common.{◌≡◌, ℕ, zero, suc, ◌+◌, ◌-◌, ◌<◌, ◌≤◌, ◌≢◌, ◌==◌, cond, List, [], ◌∷◌, ◌++◌, length, take, drop, get_or, refl, sym, ap, ◌∙◌, arith, subst, append_assoc, eq-eqb, ne_eqb, drop-drop, get_or-drop, length-drop, take_all}
-use Rattle.std.proofs.Math.Seq.{drop-cons}
-use Rattle.std.proofs.lemmas.List.{drop_all}
+use Rattle.std.proofs.{Common.{◌≡◌, ℕ, zero, suc, ◌+◌, ◌-◌, ◌<◌, ◌≤◌, ◌≢◌, ◌==◌, cond, List, [], ◌∷◌, ◌++◌, length, take, drop, get_or, refl, sym, ap, ◌∙◌, arith, subst, append_assoc, eq-eqb, ne_eqb, drop-drop, get_or-drop, length-drop, take_all}, Math.Seq.drop-cons, lemmas.List.drop_all}
 use Rattle.signed_sum.specs.Names.{occurs}
 use Rattle.composition_law.specs.Surjections.{piece, spliced, with_values, IsRising}
 use Rattle.surjection.specs.Names.{marked, Mark, Plain}

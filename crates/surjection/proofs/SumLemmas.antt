@@ -1,10 +1,6 @@
 -- The sum over the cuts that begin with a list, while it is added up.
-use Rattle.std.proofs.Common.{◌≡◌, ℕ, zero, suc, ◌+◌, ◌-◌, ◌<◌, ◌≤◌, ◌^◌, true, false, cond, List, [], ◌∷◌, ◌++◌, length, map, take, refl, sym, ap, ◌∙◌, arith, append_assoc, append-nil, length-append, ℤ, ◌+ℤ◌, nat_lt, take_at}
-use Rattle.std.proofs.lemmas.Int.{ints}
-use Rattle.std.proofs.lemmas.Bool.Decides.{nat_tests}
-use Rattle.std.proofs.lemmas.List.{length-map}
-use Rattle.signed_sum.specs.Names.{normalized, value_at, weight_of}
-use Rattle.signed_sum.proofs.Names.{value_at-append}
+use Rattle.std.proofs.{Common.{◌≡◌, ℕ, zero, suc, ◌+◌, ◌-◌, ◌<◌, ◌≤◌, ◌^◌, true, false, cond, List, [], ◌∷◌, ◌++◌, length, map, take, refl, sym, ap, ◌∙◌, arith, append_assoc, append-nil, length-append, ℤ, ◌+ℤ◌, nat_lt, take_at}, lemmas.Int.ints, lemmas.Bool.Decides.nat_tests, lemmas.List.length-map}
+use Rattle.signed_sum.{specs.Names.{normalized, value_at, weight_of}, proofs.Names.value_at-append}
 use Rattle.interval_cut_law.specs.Names.{rising_lists}
 use Rattle.surjection.specs.Names.{marked_term, terms_behind, AddsTerms, Mark}
 use Rattle.composition_law.specs.Surjections.{IsRising}
@@ -57,14 +53,6 @@ pub record IsPartOfSum (k : ℕ) (outer inner : List (ℕ × Mark)) (cut : List 
   pub grows : weight_of sum + length (lists_from place (length inner - 1) left) ≤ length (rising_lists from (length inner - 1 - from) left) + weight_of old
 
 module _ (k : ℕ) (outer inner : List (ℕ × Mark)) (cut : List ℕ) (from left : ℕ) (old : List (List ℕ × ℤ)) where
-  pub part-start : from < length inner → IsPartOfSum k outer inner cut from from left old old
-  part-start h =
-      let e = lists_from-is from (length inner - 1) left (omega arith) in
-      record {
-        sums = λ phi. let q = ap (λ ps. value_at (normalized phi) (terms_behind k outer inner cut ps)) e in omega (arith, ints, q);
-        grows = let q = ap length e in omega (arith, q);
-      }
-
   pub part-end : (place : ℕ) (sum : List (List ℕ × ℤ)) → length inner ≤ place → 1 ≤ length inner → IsPartOfSum k outer inner cut from place left old sum → AddsTerms (terms_behind k outer inner cut (rising_lists from (length inner - 1 - from) left)) old sum
   part-end place sum h s w =
       let e = lists_from-past place (length inner - 1) left (omega arith) in

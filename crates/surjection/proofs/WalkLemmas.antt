@@ -1,21 +1,9 @@
 -- The walk over the places of a surjection that sums up its boundary: what is to come, and what is kept.
-use Rattle.std.proofs.Common.{◌≡◌, ℕ, zero, suc, ◌+◌, ◌-◌, ◌≤◌, ◌<◌, ◌≢◌, Bool, true, false, cond, eqb, List, [], ◌∷◌, ◌++◌, length, take, drop, set, get_or, replicate, map, get_or-set_same, append_assoc, refl, sym, ap, ◌∙◌, inl, inr, arith, subst, IsTrue, ◌==◌, ℤ, pos, neg_ℤ, ◌+ℤ◌, ◌*ℤ◌, nat_abs, remove, eq-eqb, eqb-true, ne_eqb}
-use Rattle.std.specs.Cmp.Lexicographic.{slice_cmp}
-use Rattle.std.specs.Ordering.{nat_cmp}
-use Rattle.std.proofs.Math.Seq.{take-suc, drop-cons}
-use Rattle.std.proofs.lemmas.Int.{ints}
-use Rattle.std.proofs.lemmas.Bool.{cases_eq, eqb-false}
-use Rattle.signed_sum.specs.Names.{is_degenerate, occurs, is_zero, normalized, value_at, weight_of, without_each}
-use Rattle.signed_sum.proofs.Names.{fun_ext, restricted-gone, restricted-there, value_at-nonzero_terms, weighted_sum-cons, weighted_sum-nil, occurs-01}
-use Rattle.signed_sum.proofs.SumLemmas.{weighted_sum}
-use Rattle.surjection_law.specs.Names.{no_sign, place_signs_from, surjection_boundary, with_sign, IsSurjection, arity}
-use Rattle.surjection_law.proofs.BoundaryTwice.{with_sign-other, with_sign-same}
-use Rattle.surjection_law.proofs.SurjectionTerms.{EachTerm, EachTerm-face, IsFace, IsSurjection-face}
-use Rattle.operad_law.specs.FormalSums.{IsSameSum, plus_term}
-use Rattle.operad_law.proofs.WordLemmas.{drop_rest}
+use Rattle.std.{proofs.Common.{◌≡◌, ℕ, zero, suc, ◌+◌, ◌-◌, ◌≤◌, ◌<◌, ◌≢◌, Bool, true, false, eqb, List, [], ◌∷◌, ◌++◌, length, take, drop, set, get_or, replicate, map, get_or-set_same, append_assoc, refl, sym, ap, ◌∙◌, inl, inr, arith, subst, IsTrue, ◌==◌, ℤ, pos, neg_ℤ, ◌+ℤ◌, ◌*ℤ◌, nat_abs, remove, eq-eqb, eqb-true, ne_eqb}, specs.Cmp.Lexicographic.slice_cmp, specs.Ordering.nat_cmp, proofs.Math.Seq.{take-suc, drop-cons}, proofs.lemmas.Int.ints, proofs.lemmas.Bool.{cases_eq, eqb-false}}
+use Rattle.signed_sum.{specs.Names.{is_degenerate, occurs, is_zero, normalized, value_at, weight_of, without_each}, proofs.Names.{fun_ext, restricted-gone, restricted-there, value_at-nonzero_terms, weighted_sum-cons, weighted_sum-nil, occurs-01}, proofs.SumLemmas.weighted_sum}
+use Rattle.surjection_law.{specs.Names.{no_sign, place_signs_from, surjection_boundary, with_sign, IsSurjection, arity}, proofs.BoundaryPlaces.{with_sign-other, with_sign-same}, proofs.SurjectionTerms.{EachTerm, EachTerm-face, IsFace, IsSurjection-face}}
+use Rattle.operad_law.{specs.FormalSums.{IsSameSum, plus_term}, proofs.WordLemmas.drop_rest, proofs.PlusTerm.{value_at-plus_term, weight_of-plus_term}, proofs.ListOrder.equal_numbers}
 use Rattle.surjection.specs.Names.{comes_again, InRange, in_range, AddsList}
-use Rattle.operad_law.proofs.PlusTerm.{value_at-plus_term, weight_of-plus_term}
-use Rattle.operad_law.proofs.ListOrder.{equal_numbers}
 
 -- the lists without each place of xs, behind pre
 abbrev pub rest_lists : List ℕ → List ℕ → List (List ℕ)
@@ -52,10 +40,6 @@ kept_signs-set bs x s h = fun_ext (λ y. elim (cases_eq y x) [
   | inl e ↦ ap (λ v. get_or (set bs x s) v (pos 0)) e ∙ get_or-set_same bs x s (pos 0) h ∙ sym (with_sign-same x y s (kept_signs bs) e)
   | inr e ↦ set_elsewhere bs x y s e ∙ sym (with_sign-other x y s (kept_signs bs) e)
 ])
-
--- the sign of the next place, and what is kept for those after it
-abbrev pub next_sign : ℤ → (ℕ → ℤ) → ℕ → List ℕ → ℤ
-next_sign s m x xs = cond (eqb (occurs x xs) 0) (neg_ℤ (m x)) s
 
 -- what a walk over the places has still to add, at phi
 abbrev pub to_come : (List ℕ → ℤ) → List ℕ → ℤ → (ℕ → ℤ) → List ℕ → ℤ

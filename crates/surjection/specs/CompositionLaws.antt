@@ -1,31 +1,13 @@
 -- The laws of compositions of surjections, which the impl cites: the terms are surjections, their
 -- arity is the sum of the two less 1, and their degrees sum.
-use Rattle.std.proofs.Common.{◌≡◌, ℕ, zero, suc, ◌+◌, ◌-◌, ◌<◌, ◌≤◌, ◌≢◌, ◌⊎◌, Bool, true, false, cond, eqb, List, [], ◌∷◌, ◌++◌, length, map, drop, refl, sym, ap, ◌∙◌, inl, inr, arith, subst, length-append}
-use Rattle.std.specs.Prelude.{ℤ, ◌+ℤ◌, All, nat_lt}
-use Rattle.std.proofs.lemmas.Bool.{cases_eq, eq-eqb, ne_eqb}
-use Rattle.std.proofs.lemmas.Bool.Decides.{nat_tests}
-use Rattle.std.proofs.lemmas.List.{length-map, length-drop}
-use Rattle.std.proofs.lemmas.List.Elements.{All-append, All-cons, All-map, All-nil, All-weaker, All-head, All-tail}
-use Rattle.signed_sum.specs.Names.{is_degenerate, numbers_from, occurs, kept_terms, signed, value_at}
-use Rattle.signed_sum.proofs.Names.{occurs-01, occurs-apart, occurs-cons, occurs-later, occurs-more, occurs-self, occurs-tail}
-use Rattle.surjection_law.specs.Names.{caesura_count, arity, IsOnto, IsSurjection, multiplicity, surjection_degree, surjection_boundary}
-use Rattle.surjection_law.proofs.BoundaryByValueTwice.{multiplicity-other, multiplicity-same}
-use Rattle.surjection_law.proofs.SurjectionTerms.{arity-le, arity-positive, multiplicity-at_least}
-use Rattle.interval_cut_law.specs.Names.{rising_lists}
-use Rattle.operad_law.proofs.PermLemmas.{numbers_from-has}
+use Rattle.std.{proofs.Common.{◌≡◌, ℕ, zero, suc, ◌+◌, ◌-◌, ◌<◌, ◌≤◌, ◌≢◌, ◌⊎◌, Bool, true, false, cond, eqb, List, [], ◌∷◌, ◌++◌, length, map, drop, refl, sym, ap, ◌∙◌, inl, inr, arith, subst, length-append}, specs.Prelude.{ℤ, ◌+ℤ◌, All, nat_lt}, proofs.lemmas.Bool.{cases_eq, eq-eqb, ne_eqb}, proofs.lemmas.Bool.Decides.nat_tests, proofs.lemmas.List.{length-map, length-drop}, proofs.lemmas.List.Elements.{All-cons, All-map, All-nil, All-weaker, All-head, All-tail}}
+use Rattle.signed_sum.{specs.Names.{is_degenerate, numbers_from, occurs, kept_terms, signed, value_at}, proofs.Names.{occurs-01, occurs-apart, occurs-cons, occurs-later, occurs-more, occurs-range, occurs-self, occurs-tail, range-in, range-out}}
+use Rattle.surjection_law.{specs.Names.{caesura_count, arity, IsOnto, IsSurjection, multiplicity, surjection_degree, surjection_boundary}, proofs.Multiplicity.{multiplicity-other, multiplicity-same}, proofs.SurjectionTerms.{arity-le, arity-positive, multiplicity-at_least}, proofs.Caesuras.caesura_law}
 use Rattle.surjection.specs.ActionLaws.{InRange, among, arity-is, in_numbers, in_range, range-append}
-use Rattle.composition_law.proofs.Surjections.{surjection_leibniz}
-use Rattle.surjection_law.proofs.Caesuras.{caesura_law}
-use Rattle.composition_law.specs.Surjections.{IsWithinLimits, composition, cut_entries, cut_term, cuts_at, grown, lifted, numbered, piece, spliced, values_of, with_values, IsRising}
-use Rattle.composition_law.proofs.Cuts.{IsCutOf, each_cut, rising-bound}
+use Rattle.table_reduction_law.proofs.Permutations.{map-in}
+use Rattle.composition_law.{proofs.Surjections.{grown-high, grown-low, surjection_leibniz}, specs.Surjections.{IsWithinLimits, composition, cut_entries, cut_term, cuts_at, grown, lifted, numbered, piece, spliced, values_of, with_values, IsRising}, proofs.Cuts.{IsCutOf, each_cut, rising-bound}}
 
 -- ---- values
-
-grown-low : (k s x : ℕ) → x ≤ k → grown k s x ≡ x
-grown-low k s x h = let e : nat_lt k x ≡ false = grind (arith, nat_tests) in ap (λ b. cond b (x + (s - 1)) x) e
-
-grown-high : (k s x : ℕ) → k < x → grown k s x ≡ x + (s - 1)
-grown-high k s x h = let e : nat_lt k x ≡ true = grind (arith, nat_tests) in ap (λ b. cond b (x + (s - 1)) x) e
 
 low_or_high : (x k : ℕ) → (x ≤ k) ⊎ (k < x)
 low_or_high zero k = inl (omega arith)
@@ -42,27 +24,12 @@ pub multiplicity-grown : (k s : ℕ) (u : List ℕ) → multiplicity k (map (gro
 multiplicity-grown k s [] = refl
 multiplicity-grown k s (x ∷ u) = λ i. cond (same-test k s x i) (suc (multiplicity-grown k s u i)) (multiplicity-grown k s u i)
 
-pub occurs-mapped : (f : ℕ → ℕ) (x : ℕ) (u : List ℕ) → occurs x u ≡ 1 → occurs (f x) (map f u) ≡ 1
-occurs-mapped f x [] h = absurd (omega (arith, h))
-occurs-mapped f x (y ∷ u) h = elim (occurs-cons x y u) [
-  | inl e ↦ ap (λ z. occurs (f z) (map f (y ∷ u))) e ∙ occurs-self (f y) (map f u)
-  | inr e ↦ occurs-tail (f x) (f y) (map f u) (occurs-mapped f x u (sym e ∙ h))
-]
-
 range-mapped : (f : ℕ → ℕ) (m n : ℕ) (u : List ℕ) → ((x : ℕ) → 1 ≤ x → x ≤ m → (1 ≤ f x) × (f x ≤ n)) → InRange m u → InRange n (map f u)
 range-mapped f m n [] h r = tt
 range-mapped f m n (x ∷ u) h r = let w = h x r.0 r.1 in (w.0, w.1, range-mapped f m n u h r.2)
 
 onto-covered : (n : ℕ) (w : List ℕ) → InRange n w → ((x : ℕ) → 1 ≤ x → x ≤ n → occurs x w ≡ 1) → IsOnto n w
-onto-covered n w r h v = elim (occurs-01 v (numbers_from 1 n)) [
-  | inr one ↦
-      let b : InRange n (v ∷ []) = among n (v ∷ []) (λ x k. elim (occurs-cons x v []) [ inl e ↦ ap (λ y. occurs y (numbers_from 1 n)) e ∙ one | inr e ↦ absurd (let z : occurs x [] ≡ 1 = sym e ∙ k in omega (arith, z)) ]) in
-      h v b.0 b.1 ∙ sym one
-  | inl none ↦ elim (occurs-01 v w) [
-    | inl k ↦ k ∙ sym none
-    | inr k ↦ absurd (let one = in_numbers n w r v k in omega arith)
-  ]
-]
+onto-covered n w r h = occurs-range 1 n w (λ v o. range-out v 1 n (in_numbers n w r v o)) (λ v a b. h v a (omega (arith, b)))
 
 pub values-numbered : (n : ℕ) (u : List ℕ) → values_of (numbered n u) ≡ u
 values-numbered n [] = refl
@@ -250,13 +217,13 @@ module _ {S : Type 0} (k : ℕ) (u v : List ℕ) (outer inner : List (ℕ × S))
 
   from-outer : (x : ℕ) → 1 ≤ x → x ≤ arity u → grown k (arity v) x ≢ k → occurs (grown k (arity v) x) term ≡ 1
   from-outer x a b d =
-      let o : occurs x u ≡ 1 = c.outer.onto x ∙ numbers_from-has 1 (arity u) x a (omega (arith, b)) in
-      outer-spliced (grown k (arity v) x) k 0 inner outer cut d (ap (occurs (grown k (arity v) x)) eo ∙ occurs-mapped (grown k (arity v)) x u o)
+      let o : occurs x u ≡ 1 = c.outer.onto x ∙ range-in x 1 (arity u) a (omega (arith, b)) in
+      outer-spliced (grown k (arity v) x) k 0 inner outer cut d (ap (occurs (grown k (arity v) x)) eo ∙ map-in (grown k (arity v)) x u o)
 
   from-inner : (y : ℕ) → 1 ≤ y → y ≤ arity v → occurs (lifted k y) term ≡ 1
   from-inner y a b =
-      let o : occurs y v ≡ 1 = c.inner.onto y ∙ numbers_from-has 1 (arity v) y a (omega (arith, b)) in
-      put.covers (lifted k y) (ap (occurs (lifted k y)) ei ∙ occurs-mapped (lifted k) y v o)
+      let o : occurs y v ≡ 1 = c.inner.onto y ∙ range-in y 1 (arity v) a (omega (arith, b)) in
+      put.covers (lifted k y) (ap (occurs (lifted k y)) ei ∙ map-in (lifted k) y v o)
 
   covered : (x : ℕ) → 1 ≤ x → x ≤ n → occurs x term ≡ 1
   covered x a b =
@@ -328,7 +295,7 @@ module _ (k : ℕ) (u v : List ℕ) (c : AreComposed k u v) where
   ei = values-with_values (lifted k) (numbered (caesura_count u) v) ∙ ap (map (lifted k)) (values-numbered (caesura_count u) v)
 
   pub occurs-k : 1 ≤ multiplicity k u
-  occurs-k = let h = c.within in multiplicity-at_least k u (c.outer.onto k ∙ numbers_from-has 1 (arity u) k c.some (omega (arith, h)))
+  occurs-k = let h = c.within in multiplicity-at_least k u (c.outer.onto k ∙ range-in k 1 (arity u) c.some (omega (arith, h)))
 
   pub each_term : (P : List ℕ → Type 0) → ((cut : List ℕ) → IsRising 0 cut (length v - 1) → length cut + 1 ≡ multiplicity k u → is_degenerate (values_of (cut_entries k u v cut)) ≡ false → P (values_of (cut_entries k u v cut))) → All (λ t. P t.0) (composition k u v)
   each_term P h =

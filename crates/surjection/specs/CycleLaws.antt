@@ -1,17 +1,10 @@
 -- The laws of the turn of surjections, which the impls cite.
-use Rattle.std.proofs.Common.{◌≡◌, ℕ, zero, suc, ◌+◌, ◌-◌, ◌%◌, ◌<◌, ◌≤◌, ◌==◌, Bool, List, [], ◌∷◌, map, refl, sym, ap, ◌∙◌, inl, arith, subst, IsTrue}
-use Rattle.std.specs.Prelude.{ℤ, pos, ◌*ℤ◌, All}
-use Rattle.std.proofs.Math.Nat.{add-mod_right, mod-eq_of_lt}
-use Rattle.std.proofs.lemmas.Bool.{eqb-true, eq-eqb}
-use Rattle.std.proofs.lemmas.List.{length-map}
-use Rattle.std.proofs.lemmas.List.Elements.{All-weaker}
-use Rattle.signed_sum.specs.Names.{cycle, turned, value_at, IsSign, after_turns}
-use Rattle.signed_sum.proofs.Names.{one-mul}
-use Rattle.surjection_law.specs.Names.{surjection_boundary, IsOnto, IsSurjection, arity, surjection_degree}
-use Rattle.surjection_law.proofs.SurjectionTerms.{arity-boundary, arity-positive}
-use Rattle.operad_law.proofs.PermLemmas.{Permutes, Permutes-cycle, map-shifted, shifted}
-use Rattle.surjection.specs.Action.{turned_values}
-use Rattle.surjection.specs.ActionLaws.{InRange, IsSurjection-map, arity-map, boundary-map, in_range}
+use Rattle.std.{proofs.Common.{◌≡◌, ℕ, zero, suc, ◌+◌, ◌-◌, ◌%◌, ◌<◌, ◌≤◌, ◌==◌, Bool, List, [], ◌∷◌, map, refl, sym, ap, ◌∙◌, inl, arith, subst, IsTrue}, specs.Prelude.{ℤ, pos, ◌*ℤ◌, All}, proofs.Math.Nat.{add-mod_right, mod-eq_of_lt}, proofs.lemmas.Bool.{eqb-true, eq-eqb}, proofs.lemmas.List.length-map, proofs.lemmas.List.Elements.All-weaker}
+use Rattle.signed_sum.{specs.Names.{cycle, turned, value_at, IsSign, after_turns}, proofs.Names.one-mul}
+use Rattle.surjection_law.{specs.Names.{surjection_boundary, IsOnto, IsSurjection, arity, surjection_degree}, proofs.SurjectionTerms.{arity-boundary, arity-positive}}
+use Rattle.table_reduction_law.proofs.Permutations.{moves-cycle, uncycle}
+use Rattle.operad_law.proofs.PermLemmas.{map-shifted, shifted}
+use Rattle.surjection.specs.{Action.turned_values, ActionLaws.{InRange, IsSurjection-map, arity-map, boundary-map, in_range}}
 
 -- whether a surjection has the arity p
 abbrev pub has_arity : ℕ → List ℕ → Bool
@@ -20,15 +13,12 @@ has_arity p u = arity u == p
 arity_is : (p : ℕ) (u : List ℕ) → IsTrue (has_arity p u) → arity u ≡ p
 arity_is p u f = eqb-true (arity u) p f
 
-cycles : (p : ℕ) (u : List ℕ) → IsSurjection u → arity u ≡ p → Permutes (cycle p) p
-cycles p u s e = Permutes-cycle p (omega (arith, arity-positive u s))
-
 pub turn_valid : (p : ℕ) (u : List ℕ) → IsSurjection u → IsTrue (has_arity p u) → IsSurjection (turned_values p u).0
-turn_valid p u s f = let e = arity_is p u f in IsSurjection-map (cycle p) p (cycles p u s e) u s e
+turn_valid p u s f = let e = arity_is p u f in IsSurjection-map (cycle p) (uncycle p) p (moves-cycle p) u s e
 
 turn_arity : (p : ℕ) (u : List ℕ) → IsSurjection u → arity u ≡ p → arity (map (cycle p) u) ≡ p
 turn_arity p u s e =
-    arity-map (cycle p) p (cycles p u s e) u (subst (λ (k : ℕ). InRange k u) e (in_range u s)) (subst (λ (k : ℕ). IsOnto k u) e s.onto) (omega (arith, arity-positive u s))
+    arity-map (cycle p) (uncycle p) p (moves-cycle p) u (subst (λ (k : ℕ). InRange k u) e (in_range u s)) (subst (λ (k : ℕ). IsOnto k u) e s.onto) (omega (arith, arity-positive u s))
 
 pub turn_fits : (p : ℕ) (u : List ℕ) → IsSurjection u → IsTrue (has_arity p u) → IsTrue (has_arity p (turned_values p u).0)
 turn_fits p u s f = eq-eqb (arity (map (cycle p) u)) p (turn_arity p u s (arity_is p u f))
@@ -90,7 +80,7 @@ boundary_turn p phi u s f =
     let r : InRange p u = subst (λ (k : ℕ). InRange k u) e (in_range u s) in
     let same : value_at (λ w. pos 1 *ℤ phi (map (cycle p) w)) (surjection_boundary u) ≡ value_at (λ w. phi (map (cycle p) w)) (surjection_boundary u) =
     λ i. value_at (λ w. one-mul (phi (map (cycle p) w)) i) (surjection_boundary u) in
-    one-mul (value_at phi (surjection_boundary (map (cycle p) u))) ∙ boundary-map (cycle p) p (cycles p u s e) phi u r ∙ sym same
+    one-mul (value_at phi (surjection_boundary (map (cycle p) u))) ∙ boundary-map (cycle p) (uncycle p) p (moves-cycle p) phi u r ∙ sym same
 
 -- the turn of a surjection by its own arity
 pub own_turn : (u : List ℕ) → IsSurjection u → IsSurjection (map (cycle (arity u)) u)

@@ -2,8 +2,7 @@
 use Rattle.std.specs.Prelude.{ℕ, ◌-◌, ◌==◌, ◌||◌, nat_lt, List, [], ◌∷◌, Option, None, Some, cond, length, suc, find}
 use Rattle.signed_sum.specs.Names.{begins_with, numbers_from, occurs}
 use Rattle.surjection_law.specs.Names.{arity}
-use Rattle.surjection.specs.declared.surj.NotASurjection.{NotASurjection}
-use Rattle.surjection.specs.declared.surj.NotASurjection.TheVariants.{Empty, TooLong, Gap, EqualNeighbours}
+use Rattle.surjection.specs.declared.surj.{NotASurjection.NotASurjection, NotASurjection.TheVariants.{Empty, TooLong, Gap, EqualNeighbours}}
 
 -- 0 where it is a value, else the least value from 1 and below the greatest that is missing
 abbrev pub gap_of : List ℕ → Option ℕ

@@ -3,8 +3,7 @@ use Rattle.std.specs.Prelude.{◌≡◌, ℕ, ◌+◌, ◌-◌, ◌≤◌, ◌==
 use Rattle.signed_sum.specs.Names.{is_degenerate, occurs}
 use Rattle.surjection_law.specs.Names.{IsSurjection, multiplicity}
 use Rattle.composition_law.specs.Surjections.{IsRising, spliced, values_of}
-use Rattle.surjection.specs.declared.composition.Mark.{Mark}
-use Rattle.surjection.specs.declared.composition.Mark.TheVariants.{Plain, Outer, Inner}
+use Rattle.surjection.specs.declared.composition.{Mark.Mark, Mark.TheVariants.{Plain, Outer, Inner}}
 
 -- the entries of a list, its caesuras with the mark c
 abbrev pub marked : Mark → List ℕ → List (ℕ × Mark)

@@ -1,7 +1,6 @@
 //! The action of permutations on surjections.
 ghost use Rattle.std.specs.Prelude.{◌≡◌, IfOk, length};
-ghost use Rattle.surjection_law.specs.Names.{IsSurjection, arity};
-ghost use Rattle.surjection_law.proofs.SurjectionTerms.{arity-boundary};
+ghost use Rattle.surjection_law.{specs.Names.{IsSurjection, arity}, proofs.SurjectionTerms.arity-boundary};
 ghost use Rattle.operad_law.specs.Permutations.{IsPerm};
 ghost use Rattle.surjection.specs.Names.{permuted, act_arity as act_arity_law, act_composed as act_composed_law, act_degree as act_degree_law, act_identity as act_identity_law, act_valid as act_valid_law, boundary_act as boundary_act_law};
 

@@ -1,8 +1,6 @@
 -- The degree of a surjection is the number of its caesuras.
-use Rattle.std.proofs.Common.{◌≡◌, ℕ, zero, suc, ◌+◌, ◌*◌, List, [], ◌∷◌, length, refl, sym, ◌∙◌, ap, arith, inl, inr, eq-eqb, ne_eqb}
-use Rattle.std.proofs.lemmas.Bool.Decides.{eqb_tells}
-use Rattle.signed_sum.proofs.Names.{numbers_from-distinct, occurs-later, occurs-mid}
-use Rattle.signed_sum.specs.Names.{IsDistinct, numbers_from, occurs}
+use Rattle.std.proofs.{Common.{◌≡◌, ℕ, zero, suc, ◌+◌, ◌*◌, List, [], ◌∷◌, length, refl, sym, ◌∙◌, ap, arith, inl, inr, eq-eqb, ne_eqb}, lemmas.Bool.Decides.eqb_tells}
+use Rattle.signed_sum.{proofs.Names.{numbers_from-distinct, occurs-later, occurs-mid}, specs.Names.{IsDistinct, numbers_from, occurs}}
 use Rattle.surjection_law.specs.Names.{caesura_count, IsOnto, arity, CaesuraLaw}
 
 -- how many of the values `ks` are in u

@@ -1,6 +1,5 @@
 use Rattle.std.proofs.Common.{ℕ, ◌-◌, List, [], ◌∷◌, ◌++◌, append_assoc, ap, drop, get_or, sym, take, ◌∙◌}
-use Rattle.surjection.specs.Names.{Mark, Plain}
-use Rattle.surjection.proofs.SpliceLemmas.{piece-parts}
+use Rattle.surjection.{specs.Names.{Mark, Plain}, proofs.SpliceLemmas.piece-parts}
 use Rattle.surjection.proofs.composition.add_piece.Goals as goal
 
 pub returns : goal.returns

@@ -1,8 +1,6 @@
 use Rattle.std.proofs.Common.{arith}
 use Rattle.composition_law.specs.Surjections.{lifted}
-use Rattle.surjection.specs.Names.{Inner}
-use Rattle.surjection.proofs.SpliceLemmas.{marks-step}
-use Rattle.surjection.proofs.WalkLemmas.{value_below}
+use Rattle.surjection.{specs.Names.Inner, proofs.SpliceLemmas.marks-step, proofs.WalkLemmas.value_below}
 use Rattle.surjection.proofs.composition.inner_entries.Goals as goal
 
 pub overflow_add-value : goal.overflow_add-value

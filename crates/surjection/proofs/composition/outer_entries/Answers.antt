@@ -1,11 +1,7 @@
-use Rattle.std.proofs.Common.{◌≡◌, ◌+◌, ◌-◌, ◌∙◌, ap, arith, cond, get_or}
-use Rattle.std.specs.Prelude.{nat_lt}
-use Rattle.surjection_law.specs.Surjections.{arity}
-use Rattle.surjection_law.proofs.SurjectionTerms.{arity-positive}
+use Rattle.std.{proofs.Common.{◌≡◌, ◌+◌, ◌-◌, ◌∙◌, ap, arith, cond, get_or}, specs.Prelude.nat_lt}
+use Rattle.surjection_law.{specs.Surjections.arity, proofs.SurjectionTerms.arity-positive}
 use Rattle.composition_law.specs.Surjections.{grown}
-use Rattle.surjection.specs.declared.composition.Mark.TheVariants.{Outer}
-use Rattle.surjection.proofs.SpliceLemmas.{marks-step}
-use Rattle.surjection.proofs.WalkLemmas.{value_below}
+use Rattle.surjection.{specs.declared.composition.Mark.TheVariants.Outer, proofs.SpliceLemmas.marks-step, proofs.WalkLemmas.value_below}
 use Rattle.surjection.proofs.composition.outer_entries.Goals as goal
 
 pub overflow_sub-by : goal.overflow_sub-by

@@ -1,8 +1,7 @@
 use Rattle.std.proofs.Common.{◌≡◌, ◌++◌, drop}
 use Rattle.surjection_law.specs.Surjections.{arity}
 use Rattle.composition_law.specs.Surjections.{grown, with_values}
-use Rattle.surjection.specs.Splicing.{marked}
-use Rattle.surjection.specs.declared.composition.Mark.TheVariants.{Outer}
+use Rattle.surjection.specs.{Splicing.marked, declared.composition.Mark.TheVariants.Outer}
 use Rattle.surjection.proofs.composition.outer_entries.Given as goal
 
 abbrev pub invariant-loop-i : goal.invariant-loop-i

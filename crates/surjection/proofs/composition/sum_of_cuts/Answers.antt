@@ -3,8 +3,7 @@ use Rattle.signed_sum.specs.Names.{weight_of}
 use Rattle.interval_cut_law.specs.Names.{rising_lists}
 use Rattle.surjection_law.specs.Names.{multiplicity}
 use Rattle.composition_law.specs.Surjections.{lifted, values_of}
-use Rattle.surjection.specs.Names.{AreComposed, occurs-k, Inner}
-use Rattle.surjection.proofs.CutLemmas.{length-marked, often, ready, summed}
+use Rattle.surjection.{specs.Names.{AreComposed, occurs-k, Inner}, proofs.CutLemmas.{length-marked, often, ready, summed}}
 use Rattle.surjection.proofs.composition.sum_of_cuts.Goals as goal
 
 composed : (c : goal.After-times) → AreComposed c.args.k c.args.outer.now c.args.inner.now

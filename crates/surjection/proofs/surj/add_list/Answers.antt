@@ -1,8 +1,6 @@
-use Rattle.std.proofs.Common.{sym, ap, ◌∙◌, ◌≡◌, false, true, is_some, w64}
-use Rattle.std.proofs.lemmas.Int.{to_z-of_z}
+use Rattle.std.proofs.{Common.{sym, ap, ◌∙◌, ◌≡◌, false, true, is_some, w64}, lemmas.Int.to_z-of_z}
 use Rattle.signed_sum.specs.Names.{is_degenerate}
-use Rattle.surjection.proofs.RefusalLemmas.{degenerate-is}
-use Rattle.surjection.proofs.WalkLemmas.{AddsList-degenerate, AddsList-term}
+use Rattle.surjection.proofs.{RefusalLemmas.degenerate-is, WalkLemmas.{AddsList-degenerate, AddsList-term}}
 use Rattle.surjection.proofs.surj.add_list.Goals as goal
 
 pub invariant_of-add_term : goal.invariant_of-add_term

@@ -1,9 +1,7 @@
-use Rattle.std.proofs.Common.{arith, sym, ap, ◌∙◌, ◌≡◌, ◌≤◌, ◌+◌, ◌<◌, length, w64, to_z, of_z, refl, get_or, suc, ℤ, pos, neg_ℤ, ◌-ℤ◌, nat_abs, length-set}
-use Rattle.std.proofs.lemmas.Int.{ints}
+use Rattle.std.proofs.{Common.{arith, sym, ap, ◌∙◌, ◌≡◌, ◌≤◌, ◌+◌, ◌<◌, length, w64, to_z, of_z, refl, get_or, suc, ℤ, pos, neg_ℤ, ◌-ℤ◌, nat_abs, length-set}, lemmas.Int.ints}
 use Rattle.signed_sum.specs.Names.{is_zero}
-use Rattle.surjection.proofs.WalkLemmas.{IsWalk-again, IsWalk-end, IsWalk-last, IsWalk-start, face_again, face_is, face_last, kept_signs, rest_comes, rest_gone, value_below}
+use Rattle.surjection.proofs.{WalkLemmas.{IsWalk-again, IsWalk-end, IsWalk-last, IsWalk-start, face_again, face_is, face_last, kept_signs, rest_comes, rest_gone, value_below}, surj.sum_of_faces.Goals.{then-stands_in+in_ok-add_face, else-stands_in+in_ok-add_face-2}}
 use Rattle.surjection.proofs.surj.sum_of_faces.Goals as goal
-use Rattle.surjection.proofs.surj.sum_of_faces.Goals.{then-stands_in+in_ok-add_face, else-stands_in+in_ok-add_face-2}
 
 negated : (b : ℤ) → nat_abs b ≤ 1 → to_z w64 (of_z w64 (pos 0 -ℤ to_z w64 (of_z w64 b))) ≡ neg_ℤ b
 negated b h = omega (arith, ints)

@@ -1,8 +1,6 @@
 use Rattle.std.proofs.Common.{ap, arith, length}
 use Rattle.composition_law.proofs.Cuts.{rising-bound}
-use Rattle.surjection.specs.Names.{Plain}
-use Rattle.surjection.proofs.SpliceLemmas.{next-rising, written-last, written-other, written-piece}
-use Rattle.surjection.proofs.composition.Splice.entries_at.Goals.{then-entry-self+in_ok-push, else-entry-self+then-places-cut+in_ok-add_piece, else-entry-self+else-places-cut+in_ok-extend_from_slice}
+use Rattle.surjection.{specs.Names.Plain, proofs.SpliceLemmas.{next-rising, written-last, written-other, written-piece}, proofs.composition.Splice.entries_at.Goals.{then-entry-self+in_ok-push, else-entry-self+then-places-cut+in_ok-add_piece, else-entry-self+else-places-cut+in_ok-extend_from_slice}}
 use Rattle.surjection.proofs.composition.Splice.entries_at.Goals as goal
 
 pub add_piece-requires-clause-within : goal.add_piece-requires-clause-within

@@ -1,6 +1,5 @@
 use Rattle.std.proofs.Common.{arith}
-use Rattle.surjection.specs.Names.{AreComposed, occurs-k}
-use Rattle.surjection.proofs.CutLemmas.{multiplicity-short}
+use Rattle.surjection.{specs.Names.{AreComposed, occurs-k}, proofs.CutLemmas.multiplicity-short}
 use Rattle.surjection.proofs.composition.SurjComposing.compose_at.Goals as goal
 
 composed : (c : goal.After-times-free) → AreComposed c.args.k c.as_slice-outer.result.now c.as_slice-inner.result.now

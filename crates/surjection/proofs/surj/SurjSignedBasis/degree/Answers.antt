@@ -1,6 +1,5 @@
 use Rattle.std.proofs.Common.{arith}
-use Rattle.surjection_law.specs.Names.{IsSurjection}
-use Rattle.surjection_law.proofs.SurjectionTerms.{arity-le}
+use Rattle.surjection_law.{specs.Names.IsSurjection, proofs.SurjectionTerms.arity-le}
 use Rattle.surjection.proofs.surj.SurjSignedBasis.degree.Goals as goal
 
 pub overflow_sub-result : goal.overflow_sub-result
