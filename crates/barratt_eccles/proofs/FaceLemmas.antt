@@ -1,19 +1,9 @@
 -- The walk over the entries of a tuple that sums up its boundary.
-use Rattle.std.proofs.Common.{◌≡◌, ℕ, zero, suc, ◌+◌, ◌≤◌, ◌<◌, true, false, List, [], ◌∷◌, length, drop, get_or, map, refl, sym, ap, ◌∙◌, arith, subst, ℤ, pos, neg_ℤ, ◌+ℤ◌, ◌*ℤ◌, nat_abs, remove}
-use Rattle.std.specs.Cmp.Lexicographic.{slice_cmp}
-use Rattle.std.specs.Ordering.{nat_cmp}
-use Rattle.std.proofs.lemmas.Int.{ints}
-use Rattle.std.proofs.lemmas.List.{length-map}
-use Rattle.std.proofs.lemmas.List.Elements.{All-get_or}
-use Rattle.signed_sum.specs.Names.{signed, alternating_terms, alternating_terms_from, restricted, value_at, weight_of, without_each}
-use Rattle.signed_sum.proofs.Names.{signed-neg, restricted-gone, restricted-there, value_at-kept_terms}
-use Rattle.operad_law.specs.FormalSums.{IsSameSum, plus_term}
-use Rattle.operad_law.proofs.ListOrder.{equal_lists, equal_numbers}
-use Rattle.operad_law.proofs.PlusTerm.{value_at-plus_term, weight_of-plus_term}
+use Rattle.std.{proofs.Common.{◌≡◌, ℕ, zero, suc, ◌+◌, ◌≤◌, ◌<◌, false, List, [], ◌∷◌, length, drop, get_or, map, refl, sym, ap, ◌∙◌, arith, subst, ℤ, pos, neg_ℤ, ◌+ℤ◌, ◌*ℤ◌, nat_abs, remove}, specs.Cmp.Lexicographic.slice_cmp, specs.Ordering.nat_cmp, proofs.lemmas.Int.ints, proofs.lemmas.List.length-map, proofs.lemmas.List.Elements.All-get_or}
+use Rattle.signed_sum.{specs.Names.{signed, alternating_terms, alternating_terms_from, restricted, value_at, weight_of, without_each}, proofs.Names.{signed-neg, restricted-there, value_at-kept_terms}}
+use Rattle.operad_law.{specs.FormalSums.{IsSameSum, plus_term}, proofs.ListOrder.{equal_lists, equal_numbers}, proofs.PlusTerm.{value_at-plus_term, weight_of-plus_term}}
 use Rattle.table_reduction_law.specs.Names.{is_zero_tuple, tuple_boundary, tuple_arity}
-use Rattle.barratt_eccles.specs.Generators.{IsGenerator}
-use Rattle.barratt_eccles.specs.BoundaryLaws.{IsFace, face_valid, faces}
-use Rattle.barratt_eccles.specs.Faces.{AddsFace}
+use Rattle.barratt_eccles.specs.{Generators.IsGenerator, BoundaryLaws.{IsFace, face_valid, faces}, Faces.AddsFace}
 
 length-without_each : {X : Type 0} (w : List X) → length (without_each w) ≡ length w
 length-without_each [] = refl
@@ -96,12 +86,6 @@ face-generator w i g h z =
     (face_valid w (remove w i) g f z).0
 
 -- ---- what is added
-pub AddsFace-zero : (w : List (List ℕ)) (i : ℕ) (s : ℤ) (old : List (List (List ℕ) × ℤ)) → is_zero_tuple (remove w i) ≡ true → AddsFace w i s old old
-AddsFace-zero w i s old z = record {
-  sums = λ phi. let a : s *ℤ restricted is_zero_tuple phi (remove w i) ≡ s *ℤ pos 0 = ap (λ y. s *ℤ y) (restricted-gone is_zero_tuple phi (remove w i) z) in omega (arith, ints, a);
-  grows = omega arith;
-}
-
 pub AddsFace-term : (w : List (List ℕ)) (i : ℕ) (s : ℤ) (old : List (List (List ℕ) × ℤ)) (v : List (List ℕ)) → v ≡ remove w i → is_zero_tuple v ≡ false → nat_abs s ≤ 1 → AddsFace w i s old (plus_term (slice_cmp (slice_cmp nat_cmp)) old v s)
 AddsFace-term w i s old v e z m = record {
   sums = λ phi.

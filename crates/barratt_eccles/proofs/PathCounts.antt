@@ -1,6 +1,5 @@
 -- The number of lattice paths.
-use Rattle.std.proofs.Common.{◌≡◌, ℕ, zero, suc, ◌+◌, ◌<◌, ◌≤◌, List, [], ◌∷◌, length, map, drop, refl, sym, ap, ◌∙◌, arith, length-append}
-use Rattle.std.proofs.lemmas.List.{length-map}
+use Rattle.std.proofs.{Common.{◌≡◌, ℕ, zero, suc, ◌+◌, ◌<◌, ◌≤◌, List, [], ◌∷◌, length, map, drop, refl, sym, ap, ◌∙◌, arith, length-append}, lemmas.List.length-map}
 use Rattle.table_reduction_law.specs.Names.{binomial}
 use Rattle.composition_law.specs.Tuples.{lattice_paths, step_x, step_y}
 use Rattle.barratt_eccles.specs.CompositionWalk.{paths_through}

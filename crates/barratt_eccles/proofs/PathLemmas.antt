@@ -1,28 +1,10 @@
 -- The sum over the lattice paths, and the walk that adds it up.
-use Rattle.std.proofs.Common.{◌≡◌, ℕ, zero, suc, ◌+◌, ◌-◌, ◌<◌, ◌≤◌, List, [], ◌∷◌, ◌++◌, length, map, drop, get_or, refl, sym, ap, ◌∙◌, ◌⊎◌, inl, inr, arith, append_assoc, false, true, subst, w64, to_z, of_z, ℤ, pos, neg_ℤ, ◌+ℤ◌, ◌*ℤ◌, nat_abs, All, length-append, length-drop}
-use Rattle.std.specs.Cmp.Lexicographic.{slice_cmp}
-use Rattle.std.specs.Ordering.{nat_cmp}
-use Rattle.std.proofs.lemmas.Int.{ints}
-use Rattle.std.proofs.lemmas.List.Elements.{All-head, All-tail}
-use Rattle.signed_sum.specs.Names.{signed, restricted, total, value_at, weight_of}
-use Rattle.signed_sum.proofs.Names.{mul-add, neg-mul, one-mul, signed-mul, signed-signed, signed-zero, fun_ext, restricted-gone, restricted-there, total-append, total-map, total-signed, value_at-kept_terms}
-use Rattle.operad_law.specs.FormalSums.{IsSameSum, plus_term}
-use Rattle.operad_law.proofs.ListOrder.{equal_lists, equal_numbers}
-use Rattle.operad_law.proofs.PlusTerm.{value_at-plus_term, weight_of-plus_term}
-use Rattle.table_reduction_law.proofs.MayBoundary.{tuple-append}
-use Rattle.table_reduction_law.proofs.ReductionBoundary.{permutation-length}
-use Rattle.table_reduction_law.specs.Names.{IsPermutationOf, IsTuple, is_degenerate_tuple, tuple_arity, tuple_degree}
-use Rattle.barratt_eccles.specs.Generators.{IsGenerator}
-use Rattle.composition_law.specs.Tuples.{IsWithinLimits, Step, inserted, lattice_paths, path_count, path_sign, points_from, step_x, step_y, tuple_along, tuple_composition, at_end, path_sum}
-use Rattle.barratt_eccles.specs.CompositionLaws.{arity-of}
-use Rattle.barratt_eccles.specs.CompositionWalk.{AddsPaths, AddsTuple, IsAtPoint, paths_through}
-use Rattle.barratt_eccles.specs.InsertedLaws.{inserted-permutation}
-use Rattle.barratt_eccles.proofs.PathCounts.{paths_through-end, paths_through-next}
-use Rattle.composition_law.proofs.Paths.{composition-sum}
-
-signed-times : (n : ℕ) (a b : ℤ) → signed n a *ℤ b ≡ signed n (a *ℤ b)
-signed-times zero a b = refl
-signed-times (suc n) a b = neg-mul (signed n a) b ∙ ap neg_ℤ (signed-times n a b)
+use Rattle.std.{proofs.Common.{◌≡◌, ℕ, zero, suc, ◌+◌, ◌-◌, ◌<◌, ◌≤◌, List, [], ◌∷◌, ◌++◌, length, drop, get_or, refl, sym, ap, ◌∙◌, ◌⊎◌, inl, inr, arith, append_assoc, false, true, subst, w64, to_z, of_z, ℤ, pos, neg_ℤ, ◌+ℤ◌, ◌*ℤ◌, nat_abs, length-append, length-drop}, specs.Cmp.Lexicographic.slice_cmp, specs.Ordering.nat_cmp, proofs.lemmas.Int.ints}
+use Rattle.signed_sum.{specs.Names.{signed, restricted, value_at, weight_of}, proofs.Names.{mul-add, one-mul, signed-mul, signed-times, fun_ext, restricted-gone, restricted-there}}
+use Rattle.operad_law.{specs.FormalSums.{IsSameSum, plus_term}, proofs.ListOrder.{equal_lists, equal_numbers}, proofs.PlusTerm.{value_at-plus_term, weight_of-plus_term}}
+use Rattle.table_reduction_law.{proofs.MayBoundary.tuple-append, proofs.ReductionBoundary.permutation-length, specs.Names.{IsPermutationOf, IsTuple, is_degenerate_tuple, tuple_arity, tuple_degree}}
+use Rattle.barratt_eccles.{specs.Generators.IsGenerator, specs.CompositionLaws.arity-of, specs.CompositionWalk.{AddsPaths, AddsTuple, IsAtPoint, paths_through}, specs.InsertedLaws.inserted-permutation, proofs.PathCounts.{paths_through-end, paths_through-next}}
+use Rattle.composition_law.{specs.Tuples.{IsWithinLimits, inserted, lattice_paths, path_count, tuple_composition, at_end, path_sum}, proofs.Paths.composition-sum}
 
 -- ---- the walk
 -- w and v are the entries of the two lists at the point, and `along` has the entries up to it

@@ -1,25 +1,14 @@
 -- Lengths and equal neighbours, step by step; and that a list without a fault is a generator.
-use Rattle.std.proofs.Common.{◌≡◌, ℕ, zero, suc, ◌+◌, ◌<◌, ◌≤◌, ◌==◌, ◌&&◌, true, false, List, [], ◌∷◌, length, take, drop, get_or, None, Some, is_some, refl, sym, ap, ◌∙◌, inl, inr, arith, subst, All, eq-eqb, ne_eqb, eqb-true}
-use Rattle.std.specs.Ordering.{eq_by_cmp, nat_cmp}
-use Rattle.std.specs.Cmp.Lexicographic.{slice_cmp}
-use Rattle.std.specs.Str.{bytes_eq}
-use Rattle.std.proofs.Math.Seq.{drop-cons}
-use Rattle.std.proofs.lemmas.Bool.{cases_Bool, cases_eq, eqb-false}
-use Rattle.std.proofs.lemmas.List.Elements.{All-head, All-more, All-tail}
-use Rattle.std.proofs.lemmas.Map.Text.{is_eq-slice_cmp}
+use Rattle.std.{proofs.Common.{◌≡◌, ℕ, zero, suc, ◌+◌, ◌<◌, ◌≤◌, ◌==◌, ◌&&◌, true, false, List, [], ◌∷◌, length, take, drop, get_or, None, Some, is_some, refl, sym, ap, ◌∙◌, inl, inr, arith, subst, All, eq-eqb, eqb-true}, specs.Ordering.{eq_by_cmp, nat_cmp}, specs.Cmp.Lexicographic.slice_cmp, specs.Str.bytes_eq, proofs.Math.Seq.drop-cons, proofs.lemmas.Bool.{cases_Bool, cases_eq, eqb-false}, proofs.lemmas.List.Elements.{All-head, All-more, All-tail}, proofs.lemmas.Map.Text.is_eq-slice_cmp}
 use Rattle.signed_sum.specs.Names.{is_same_list}
 use Rattle.operad_law.specs.Permutations.{IsPerm}
 use Rattle.table_reduction_law.specs.Names.{IsPermutationOf, IsTuple, begins_with_entry, is_degenerate_tuple, is_zero_tuple, tuple_arity}
-use Rattle.barratt_eccles.specs.ActionLaws.{permutation}
-use Rattle.barratt_eccles.specs.Generators.{IsGenerator}
-use Rattle.barratt_eccles.specs.Refusals.{equal_neighbours_from, other_length_from}
+use Rattle.barratt_eccles.specs.{ActionLaws.permutation, Generators.IsGenerator, Refusals.{equal_neighbours_from, other_length_from}}
 
 pub rest : {X : Type 0} (w : List X) (i : ℕ) (x : X) → x ≡ get_or w i x → i < length w → drop i w ≡ x ∷ drop (suc i) w
 rest w i x e h = drop-cons w i x h ∙ ap (λ v. v ∷ drop (suc i) w) (sym e)
 
 -- ---- lengths
-pub length-found : (r : ℕ) (w : List (List ℕ)) (i : ℕ) (x : List ℕ) → x ≡ get_or w i x → i < length w → (length x ≡ r → ⊥) → other_length_from r i (drop i w) ≡ Some i
-length-found r w i x e h n = rw (rest w i x e h, ne_eqb (length x) r n) refl
 
 pub length-next : (r : ℕ) (w : List (List ℕ)) (i : ℕ) (x : List ℕ) → x ≡ get_or w i x → i < length w → length x ≡ r → other_length_from r (i + 1) (drop (i + 1) w) ≡ other_length_from r i (drop i w)
 length-next r w i x e h q =

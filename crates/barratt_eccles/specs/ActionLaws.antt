@@ -1,30 +1,12 @@
 -- The laws of the action of permutations on tuples, which the impls cite.
-use Rattle.std.proofs.Common.{◌≡◌, ℕ, zero, suc, ◌+◌, ◌-◌, ◌<◌, ◌≤◌, List, [], ◌∷◌, length, map, get_or, refl, sym, ap, ◌∙◌, inl, inr, arith, subst}
-use Rattle.std.specs.Prelude.{ℤ}
-use Rattle.std.proofs.lemmas.List.{length-map, map-id}
-use Rattle.std.proofs.lemmas.Simd.{map-map}
-use Rattle.signed_sum.specs.Names.{numbers_from, occurs, entry_at, value_at}
-use Rattle.signed_sum.proofs.Names.{occurs-01, occurs-self, range-out}
-use Rattle.operad_law.specs.Permutations.{IsPerm, composed, identity}
-use Rattle.operad_law.proofs.PermLemmas.{All-occurs, numbers_from-has, perm-has}
-use Rattle.table_reduction_law.proofs.FormalSums.{is_degenerate_tuple-map, tuple_action_law}
-use Rattle.table_reduction_law.proofs.Permutations.{Within, perm-within, place, relabels, within-tail}
-use Rattle.table_reduction_law.specs.Names.{IsPermutationOf, IsTuple, permuted_tuple, tuple_boundary, tuple_arity, tuple_degree}
+use Rattle.std.{proofs.Common.{◌≡◌, ℕ, zero, suc, ◌+◌, ◌-◌, ◌<◌, ◌≤◌, List, [], ◌∷◌, length, map, get_or, refl, sym, ap, ◌∙◌, inl, inr, arith, subst}, specs.Prelude.ℤ, proofs.lemmas.List.{length-map, map-id}, proofs.lemmas.Simd.map-map}
+use Rattle.signed_sum.{specs.Names.{numbers_from, occurs, entry_at, value_at}, proofs.Names.{occurs-01, occurs-self, range-out}}
+use Rattle.operad_law.{specs.Permutations.{IsPerm, composed, identity}, proofs.PermLemmas.{entry-identity, entry-map, perm-onto}}
+use Rattle.table_reduction_law.{proofs.FormalSums.{is_degenerate_tuple-map, tuple_action_law}, proofs.Permutations.{Within, perm-within, place, relabels, within-tail}, specs.Names.{IsPermutationOf, IsTuple, permuted_tuple, tuple_boundary, tuple_arity, tuple_degree}}
 use Rattle.barratt_eccles.specs.Generators.{IsGenerator}
 
--- a permutation takes each of the numbers from 1 to its length, and no other
 pub permutation : (w : List ℕ) → IsPerm w → IsPermutationOf (length w) w
-permutation w p = record {
-  distinct = p.distinct;
-  onto = λ v. elim (occurs-01 v w) [
-    | inr o ↦ let b : (1 ≤ v) × (v ≤ length w) = All-occurs (λ u. (1 ≤ u) × (u ≤ length w)) w v p.within o in
-        o ∙ sym (numbers_from-has 1 (length w) v b.0 (omega (arith, b.1)))
-    | inl z ↦ elim (occurs-01 v (numbers_from 1 (length w))) [
-      | inl n ↦ z ∙ sym n
-      | inr o ↦ let b = range-out v 1 (length w) o in absurd (let k : occurs v w ≡ 1 = perm-has w p v b.0 (omega (arith, b.1)) in omega arith)
-    ]
-  ];
-}
+permutation w p = record { distinct = p.distinct; onto = perm-onto w p }
 
 -- a permutation of as many numbers as the arity
 permutation_of : (t : List ℕ) (w : List (List ℕ)) → IsPerm t → length t ≡ tuple_arity w → IsPermutationOf (tuple_arity w) t
@@ -73,21 +55,6 @@ maps-none (x ∷ w) = λ i. map-id x i ∷ maps-none w i
 maps-two : (f h : ℕ → ℕ) (w : List (List ℕ)) → map (λ x. map f x) (map (λ x. map h x) w) ≡ map (λ x. map (λ v. f (h v)) x) w
 maps-two f h [] = refl
 maps-two f h (x ∷ w) = λ i. map-map f h x i ∷ maps-two f h w i
-
-pub entry-map : (f : ℕ → ℕ) (t : List ℕ) (v : ℕ) → 1 ≤ v → v ≤ length t → entry_at (map f t) v ≡ f (entry_at t v)
-entry-map f t zero a b = absurd (omega arith)
-entry-map f [] (suc v) a b = absurd (omega arith)
-entry-map f (x ∷ t) (suc zero) a b = refl
-entry-map f (x ∷ t) (suc (suc v)) a b = entry-map f t (suc v) (omega arith) (omega arith)
-
-numbers-at : (a n i : ℕ) → i < n → get_or (numbers_from a n) i 0 ≡ a + i
-numbers-at a zero i h = absurd (omega arith)
-numbers-at a (suc n) zero h = omega arith
-numbers-at a (suc n) (suc i) h = omega (arith, numbers-at (suc a) n i (omega arith))
-
-pub entry-identity : (r v : ℕ) → 1 ≤ v → v ≤ r → entry_at (identity r) v ≡ v
-entry-identity r zero a b = absurd (omega arith)
-entry-identity r (suc v) a b = omega (arith, numbers-at 1 r v (omega arith))
 
 pub act_identity : (w : List (List ℕ)) → IsGenerator w → permuted_tuple (identity (tuple_arity w)) w ≡ w
 act_identity w g = same-maps (tuple_arity w) (entry_at (identity (tuple_arity w))) (λ v. v) w g.entries (entry-identity (tuple_arity w)) ∙ maps-none w

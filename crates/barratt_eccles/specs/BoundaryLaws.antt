@@ -1,13 +1,7 @@
 -- The laws of the boundary of tuples, which the impls cite.
-use Rattle.std.proofs.Common.{◌≡◌, ℕ, suc, ◌+◌, ◌≤◌, Bool, false, List, [], ◌∷◌, length, map, refl, sym, ap, ◌∙◌, inl, inr, arith, subst}
-use Rattle.std.specs.Prelude.{ℤ, pos, neg_ℤ, nat_abs, All}
-use Rattle.std.proofs.lemmas.Int.{ints}
-use Rattle.std.proofs.lemmas.Bool.{cases_Bool}
-use Rattle.std.proofs.lemmas.List.{length-map}
-use Rattle.std.proofs.lemmas.List.Elements.{All-nil, All-cons, All-head, All-tail, All-map, All-weaker}
+use Rattle.std.{proofs.Common.{◌≡◌, ℕ, suc, ◌+◌, ◌≤◌, Bool, false, List, [], ◌∷◌, length, map, refl, sym, ap, ◌∙◌, inl, inr, arith, subst}, specs.Prelude.{ℤ, pos, neg_ℤ, nat_abs, All}, proofs.lemmas.Int.ints, proofs.lemmas.Bool.cases_Bool, proofs.lemmas.List.length-map, proofs.lemmas.List.Elements.{All-nil, All-cons, All-head, All-tail, All-map, All-weaker}}
 use Rattle.signed_sum.specs.Names.{alternating_terms_from, kept_terms, weight_of, without_each}
-use Rattle.table_reduction_law.proofs.ReductionBoundary.{permutation-length}
-use Rattle.table_reduction_law.specs.Names.{IsTuple, is_zero_tuple, tuple_boundary, tuple_arity, tuple_degree}
+use Rattle.table_reduction_law.{proofs.ReductionBoundary.permutation-length, specs.Names.{IsTuple, is_zero_tuple, tuple_boundary, tuple_arity, tuple_degree}}
 use Rattle.barratt_eccles.specs.Generators.{IsGenerator}
 
 -- v is a tuple of permutations of 1 to r with one entry less than w

@@ -1,16 +1,9 @@
 -- The laws of the composition of tuples, which the impl cites.
-use Rattle.std.proofs.Common.{◌≡◌, ℕ, zero, suc, ◌+◌, ◌-◌, ◌<◌, ◌≤◌, Bool, false, List, [], ◌∷◌, length, map, get_or, refl, sym, ◌∙◌, inl, inr, arith, subst}
-use Rattle.std.specs.Prelude.{ℤ, All}
-use Rattle.std.proofs.lemmas.Bool.{cases_Bool}
-use Rattle.std.proofs.lemmas.List.{length-map}
-use Rattle.std.proofs.lemmas.List.Elements.{All-nil, All-cons, All-head, All-tail, All-append, All-map, All-weaker}
+use Rattle.std.{proofs.Common.{◌≡◌, ℕ, zero, suc, ◌+◌, ◌-◌, ◌<◌, ◌≤◌, Bool, false, List, [], ◌∷◌, length, map, get_or, refl, sym, ◌∙◌, inl, inr, arith, subst}, specs.Prelude.{ℤ, All}, proofs.lemmas.Bool.cases_Bool, proofs.lemmas.List.length-map, proofs.lemmas.List.Elements.{All-nil, All-cons, All-head, All-tail, All-weaker}}
 use Rattle.signed_sum.specs.Names.{kept_terms}
-use Rattle.table_reduction_law.proofs.ReductionBoundary.{permutation-length}
-use Rattle.table_reduction_law.specs.Names.{IsPermutationOf, IsTuple, is_degenerate_tuple, tuple_arity, tuple_degree}
-use Rattle.barratt_eccles.specs.Generators.{IsGenerator}
-use Rattle.composition_law.proofs.Paths.{each-path}
-use Rattle.composition_law.specs.Tuples.{IsWithinLimits, Step, inserted, lattice_paths, path_sign, points_from, step_x, step_y, tuple_along, tuple_composition}
-use Rattle.barratt_eccles.specs.InsertedLaws.{inserted-permutation}
+use Rattle.table_reduction_law.{proofs.ReductionBoundary.permutation-length, specs.Names.{IsPermutationOf, IsTuple, is_degenerate_tuple, tuple_arity, tuple_degree}}
+use Rattle.barratt_eccles.specs.{Generators.IsGenerator, InsertedLaws.inserted-permutation}
+use Rattle.composition_law.{proofs.Paths.each-path, specs.Tuples.{IsWithinLimits, Step, inserted, lattice_paths, path_sign, points_from, step_x, step_y, tuple_along, tuple_composition}}
 
 -- a path of d steps x and e steps y has d + e + 1 points, and none is past the end
 record IsPath (d e : ℕ) (s : List Step) : Type 0 where

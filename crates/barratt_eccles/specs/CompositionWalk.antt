@@ -1,6 +1,6 @@
 -- The walk over the lattice paths, entry by entry.
-use Rattle.std.specs.Prelude.{◌≡◌, ℕ, ◌+◌, ◌-◌, ◌≤◌, List, [], ◌∷◌, ◌++◌, length, suc, ℤ, pos, ◌+ℤ◌, ◌*ℤ◌}
-use Rattle.signed_sum.specs.Names.{signed, restricted, value_at, weight_of}
+use Rattle.std.specs.Prelude.{◌≡◌, ℕ, ◌+◌, ◌-◌, ◌≤◌, List, [], ◌∷◌, ◌++◌, length, suc, ℤ, ◌+ℤ◌, ◌*ℤ◌}
+use Rattle.signed_sum.specs.Names.{restricted, value_at, weight_of}
 use Rattle.table_reduction_law.specs.Names.{IsTuple, is_degenerate_tuple}
 use Rattle.composition_law.specs.Tuples.{lattice_paths, path_sum}
 

@@ -1,18 +1,9 @@
 -- The laws of the turn of tuples, which the impls cite.
-use Rattle.std.proofs.Common.{◌≡◌, ℕ, zero, suc, ◌≤◌, ◌==◌, Bool, List, length, refl, sym, ap, ◌∙◌, inl, arith, subst, IsTrue}
-use Rattle.std.specs.Prelude.{ℤ, pos, ◌*ℤ◌, All}
-use Rattle.std.proofs.Math.Nat.{mod_self}
-use Rattle.std.proofs.lemmas.Bool.{eqb-true, eq-eqb}
-use Rattle.std.proofs.lemmas.List.Elements.{All-weaker}
-use Rattle.signed_sum.specs.Names.{numbers_from, cycle, cycle_power, entry_at, value_at, IsSign, after_turns}
-use Rattle.signed_sum.proofs.Names.{one-mul, length-numbers_from}
-use Rattle.operad_law.specs.Permutations.{IsPerm, composed}
-use Rattle.operad_law.proofs.PermLemmas.{IsPerm-cycle_power, cycle_power-mod, length-cycle_power}
-use Rattle.table_reduction_law.proofs.Permutations.{Within, perm-within}
-use Rattle.table_reduction_law.specs.Names.{IsPermutationOf, permuted_tuple, tuple_boundary, tuple_arity, tuple_degree}
-use Rattle.barratt_eccles.specs.Generators.{IsGenerator, turned_tuple}
-use Rattle.barratt_eccles.specs.ActionLaws.{act_arity, act_composed, act_degree, act_identity, act_valid, boundary_act, entry-identity, entry-map, permutation, same-map}
-use Rattle.barratt_eccles.specs.BoundaryLaws.{boundary_arity}
+use Rattle.std.{proofs.Common.{◌≡◌, ℕ, zero, suc, ◌≤◌, ◌==◌, Bool, List, length, refl, sym, ap, ◌∙◌, inl, arith, subst, IsTrue}, specs.Prelude.{ℤ, pos, ◌*ℤ◌, All}, proofs.Math.Nat.mod_self, proofs.lemmas.Bool.{eqb-true, eq-eqb}, proofs.lemmas.List.Elements.All-weaker}
+use Rattle.signed_sum.{specs.Names.{numbers_from, cycle, cycle_power, entry_at, value_at, IsSign, after_turns}, proofs.Names.{one-mul, length-numbers_from}}
+use Rattle.operad_law.{specs.Permutations.{IsPerm, composed}, proofs.PermLemmas.{IsPerm-cycle_power, cycle_power-mod, entry-identity, entry-map, length-cycle_power}}
+use Rattle.table_reduction_law.{proofs.Permutations.{Within, perm-within}, specs.Names.{IsPermutationOf, permuted_tuple, tuple_boundary, tuple_arity, tuple_degree}}
+use Rattle.barratt_eccles.specs.{Generators.{IsGenerator, turned_tuple}, ActionLaws.{act_arity, act_composed, act_degree, act_identity, act_valid, boundary_act, permutation, same-map}, BoundaryLaws.boundary_arity}
 
 -- whether a tuple has the arity p
 abbrev pub has_arity : ℕ → List (List ℕ) → Bool

@@ -1,12 +1,8 @@
 -- A permutation in the place of a value of another is a permutation.
-use Rattle.std.proofs.Common.{◌≡◌, ℕ, ◌+◌, ◌-◌, ◌<◌, ◌≤◌, ◌≢◌, ◌⊎◌, cond, List, [], ◌∷◌, ◌++◌, length, map, refl, sym, ap, ◌∙◌, inl, inr, arith}
-use Rattle.std.specs.Prelude.{flat_map, nat_lt}
-use Rattle.std.proofs.lemmas.Bool.{cases_Bool, cases_eq, eq-eqb, ne_eqb}
-use Rattle.signed_sum.specs.Names.{IsDistinct, numbers_from, occurs}
-use Rattle.signed_sum.proofs.Names.{occurs-01, occurs-cons, occurs-later, occurs-more, occurs-none, occurs-self, range-in, range-out}
+use Rattle.std.{proofs.Common.{◌≡◌, ℕ, ◌+◌, ◌-◌, ◌<◌, ◌≤◌, ◌≢◌, ◌⊎◌, cond, List, [], ◌∷◌, ◌++◌, length, map, refl, sym, ap, ◌∙◌, inl, inr, arith}, specs.Prelude.{flat_map, nat_lt}, proofs.lemmas.Bool.{cases_Bool, cases_eq, eq-eqb, ne_eqb}, proofs.lemmas.Bool.Decides.nat_tests}
+use Rattle.signed_sum.{specs.Names.{IsDistinct, numbers_from, occurs}, proofs.Names.{occurs-01, occurs-later, occurs-more, occurs-none, occurs-range, occurs-self, occurs-tail, range-in, range-out}}
 use Rattle.operad_law.proofs.PermLemmas.{IsDistinct-map}
-use Rattle.table_reduction_law.proofs.ReductionBoundary.{permutation-length}
-use Rattle.table_reduction_law.specs.Names.{IsPermutationOf}
+use Rattle.table_reduction_law.{proofs.Permutations.map-in, proofs.ReductionBoundary.permutation-length, specs.Names.IsPermutationOf}
 use Rattle.composition_law.specs.Tuples.{inserted, replaced}
 
 -- ---- lists that are put together from lists
@@ -19,11 +15,7 @@ occurs-either z (x ∷ a) b o = elim (cases_eq z x) [
 
 distinct-append : (a b : List ℕ) → IsDistinct a → IsDistinct b → ((z : ℕ) → occurs z a ≡ 1 → occurs z b ≡ 0) → IsDistinct (a ++ b)
 distinct-append [] b d e n = e
-distinct-append (x ∷ a) b d e n =
-    (occurs-none x a b d.0 (n x (occurs-self x a)), distinct-append a b d.1 e (λ z o. n z (later z o)))
-  where
-    later : (z : ℕ) → occurs z a ≡ 1 → occurs z (x ∷ a) ≡ 1
-    later z o = elim (occurs-cons z x a) [ inl e ↦ ap (λ w. occurs w (x ∷ a)) e ∙ occurs-self x a | inr e ↦ e ∙ o ]
+distinct-append (x ∷ a) b d e n = (occurs-none x a b d.0 (n x (occurs-self x a)), distinct-append a b d.1 e (λ z o. n z (occurs-tail z x a o)))
 
 module _ (f : ℕ → List ℕ) where
   spread-has : (z x : ℕ) (w : List ℕ) → occurs x w ≡ 1 → occurs z (f x) ≡ 1 → occurs z (flat_map f w) ≡ 1
@@ -37,7 +29,7 @@ module _ (f : ℕ → List ℕ) where
   spread-from z [] o = absurd (omega (arith, o))
   spread-from z (y ∷ w) o = elim (occurs-either z (f y) (flat_map f w) o) [
     | inl p ↦ (y, occurs-self y w, p)
-    | inr p ↦ let q = spread-from z w p in (q.0, elim (occurs-cons q.0 y w) [ inl e ↦ ap (λ v. occurs v (y ∷ w)) e ∙ occurs-self y w | inr e ↦ e ∙ q.1 ], q.2)
+    | inr p ↦ let q = spread-from z w p in (q.0, occurs-tail q.0 y w q.1, q.2)
   ]
 
   -- `source` tells from which entry each value comes
@@ -45,17 +37,14 @@ module _ (f : ℕ → List ℕ) where
       ((x z : ℕ) → occurs x w ≡ 1 → occurs z (f x) ≡ 1 → source z ≡ x) → IsDistinct (flat_map f w)
   spread-distinct source [] d e s = tt
   spread-distinct source (y ∷ w) d e s =
-      distinct-append (f y) (flat_map f w) (e y (occurs-self y w)) (spread-distinct source w d.1 (λ x o. e x (later x o)) (λ x z o. s x z (later x o))) apart
+      distinct-append (f y) (flat_map f w) (e y (occurs-self y w)) (spread-distinct source w d.1 (λ x o. e x (occurs-tail x y w o)) (λ x z o. s x z (occurs-tail x y w o))) apart
     where
-      later : (x : ℕ) → occurs x w ≡ 1 → occurs x (y ∷ w) ≡ 1
-      later x o = elim (occurs-cons x y w) [ inl e ↦ ap (λ v. occurs v (y ∷ w)) e ∙ occurs-self y w | inr e ↦ e ∙ o ]
-
       apart : (z : ℕ) → occurs z (f y) ≡ 1 → occurs z (flat_map f w) ≡ 0
       apart z o = elim (occurs-01 z (flat_map f w)) [
         | inl n ↦ n
         | inr p ↦
             let q = spread-from z w p in
-            let same : q.0 ≡ y = sym (s q.0 z (later q.0 q.1) q.2) ∙ s y z (occurs-self y w) o in
+            let same : q.0 ≡ y = sym (s q.0 z (occurs-tail q.0 y w q.1) q.2) ∙ s y z (occurs-self y w) o in
             absurd (let k : occurs y w ≡ 1 = ap (λ v. occurs v w) (sym same) ∙ q.1 in let n = d.0 in omega arith)
       ]
 
@@ -64,32 +53,16 @@ replaced-here : (k : ℕ) (v : List ℕ) (x : ℕ) → x ≡ k → replaced k v 
 replaced-here k v x e = rw (eq-eqb x k e) refl
 
 replaced-below : (k : ℕ) (v : List ℕ) (x : ℕ) → x < k → replaced k v x ≡ x ∷ []
-replaced-below k v x h = elim (cases_Bool (nat_lt k x)) [
-  | inl t ↦ absurd (grind (arith, t))
-  | inr t ↦ rw (ne_eqb x k (λ e. absurd (omega arith)), t) refl
-]
+replaced-below k v x h = grind (arith, nat_tests, h)
 
 replaced-above : (k : ℕ) (v : List ℕ) (x : ℕ) → k < x → replaced k v x ≡ (x + (length v - 1)) ∷ []
-replaced-above k v x h = elim (cases_Bool (nat_lt k x)) [
-  | inl t ↦ rw (ne_eqb x k (λ e. absurd (omega arith)), t) refl
-  | inr t ↦ absurd (grind (arith, t))
-]
+replaced-above k v x h = grind (arith, nat_tests, h)
 
 shift-has : (c z : ℕ) (v : List ℕ) → occurs z (map (λ y. y + c) v) ≡ 1 → (y : ℕ) × (occurs y v ≡ 1) × (z ≡ y + c)
 shift-has c z [] o = absurd (omega (arith, o))
 shift-has c z (y ∷ v) o = elim (cases_eq z (y + c)) [
   | inl e ↦ (y, occurs-self y v, e)
-  | inr n ↦ let q = shift-has c z v (rw (ne_eqb z (y + c) n) at o) in
-      (q.0, elim (occurs-cons q.0 y v) [ inl e ↦ ap (λ u. occurs u (y ∷ v)) e ∙ occurs-self y v | inr e ↦ e ∙ q.1 ], q.2)
-]
-
-shifted-has : (c y : ℕ) (v : List ℕ) → occurs y v ≡ 1 → occurs (y + c) (map (λ u. u + c) v) ≡ 1
-shifted-has c y [] o = absurd (omega (arith, o))
-shifted-has c y (u ∷ v) o = elim (cases_eq y u) [
-  | inl e ↦ ap (λ z. occurs (z + c) ((u + c) ∷ map (λ u. u + c) v)) e ∙ occurs-self (u + c) (map (λ u. u + c) v)
-  | inr n ↦
-      let m : y + c ≢ u + c = λ e. n (omega arith) in
-      rw (ne_eqb (y + c) (u + c) m) (shifted-has c y v (rw (ne_eqb y u n) at o))
+  | inr n ↦ let q = shift-has c z v (rw (ne_eqb z (y + c) n) at o) in (q.0, occurs-tail q.0 y v q.1, q.2)
 ]
 
 one-has : (z x : ℕ) → occurs z (x ∷ []) ≡ 1 → z ≡ x
@@ -106,19 +79,13 @@ abbrev source : ℕ → ℕ → ℕ → ℕ
 source k s z = cond (nat_lt z k) z (cond (nat_lt z (k + s)) k (z - (s - 1)))
 
 source-below : (k s z : ℕ) → z < k → source k s z ≡ z
-source-below k s z h = elim (cases_Bool (nat_lt z k)) [ inl t ↦ rw t refl | inr t ↦ absurd (grind (arith, t)) ]
+source-below k s z h = grind (arith, nat_tests, h)
 
 source-here : (k s z : ℕ) → k ≤ z → z < k + s → source k s z ≡ k
-source-here k s z g h = elim (cases_Bool (nat_lt z k)) [
-  | inl t ↦ absurd (grind (arith, t))
-  | inr t ↦ elim (cases_Bool (nat_lt z (k + s))) [ inl u ↦ rw (t, u) refl | inr u ↦ absurd (grind (arith, u)) ]
-]
+source-here k s z g h = grind (arith, nat_tests, g, h)
 
 source-above : (k s z : ℕ) → 1 ≤ s → k + s ≤ z → source k s z ≡ z - (s - 1)
-source-above k s z p g = elim (cases_Bool (nat_lt z k)) [
-  | inl t ↦ absurd (grind (arith, t))
-  | inr t ↦ elim (cases_Bool (nat_lt z (k + s))) [ inl u ↦ absurd (grind (arith, u)) | inr u ↦ rw (t, u) refl ]
-]
+source-above k s z p g = grind (arith, nat_tests, p, g)
 
 module _ (k r s : ℕ) (w v : List ℕ) (a : 1 ≤ k) (b : k ≤ r) (p : 1 ≤ s) (pw : IsPermutationOf r w) (pv : IsPermutationOf s v) where
   size : length v ≡ s
@@ -171,7 +138,7 @@ module _ (k r s : ℕ) (w v : List ℕ) (a : 1 ≤ k) (b : k ≤ r) (p : 1 ≤ s
               let y : ℕ = z - (k - 1) in
               let e : y + (k - 1) ≡ z = omega arith in
               let there : occurs y v ≡ 1 = pv.onto y ∙ range-in y 1 s (omega arith) (omega arith) in
-              spread-has (replaced k v) z k w (has-value k a b) (rw (replaced-here k v k refl) (ap (λ c. occurs c (map (λ u. u + (k - 1)) v)) (sym e) ∙ shifted-has (k - 1) y v there))
+              spread-has (replaced k v) z k w (has-value k a b) (rw (replaced-here k v k refl) (ap (λ c. occurs c (map (λ u. u + (k - 1)) v)) (sym e) ∙ map-in (λ u. u + (k - 1)) y v there))
           | inr u ↦
               let above : k + s ≤ z = grind (arith, u) in
               let x : ℕ = z - (s - 1) in
@@ -185,14 +152,7 @@ module _ (k r s : ℕ) (w v : List ℕ) (a : 1 ≤ k) (b : k ≤ r) (p : 1 ≤ s
   pub inserted-permutation : IsPermutationOf (r + s - 1) (inserted k w v)
   inserted-permutation = record {
     distinct = spread-distinct (replaced k v) (source k s) w pw.distinct has-inner (λ x z o q. (replaced-values x z o q).0);
-    onto = λ z. elim (occurs-01 z (inserted k w v)) [
-      | inr o ↦
-          let q = spread-from (replaced k v) z w o in
-          let i = (replaced-values q.0 z q.1 q.2).1 in
-          o ∙ sym (range-in z 1 (r + s - 1) i.0 (omega (arith, i.1)))
-      | inl n ↦ elim (occurs-01 z (numbers_from 1 (r + s - 1))) [
-        | inl m ↦ n ∙ sym m
-        | inr o ↦ absurd (let i = range-out z 1 (r + s - 1) o in let c = reaches z i.0 (omega (arith, i.1)) in omega (arith, n, c))
-      ]
-    ];
+    onto = occurs-range 1 (r + s - 1) (inserted k w v)
+        (λ z o. let q = spread-from (replaced k v) z w o in let i = (replaced-values q.0 z q.1 q.2).1 in (i.0, omega (arith, i.1)))
+        (λ z g h. reaches z g (omega (arith, h)));
   }

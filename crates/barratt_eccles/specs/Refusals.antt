@@ -1,8 +1,7 @@
 -- Why a list of permutations is no tuple. Places count from 0.
 use Rattle.std.specs.Prelude.{ℕ, ◌==◌, nat_lt, List, [], ◌∷◌, Option, None, Some, cond, length, suc}
 use Rattle.table_reduction_law.specs.Names.{begins_with_entry, tuple_arity}
-use Rattle.barratt_eccles.specs.declared.tuple.TupleRefused.{TupleRefused}
-use Rattle.barratt_eccles.specs.declared.tuple.TupleRefused.TheVariants.{Empty, TooLong, MixedArity, EqualNeighbours}
+use Rattle.barratt_eccles.specs.declared.tuple.{TupleRefused.TupleRefused, TupleRefused.TheVariants.{Empty, TooLong, MixedArity, EqualNeighbours}}
 
 -- the first place of an entry whose length is not r, where the list begins at the place `from`
 abbrev pub other_length_from : ℕ → ℕ → List (List ℕ) → Option ℕ

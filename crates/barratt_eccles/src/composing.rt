@@ -3,11 +3,8 @@ ghost use Rattle.std.specs.Prelude.{◌≡◌, ◌≤◌, ◌<◌, ◌+◌, ◌^
 ghost use Rattle.signed_sum.specs.Names.{signed, weight_of};
 ghost use Rattle.operad_law.specs.FormalSums.{IsSameSum};
 ghost use Rattle.table_reduction_law.specs.Names.{is_degenerate_tuple, tuple_arity};
-ghost use Rattle.barratt_eccles.specs.Generators.{IsGenerator};
-ghost use Rattle.composition_law.specs.Tuples.{IsWithinLimits, inserted, path_count, replaced, tuple_composition};
-ghost use Rattle.composition_law.proofs.Tuples.{tuple_leibniz};
-ghost use Rattle.barratt_eccles.specs.CompositionWalk.{AddsPaths, AddsTuple, IsAtPoint, paths_through};
-ghost use Rattle.barratt_eccles.specs.CompositionLaws.{compose_arity as compose_arity_law, compose_degree as compose_degree_law, compose_valid as compose_valid_law};
+ghost use Rattle.barratt_eccles.specs.{Generators.IsGenerator, CompositionWalk.{AddsPaths, AddsTuple, IsAtPoint, paths_through}, CompositionLaws.{compose_arity as compose_arity_law, compose_degree as compose_degree_law, compose_valid as compose_valid_law}};
+ghost use Rattle.composition_law.{specs.Tuples.{IsWithinLimits, inserted, path_count, replaced, tuple_composition}, proofs.Tuples.tuple_leibniz};
 
 use crate::tuple::{Tuple, copied, equal_neighbours};
 use counting::binomial_up_to;

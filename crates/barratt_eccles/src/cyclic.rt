@@ -1,6 +1,5 @@
 //! The turn of tuples: the cycle acts.
-ghost use Rattle.barratt_eccles.specs.Generators.{turned_tuple};
-ghost use Rattle.barratt_eccles.specs.CycleLaws.{has_arity, boundary_fits as boundary_fits_law, boundary_turn as boundary_turn_law, turn_degree as turn_degree_law, turn_fits as turn_fits_law, turn_sign as turn_sign_law, turn_valid as turn_valid_law, turned_round as turned_round_law};
+ghost use Rattle.barratt_eccles.specs.{Generators.turned_tuple, CycleLaws.{has_arity, boundary_fits as boundary_fits_law, boundary_turn as boundary_turn_law, turn_degree as turn_degree_law, turn_fits as turn_fits_law, turn_sign as turn_sign_law, turn_valid as turn_valid_law, turned_round as turned_round_law}};
 
 use crate::symmetric::permuted_entries;
 use crate::tuple::Tuple;

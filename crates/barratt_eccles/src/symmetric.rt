@@ -1,8 +1,7 @@
 //! The action of permutations on tuples.
 ghost use Rattle.std.specs.Prelude.{◌≡◌, IfOk, length};
 ghost use Rattle.table_reduction_law.specs.Names.{IsTuple, permuted_tuple, tuple_arity};
-ghost use Rattle.barratt_eccles.specs.ActionLaws.{act_arity as act_arity_law, act_composed as act_composed_law, act_degree as act_degree_law, act_identity as act_identity_law, act_valid as act_valid_law, boundary_act as boundary_act_law};
-ghost use Rattle.barratt_eccles.specs.BoundaryLaws.{boundary_arity as boundary_arity_law};
+ghost use Rattle.barratt_eccles.specs.{ActionLaws.{act_arity as act_arity_law, act_composed as act_composed_law, act_degree as act_degree_law, act_identity as act_identity_law, act_valid as act_valid_law, boundary_act as boundary_act_law}, BoundaryLaws.{boundary_arity as boundary_arity_law}};
 
 use crate::tuple::Tuple;
 use operad_law::perm::Perm;

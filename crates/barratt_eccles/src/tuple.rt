@@ -1,20 +1,9 @@
 //! Generators of the Barratt-Eccles operad.
-ghost use Rattle.std.specs.Prelude.{◌≡◌, ℕ, ◌≤◌, ◌<◌, ◌==◌, All, None, Ok, Err, IfOk, IfSome, OnOk, false, length, nat_abs, remove, slice_index_or, []};
-ghost use Rattle.std.proofs.Common.{rules};
-ghost use Rattle.std.specs.Cmp.{partial_order_from_own_ties};
-ghost use Rattle.std.specs.Cmp.Rules.{comparing};
-ghost use Rattle.std.specs.Cmp.Lexicographic.{slice_cmp};
-ghost use Rattle.std.specs.Ordering.{nat_cmp, eq_by_cmp, as_partial_cmp};
+ghost use Rattle.std.{specs.Prelude.{◌≡◌, ℕ, ◌≤◌, ◌<◌, ◌==◌, All, None, Ok, Err, IfOk, IfSome, OnOk, false, length, nat_abs, remove, slice_index_or, []}, proofs.Common.rules, specs.Cmp.partial_order_from_own_ties, specs.Cmp.Rules.comparing, specs.Cmp.Lexicographic.slice_cmp, specs.Ordering.{nat_cmp, eq_by_cmp, as_partial_cmp}};
 ghost use Rattle.signed_sum.specs.Names.{is_zero, weight_of};
-ghost use Rattle.operad_law.proofs.ListOrder.{equal_lists, equal_numbers};
-ghost use Rattle.operad_law.specs.FormalSums.{IsSameSum};
-ghost use Rattle.operad_law.specs.Permutations.{IsPerm};
-ghost use Rattle.table_reduction_law.specs.Names.{is_zero_tuple, tuple_boundary, tuple_arity, tuple_degree};
-ghost use Rattle.table_reduction_law.proofs.FormalSums.{tuple_boundary_law};
-ghost use Rattle.barratt_eccles.specs.Generators.{IsGenerator};
-ghost use Rattle.barratt_eccles.specs.BoundaryLaws.{boundary_degree as boundary_degree_law, boundary_valid as boundary_valid_law, boundary_weight as boundary_weight_law, narrow_boundary as narrow_boundary_law, narrow_degree as narrow_degree_law, no_boundary as no_boundary_law};
-ghost use Rattle.barratt_eccles.specs.Faces.{AddsFace};
-ghost use Rattle.barratt_eccles.specs.Refusals.{equal_neighbours_from, other_length_from, tuple_fault};
+ghost use Rattle.operad_law.{proofs.ListOrder.{equal_lists, equal_numbers}, specs.FormalSums.IsSameSum, specs.Permutations.IsPerm};
+ghost use Rattle.table_reduction_law.{specs.Names.{is_zero_tuple, tuple_boundary, tuple_arity, tuple_degree}, proofs.FormalSums.tuple_boundary_law};
+ghost use Rattle.barratt_eccles.specs.{Generators.IsGenerator, BoundaryLaws.{boundary_degree as boundary_degree_law, boundary_valid as boundary_valid_law, boundary_weight as boundary_weight_law, narrow_boundary as narrow_boundary_law, narrow_degree as narrow_degree_law, no_boundary as no_boundary_law}, Faces.AddsFace, Refusals.{equal_neighbours_from, other_length_from, tuple_fault}};
 
 use operad_law::basis::{Narrow, SignedBasis};
 use operad_law::formal_sum::FormalSum;

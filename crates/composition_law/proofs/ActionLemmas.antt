@@ -1,20 +1,8 @@
 -- Values, sums over walks and faces, for the value of a composition on cochains.
-use Rattle.std.proofs.Common.{◌≡◌, ℕ, zero, suc, ◌+◌, ◌-◌, ◌<◌, ◌≤◌, inl, inr, cond, ◌==◌, List, [], ◌∷◌, length, map, refl, sym, ◌∙◌, ap, arith, ℤ, ◌+ℤ◌, ◌*ℤ◌, eq-eqb, ne_eqb}
-use Rattle.std.proofs.Math.IntN.{*ℤ-zero}
-use Rattle.std.proofs.lemmas.Bool.{cases_lt}
-use Rattle.std.proofs.lemmas.Bool.Decides.{nat_tests}
-use Rattle.std.proofs.lemmas.Int.{ints}
-use Rattle.interval_cut_law.proofs.CutsAsWalks.{cut_sum-walk_sum}
-use Rattle.interval_cut_law.proofs.Walks.{walk_face, walk_sum, walk_term}
-use Rattle.interval_cut_law.specs.Names.{cut_sum}
-use Rattle.signed_sum.proofs.Names.{less-no, occurs-apart, mul-add, signed-+, signed-zero, less-yes}
-use Rattle.signed_sum.specs.Names.{less, numbers_from, occurs, signed}
-use Rattle.composition_law.specs.Surjections.{grown, lifted}
-use Rattle.composition_law.proofs.CutByCut.{right-steps}
-use Rattle.composition_law.proofs.CutValues.{cells_as}
-use Rattle.composition_law.proofs.States.{AllKind}
-use Rattle.composition_law.proofs.Steps.{Gap, Step, go, go_on, inner_of, out_go, out_stop, outer_of, pass, stop, triple, turn, zero_face}
-use Rattle.composition_law.proofs.Surjections.{grown-high, grown-low}
+use Rattle.std.proofs.{Common.{◌≡◌, ℕ, zero, suc, ◌+◌, ◌-◌, ◌<◌, ◌≤◌, inl, inr, cond, ◌==◌, List, [], ◌∷◌, length, map, refl, sym, ◌∙◌, ap, arith, ℤ, ◌+ℤ◌, ◌*ℤ◌, eq-eqb, ne_eqb}, Math.IntN.*ℤ-zero, lemmas.Bool.cases_lt, lemmas.Bool.Decides.nat_tests, lemmas.Int.ints}
+use Rattle.interval_cut_law.{proofs.CutsAsWalks.cut_sum-walk_sum, proofs.Walks.{walk_face, walk_sum, walk_term}, specs.Names.cut_sum}
+use Rattle.signed_sum.{proofs.Names.{less-no, occurs-apart, mul-add, signed-+, signed-zero, less-yes}, specs.Names.{less, numbers_from, occurs, signed}}
+use Rattle.composition_law.{specs.Surjections.{grown, lifted}, proofs.CutByCut.right-steps, proofs.CutValues.cells_as, proofs.States.AllKind, proofs.Steps.{Gap, Step, go, go_on, inner_of, out_go, out_stop, outer_of, pass, stop, triple, turn, zero_face}, proofs.Surjections.{grown-high, grown-low}}
 
 -- ---- numbers
 

@@ -1,29 +1,11 @@
 -- The value of a composition of surjections on cochains.
-use Rattle.std.proofs.Common.{◌≡◌, ℕ, zero, suc, ◌+◌, ◌-◌, ◌*◌, ◌<◌, ◌≤◌, ◌⊎◌, inl, inr, Bool, true, false, cond, List, [], ◌∷◌, ◌++◌, length, map, refl, sym, ◌∙◌, ap, arith, ℤ, pos, ◌*ℤ◌, sum}
-use Rattle.std.proofs.lemmas.Bool.{cases_lt}
-use Rattle.std.proofs.lemmas.List.{map-append}
-use Rattle.interval_cut_law.proofs.BoundaryLaws.{degeneracy_law, product_normalized}
-use Rattle.interval_cut_law.proofs.WalkSums.{walk_sum-signed}
-use Rattle.interval_cut_law.proofs.Walks.{gaps_below, walk_exponent, walk_faces, walk_sum, walk_term}
-use Rattle.interval_cut_law.specs.Names.{AreNormalized, operation_value, value_product}
+use Rattle.std.proofs.{Common.{◌≡◌, ℕ, zero, suc, ◌+◌, ◌-◌, ◌*◌, ◌<◌, ◌≤◌, ◌⊎◌, inl, inr, Bool, true, false, cond, List, [], ◌∷◌, ◌++◌, length, map, refl, sym, ◌∙◌, ap, arith, ℤ, pos, ◌*ℤ◌, sum}, lemmas.Bool.cases_lt, lemmas.List.map-append}
+use Rattle.interval_cut_law.{proofs.BoundaryLaws.{degeneracy_law, product_normalized}, proofs.WalkSums.walk_sum-signed, proofs.Walks.{gaps_below, walk_exponent, walk_faces, walk_sum, walk_term}, specs.Names.{AreNormalized, operation_value, value_product}}
 use Rattle.linear_law.specs.Names.{Each}
-use Rattle.signed_sum.proofs.Names.{mul_assoc, mul_comm, signed-mul, length-numbers_from, numbers_from-append, less-yes}
-use Rattle.signed_sum.specs.Names.{if_zero, is_degenerate, numbers_from, occurs, signed, normalized, value_at}
+use Rattle.signed_sum.{proofs.Names.{mul_assoc, mul_comm, signed-mul, length-numbers_from, numbers_from-append, less-yes}, specs.Names.{if_zero, is_degenerate, numbers_from, occurs, signed, normalized, value_at}}
 use Rattle.simplicial_law.specs.Names.{HaveDegrees}
-use Rattle.composition_law.specs.Surjections.{composition, grown, lifted}
+use Rattle.composition_law.{specs.Surjections.{composition, grown, lifted}, proofs.CutByCut.{left-steps, walk_of}, proofs.CutValues.{cells_as, faces-agree, occurs-as, product-split, terms-as, walk_sum-as}, proofs.Degrees.degrees-sign, proofs.OntoTerms.{IsPositive, no-zero, occurs-from, walks-positive}, proofs.Renaming.{Back, caesuras-map, occurs-renamed}, proofs.States.AllKind, proofs.StepSigns.{IsStep, step-sign, triple-cong}, proofs.Steps.{Gap, Step, cut_of, inner_of, named, outer_as, triple, zero_face}, proofs.Surjections.{composition-walks, grown-high, grown-low, inner-of, k-occurs, kind, kind-high, kind-in, kind-low, lifted_back, renamed, renamed-k, renamed-other, renamed_back, there_back, values-of, within, zero-occurs}, proofs.Walks.{Cell, expo, values}, specs.Laws.SurjectionAction, proofs.ActionLemmas.{IsOuter, cut-walk, grown-mono, grown-numbers-high, grown-numbers-low, less-same, lifted-mono, lifted-numbers, right-any, some-entry, triple-signed, walk_sum-outer, walk_sum-scale}}
 use Rattle.surjection_law.specs.Names.{caesura_count, IsOnto}
-use Rattle.composition_law.proofs.CutByCut.{left-steps, walk_of}
-use Rattle.composition_law.proofs.CutValues.{cells_as, faces-agree, occurs-as, product-split, terms-as, walk_sum-as}
-use Rattle.composition_law.proofs.Degrees.{degrees-sign}
-use Rattle.composition_law.proofs.OntoTerms.{IsPositive, no-zero, occurs-from, walks-positive}
-use Rattle.composition_law.proofs.Renaming.{Back, caesuras-map, occurs-renamed}
-use Rattle.composition_law.proofs.States.{AllKind}
-use Rattle.composition_law.proofs.StepSigns.{IsStep, step-sign, triple-cong}
-use Rattle.composition_law.proofs.Steps.{Gap, Step, cut_of, inner_of, named, outer_as, triple, zero_face}
-use Rattle.composition_law.proofs.Surjections.{composition-walks, grown-high, grown-low, inner-of, k-occurs, kind, kind-high, kind-in, kind-low, lifted_back, renamed, renamed-k, renamed-other, renamed_back, there_back, values-of, within, zero-occurs}
-use Rattle.composition_law.proofs.Walks.{Cell, expo, values}
-use Rattle.composition_law.specs.Laws.{SurjectionAction}
-use Rattle.composition_law.proofs.ActionLemmas.{IsOuter, cut-walk, grown-mono, grown-numbers-high, grown-numbers-low, less-same, lifted-mono, lifted-numbers, right-any, some-entry, triple-signed, walk_sum-outer, walk_sum-scale}
 
 module _ (u v s qs : List ℕ) (ls bs cs : List (List ℕ → ℤ)) (normal : AreNormalized (ls ++ (bs ++ cs))) (dq : HaveDegrees qs ls) (sb : 1 ≤ length bs) (ss : 1 ≤ length s)
     (ou : IsOnto (length ls + suc (length cs)) u) (ov : IsOnto (length bs) v) where

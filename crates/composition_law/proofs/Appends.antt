@@ -1,9 +1,7 @@
 -- Walks one after the other.
 use Rattle.std.proofs.Common.{List, [], ap, append-nil, append_assoc, arith, refl, sym, ℕ, ◌*◌, ◌++◌, ◌+◌, ◌∙◌, ◌∷◌, ◌≡◌}
-use Rattle.composition_law.proofs.Cells.{Aligned, AlignedV, Good, GoodV}
-use Rattle.composition_law.proofs.Walks.{Cell, edge, ends, entry, expo, expo_in, next, out, passed, values}
-use Rattle.signed_sum.proofs.Names.{occurs-append, occurs-later}
-use Rattle.signed_sum.specs.Names.{if_zero, occurs}
+use Rattle.composition_law.proofs.{Cells.{Aligned, AlignedV, Good, GoodV}, Walks.{Cell, edge, ends, entry, expo, expo_in, next, out, passed, values}}
+use Rattle.signed_sum.{proofs.Names.{occurs-append, occurs-later}, specs.Names.{if_zero, occurs}}
 use Rattle.surjection_law.specs.Names.{caesura_count}
 
 pub values-append : (p c : List Cell) → values (p ++ c) ≡ values p ++ values c

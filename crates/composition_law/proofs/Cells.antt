@@ -1,10 +1,8 @@
 -- The signs of the removals of an entry.
 use Rattle.std.proofs.Common.{List, [], ap, arith, inl, inr, refl, suc, sym, ℕ, ◌%◌, ◌*◌, ◌++◌, ◌+◌, ◌∙◌, ◌∷◌, ◌≡◌, pos, ℤ}
 use Rattle.composition_law.proofs.Walks.{Cell, edge, ends, expo_in, next, out, passed, values}
-use Rattle.signed_sum.proofs.Names.{occurs-01, occurs-before, occurs-cons, occurs-in, occurs-later, occurs-mid, occurs-more, occurs-none, occurs-other, occurs-zero, signed-parity, signed-signed, signed-zero}
-use Rattle.signed_sum.specs.Names.{if_zero, occurs, unless_zero, signed}
-use Rattle.surjection_law.proofs.PlaceLemmas.{caesura_count-in, caesura_count-out}
-use Rattle.surjection_law.specs.Names.{caesura_count, caesuras_among, caesuras_before_last, place_exponent, place_term}
+use Rattle.signed_sum.{proofs.Names.{occurs-01, occurs-before, occurs-cons, occurs-in, occurs-later, occurs-mid, occurs-more, occurs-none, occurs-other, occurs-zero, signed-parity, signed-signed, signed-zero}, specs.Names.{if_zero, occurs, unless_zero, signed}}
+use Rattle.surjection_law.{proofs.PlaceLemmas.{before_last, caesura_count-in, caesura_count-out, exponent-caesura, exponent-last, place_term-some}, specs.Names.{caesura_count, caesuras_among, caesuras_before_last, place_exponent, place_term}}
 
 -- ---- what is known of a prefix p, where the entries W and the entries U of u follow
 
@@ -39,16 +37,11 @@ alignedV-here y (e ∷ p) h = h.0
 -- ---- the term of a place in three cases
 
 pub place-caesura : (p : List ℕ) (v : ℕ) (u : List ℕ) (z : ℤ) → occurs v u ≡ 1 → place_term p v u z ≡ signed (caesuras_among p (v ∷ u)) z
-place-caesura p v u z n =
-    let m : occurs v (p ++ u) ≡ 1 = occurs-later v p u n in
-    let s : place_exponent p v u ≡ caesuras_among p (v ∷ u) = ap (λ j. if_zero j (suc (caesuras_before_last p v u)) (caesuras_among p (v ∷ u))) n in
-    λ i. unless_zero (m i) (signed (s i) z)
+place-caesura p v u z n = place_term-some p v u z (occurs-later v p u n) ∙ ap (λ e. signed e z) (exponent-caesura p v u n)
 
 pub place-last : (p : List ℕ) (v : ℕ) (u : List ℕ) (z : ℤ) → occurs v u ≡ 0 → occurs v p ≡ 1 → place_term p v u z ≡ signed (suc (caesuras_before_last p v u)) z
 place-last p v u z n h =
-    let m : occurs v (p ++ u) ≡ 1 = occurs-before v p u n ∙ h in
-    let s : place_exponent p v u ≡ suc (caesuras_before_last p v u) = ap (λ j. if_zero j (suc (caesuras_before_last p v u)) (caesuras_among p (v ∷ u))) n in
-    λ i. unless_zero (m i) (signed (s i) z)
+    place_term-some p v u z (occurs-before v p u n ∙ h) ∙ ap (λ e. signed e z) (exponent-last p v u n ∙ ap suc (sym (before_last p v u)))
 
 pub place-none : (p : List ℕ) (v : ℕ) (u : List ℕ) (z : ℤ) → occurs v u ≡ 0 → occurs v p ≡ 0 → place_term p v u z ≡ pos 0
 place-none p v u z n h = ap (λ k. unless_zero k (signed (place_exponent p v u) z)) (occurs-none v p u h n)

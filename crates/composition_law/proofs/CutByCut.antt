@@ -1,12 +1,8 @@
 -- A cut for a term of a composition is a list of steps, and so is a cut for u with a cut of its face for v.
-use Rattle.std.proofs.Common.{◌≡◌, ℕ, zero, suc, List, [], ◌∷◌, refl, sym, ◌∙◌, ap, arith, inl, inr, ℤ, pos, ◌+ℤ◌}
-use Rattle.std.proofs.lemmas.Int.{ints}
-use Rattle.interval_cut_law.proofs.WalkSums.{walk_sum-sum, walk_sum-zero}
-use Rattle.interval_cut_law.proofs.Walks.{walk_sum}
-use Rattle.signed_sum.proofs.Names.{occurs-01, occurs-apart, occurs-self}
-use Rattle.signed_sum.specs.Names.{occurs}
-use Rattle.composition_law.proofs.Steps.{Gap, Step, cut_of, go, go_on, inner_of, last_next, out_go, out_stop, outer_of, pass, stop, triple, turn, turns, zero_face}
-use Rattle.composition_law.proofs.Walks.{Cell, edge, next, out, values, walks, walks-sum, walks-zero}
+use Rattle.std.proofs.{Common.{◌≡◌, ℕ, zero, suc, List, [], ◌∷◌, refl, sym, ◌∙◌, ap, arith, inl, inr, ℤ, pos, ◌+ℤ◌}, lemmas.Int.ints}
+use Rattle.interval_cut_law.proofs.{WalkSums.{walk_sum-sum, walk_sum-zero}, Walks.walk_sum}
+use Rattle.signed_sum.{proofs.Names.{occurs-01, occurs-apart, occurs-self}, specs.Names.occurs}
+use Rattle.composition_law.proofs.{Steps.{Gap, Step, cut_of, go, go_on, inner_of, last_next, out_go, out_stop, outer_of, pass, stop, triple, turn, turns, zero_face}, Walks.{Cell, edge, next, out, values, walks, walks-sum, walks-zero}}
 
 -- the walk of the composition, and the cut for its term
 abbrev pub walk_of : List Step → List Cell

@@ -1,10 +1,7 @@
 -- Cuts with other values: a map that keeps the order keeps the signs and the faces.
-use Rattle.std.proofs.Common.{◌≡◌, ℕ, zero, suc, ◌+◌, ◌*◌, ◌<◌, ◌≤◌, cond, ◌==◌, List, [], ◌∷◌, ◌++◌, length, map, refl, sym, ◌∙◌, ap, arith, ℤ, ◌+ℤ◌, ◌*ℤ◌}
-use Rattle.std.proofs.lemmas.Bool.Decides.{nat_tests}
-use Rattle.interval_cut_law.proofs.Walks.{Cell, edge, ends, gaps_below, next, walk_exponent, walk_face, walk_faces, walk_sum, walk_term}
-use Rattle.interval_cut_law.specs.Names.{value_product}
-use Rattle.signed_sum.proofs.Names.{less-self, less-two, mul_assoc, one-mul}
-use Rattle.signed_sum.specs.Names.{less, numbers_from, occurs, signed}
+use Rattle.std.proofs.{Common.{◌≡◌, ℕ, zero, suc, ◌+◌, ◌*◌, ◌<◌, ◌≤◌, cond, ◌==◌, List, [], ◌∷◌, ◌++◌, length, map, refl, sym, ◌∙◌, ap, arith, ℤ, ◌+ℤ◌, ◌*ℤ◌}, lemmas.Bool.Decides.nat_tests}
+use Rattle.interval_cut_law.{proofs.Walks.{Cell, edge, ends, gaps_below, next, walk_exponent, walk_face, walk_faces, walk_sum, walk_term}, specs.Names.value_product}
+use Rattle.signed_sum.{proofs.Names.{less-self, less-two, mul_assoc, one-mul}, specs.Names.{less, numbers_from, occurs, signed}}
 use Rattle.surjection_law.specs.Names.{caesura_count}
 
 -- the cells with other values

@@ -1,6 +1,5 @@
 -- The cuts of a list into pieces: lists of places, none below the one before it.
-use Rattle.std.proofs.Common.{◌≡◌, ℕ, zero, suc, ◌+◌, ◌≤◌, List, [], ◌∷◌, length, map, refl, ap, arith, All}
-use Rattle.std.proofs.lemmas.List.Elements.{All-append, All-cons, All-map, All-nil, All-weaker}
+use Rattle.std.proofs.{Common.{◌≡◌, ℕ, zero, suc, ◌+◌, ◌≤◌, List, [], ◌∷◌, length, map, refl, ap, arith, All}, lemmas.List.Elements.{All-append, All-cons, All-map, All-nil, All-weaker}}
 use Rattle.interval_cut_law.specs.Names.{rising_lists}
 use Rattle.composition_law.specs.Surjections.{IsRising}
 

@@ -1,13 +1,8 @@
 -- The gaps of the first values in a cut, and the degrees of cochains on their faces.
-use Rattle.std.proofs.Common.{◌≡◌, ℕ, suc, ◌+◌, ◌*◌, ◌<◌, ◌≤◌, List, [], ◌∷◌, length, sym, ◌∙◌, ap, arith, ℤ, pos, ◌*ℤ◌, sum}
-use Rattle.std.proofs.Math.IntN.{zero-*ℤ}
+use Rattle.std.proofs.{Common.{◌≡◌, ℕ, suc, ◌+◌, ◌*◌, ◌<◌, ◌≤◌, List, [], ◌∷◌, length, sym, ◌∙◌, ap, arith, ℤ, pos, ◌*ℤ◌, sum}, Math.IntN.zero-*ℤ, lemmas.List.Sums.sum_by-cons}
 use native.Mathlib.Decide.{ℕ_discrete}
-use Rattle.std.proofs.lemmas.List.Sums.{sum_by-cons}
-use Rattle.interval_cut_law.proofs.FaceBoundary.{exact, gaps_below-up, length-exact}
-use Rattle.interval_cut_law.proofs.Walks.{Cell, ends, gaps_below, walk_face, walk_faces}
-use Rattle.interval_cut_law.specs.Names.{value_product}
-use Rattle.signed_sum.proofs.Names.{mul_assoc, mul_comm, signed-zero}
-use Rattle.signed_sum.specs.Names.{numbers_from, occurs, signed}
+use Rattle.interval_cut_law.{proofs.FaceBoundary.{exact, gaps_below-up, length-exact}, proofs.Walks.{Cell, ends, gaps_below, walk_face, walk_faces}, specs.Names.value_product}
+use Rattle.signed_sum.{proofs.Names.{mul_assoc, mul_comm, signed-zero}, specs.Names.{numbers_from, occurs, signed}}
 use Rattle.simplicial_law.specs.Names.{HaveDegrees}
 
 -- where the values from j on have intervals, the gaps below the one after the last count as the degrees

@@ -1,10 +1,7 @@
 -- A composition of a list with equal neighbours has equal neighbours.
-use Rattle.std.proofs.Common.{◌≡◌, ℕ, zero, suc, true, List, [], ◌∷◌, map, refl, ◌∙◌, ap, arith, ℤ, pos}
-use Rattle.std.proofs.lemmas.Int.{ints}
-use Rattle.interval_cut_law.proofs.BoundaryLaws.{degenerate, repeats}
-use Rattle.interval_cut_law.proofs.Degeneracy.{Repeats, here, there}
-use Rattle.signed_sum.proofs.Names.{signed-zero}
-use Rattle.signed_sum.specs.Names.{is_degenerate, signed, IsNormalized}
+use Rattle.std.proofs.{Common.{◌≡◌, ℕ, zero, suc, true, List, [], ◌∷◌, map, refl, ◌∙◌, ap, arith, ℤ, pos}, lemmas.Int.ints}
+use Rattle.interval_cut_law.proofs.{BoundaryLaws.{degenerate, repeats}, Degeneracy.{Repeats, here, there}}
+use Rattle.signed_sum.{proofs.Names.signed-zero, specs.Names.{is_degenerate, signed, IsNormalized}}
 use Rattle.composition_law.proofs.Walks.{Cell, composed, edge, expo, next, out, values, walks, walks-zero}
 
 -- f is 0 where the entries have equal neighbours

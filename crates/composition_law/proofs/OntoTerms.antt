@@ -1,9 +1,7 @@
 -- The entries of the terms of a composition take exactly the values 1 to r + s - 1.
 use Rattle.std.proofs.Common.{◌≡◌, ℕ, suc, ◌+◌, ◌≤◌, inl, inr, List, refl, ◌∙◌, arith, ℤ}
-use Rattle.signed_sum.proofs.Names.{less-no, less-yes, occurs-01, occurs-apart, range-in, range-out}
-use Rattle.signed_sum.specs.Names.{less, numbers_from, occurs}
-use Rattle.composition_law.proofs.States.{AllKind, IsWalk, kinds-apart, walk-edge, walk-next, walk-out, walks-by}
-use Rattle.composition_law.proofs.Walks.{Cell, values, walks}
+use Rattle.signed_sum.{proofs.Names.{less-no, less-yes, occurs-01, occurs-apart, range-in, range-out}, specs.Names.{less, numbers_from, occurs}}
+use Rattle.composition_law.proofs.{States.{AllKind, IsWalk, kinds-apart, walk-edge, walk-next, walk-out, walks-by}, Walks.{Cell, values, walks}}
 
 -- which values the numbers from 1 on are
 pub occurs-from : (x a n : ℕ) → a ≤ x → occurs x (numbers_from a n) ≡ less x (a + n)

@@ -1,9 +1,7 @@
 -- The boundary of a sum over lattice paths.
-use Rattle.std.proofs.Common.{List, [], ap, arith, length, refl, suc, sym, ℕ, ◌∙◌, ◌∷◌, ◌≡◌, neg_ℤ, pos, pred, ℤ, ◌+ℤ◌}
-use Rattle.std.proofs.lemmas.Int.{ints}
+use Rattle.std.proofs.{Common.{List, [], ap, arith, length, refl, suc, sym, ℕ, ◌∙◌, ◌∷◌, ◌≡◌, neg_ℤ, pos, pred, ℤ, ◌+ℤ◌}, lemmas.Int.ints}
 use Rattle.composition_law.specs.Tuples.{inserted, at_end, path_sum}
-use Rattle.signed_sum.proofs.Names.{signed-+, signed-neg, signed-zero, without_one-sum, without_one-zero}
-use Rattle.signed_sum.specs.Names.{signed, without_one}
+use Rattle.signed_sum.{proofs.Names.{signed-+, signed-neg, signed-zero, without_one-sum, without_one-zero}, specs.Names.{signed, without_one}}
 
 module _ (k : ℕ) where
   at_end-sum : (ws : List (List ℕ)) (vs : List (List ℕ)) (a b : ℤ) → at_end ws vs (a +ℤ b) ≡ at_end ws vs a +ℤ at_end ws vs b

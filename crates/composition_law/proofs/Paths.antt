@@ -1,10 +1,6 @@
 -- The composition of tuples as a sum along the walks through both.
-use Rattle.std.proofs.Common.{◌≡◌, ℕ, zero, suc, ◌+◌, ◌≤◌, List, [], ◌∷◌, ◌++◌, length, map, drop, get_or, refl, sym, ap, ◌∙◌, arith, ℤ, pos, ◌+ℤ◌, ◌*ℤ◌, All, pred}
-use Rattle.std.proofs.lemmas.Int.{ints}
-use Rattle.std.proofs.lemmas.List.{drop-drop, get_or-drop}
-use Rattle.std.proofs.lemmas.List.Elements.{All-append, All-cons, All-head, All-map, All-nil, All-tail, All-weaker}
-use Rattle.signed_sum.specs.Names.{inversion_count, stands_before, numbers_from, signed, restricted, total, value_at}
-use Rattle.signed_sum.proofs.Names.{apart-above, apart-append, apart-below, before-first, pairs-among, pairs-later, length-numbers_from, numbers_from-append, signed-signed, signed-zero, fun_ext, total-append, total-map, total-signed, value_at-kept_terms, times-signed}
+use Rattle.std.proofs.{Common.{◌≡◌, ℕ, zero, suc, ◌+◌, ◌≤◌, List, [], ◌∷◌, ◌++◌, length, map, drop, get_or, refl, sym, ap, ◌∙◌, arith, ℤ, pos, ◌+ℤ◌, ◌*ℤ◌, All, pred}, lemmas.Int.ints, lemmas.List.{drop-drop, get_or-drop}, lemmas.List.Elements.{All-append, All-cons, All-head, All-map, All-nil, All-tail, All-weaker}}
+use Rattle.signed_sum.{specs.Names.{inversion_count, stands_before, numbers_from, signed, restricted, total, value_at}, proofs.Names.{apart-above, apart-append, apart-below, before-first, pairs-among, pairs-later, length-numbers_from, numbers_from-append, signed-signed, signed-zero, fun_ext, total-append, total-map, total-signed, value_at-kept_terms, times-signed}}
 use Rattle.table_reduction_law.specs.Names.{is_degenerate_tuple, tuple_degree}
 use Rattle.composition_law.specs.Tuples.{Step, inserted, lattice_paths, path_sign, path_sum, points_from, step_symbols, step_x, step_y, tuple_along, tuple_composition}
 

@@ -1,8 +1,5 @@
 -- Lists with other values.
-use Rattle.std.proofs.Common.{List, [], ap, arith, map, refl, suc, sym, ℕ, ◌++◌, ◌+◌, ◌∙◌, ◌∷◌, ◌≡◌, ℤ}
-use Rattle.std.proofs.lemmas.Int.{ints}
-use Rattle.std.proofs.lemmas.List.{map-append}
-use Rattle.std.proofs.lemmas.Bool.Decides.{nat_tests}
+use Rattle.std.proofs.{Common.{List, [], ap, arith, map, refl, suc, sym, ℕ, ◌++◌, ◌+◌, ◌∙◌, ◌∷◌, ◌≡◌, ℤ}, lemmas.Int.ints, lemmas.List.map-append, lemmas.Bool.Decides.nat_tests}
 use Rattle.signed_sum.specs.Names.{if_zero, occurs, unless_zero, signed}
 use Rattle.surjection_law.specs.Names.{caesura_count, caesuras_among, caesuras_before_last, place_term, without_place}
 

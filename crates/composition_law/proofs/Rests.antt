@@ -1,13 +1,8 @@
 -- The entries of a walk taken out one by one.
-use Rattle.std.proofs.Common.{List, [], ap, append-nil, append_assoc, arith, refl, subst, suc, sym, zero, ℕ, ◌++◌, ◌∙◌, ◌∷◌, ◌≡◌, pos, ℤ, ◌+ℤ◌}
-use Rattle.std.proofs.lemmas.Int.{ints}
-use Rattle.composition_law.proofs.Appends.{ends-append, passed-append}
-use Rattle.composition_law.proofs.States.{AllKind, Fresh, IsWalk, Ready, fresh-edge, fresh-next, fresh-out, fresh-start, ready-edge, ready-next, ready-out, ready-start, walks-cong, zero-there}
-use Rattle.composition_law.proofs.Walks.{Cell, edge, ends, next, out, passed, walks, walks-place_term, walks-signed, walks-sum, walks-zero}
-use Rattle.signed_sum.proofs.Names.{signed-+, signed-zero}
-use Rattle.signed_sum.specs.Names.{occurs, signed}
-use Rattle.surjection_law.proofs.PlaceLemmas.{place_term-zero, without_place-sum, without_place-zero}
-use Rattle.surjection_law.specs.Names.{caesura_count, place_term, without_place}
+use Rattle.std.proofs.{Common.{List, [], ap, append-nil, append_assoc, arith, refl, subst, suc, sym, zero, ℕ, ◌++◌, ◌∙◌, ◌∷◌, ◌≡◌, pos, ℤ, ◌+ℤ◌}, lemmas.Int.ints}
+use Rattle.composition_law.proofs.{Appends.{ends-append, passed-append}, States.{AllKind, Fresh, IsWalk, Ready, fresh-edge, fresh-next, fresh-out, fresh-start, ready-edge, ready-next, ready-out, ready-start, walks-cong, zero-there}, Walks.{Cell, edge, ends, next, out, passed, walks, walks-place_term, walks-signed, walks-sum, walks-zero}}
+use Rattle.signed_sum.{proofs.Names.{signed-+, signed-zero}, specs.Names.{occurs, signed}}
+use Rattle.surjection_law.{proofs.PlaceLemmas.{place_term-zero, without_place-sum, without_place-zero}, specs.Names.{caesura_count, place_term, without_place}}
 
 -- the sum of t over the cells of c, with what was passed and what is to come
 abbrev pub marks : (List Cell → Cell → List Cell → ℤ) → List Cell → List Cell → ℤ

@@ -1,18 +1,10 @@
 -- The terms of all cuts are the walks, with the same signs.
-use Rattle.std.proofs.Common.{◌≡◌, ℕ, zero, suc, ◌+◌, ◌-◌, ◌*◌, ◌≤◌, ◌⊎◌, inl, inr, cond, List, [], ◌∷◌, ◌++◌, drop, length, map, refl, sym, ◌∙◌, ap, arith, append-nil, ℤ, pos, ◌*ℤ◌, eq-eqb, ne_eqb}
-use Rattle.std.proofs.lemmas.Int.{ints}
+use Rattle.std.proofs.{Common.{◌≡◌, ℕ, zero, suc, ◌+◌, ◌-◌, ◌*◌, ◌≤◌, ◌⊎◌, inl, inr, cond, List, [], ◌∷◌, ◌++◌, drop, length, map, refl, sym, ◌∙◌, ap, arith, append-nil, ℤ, pos, ◌*ℤ◌, eq-eqb, ne_eqb}, lemmas.Int.ints}
 use Rattle.interval_cut_law.specs.Names.{rising_lists}
 use Rattle.linear_law.specs.Names.{Each}
-use Rattle.signed_sum.proofs.Names.{occurs-01, occurs-apart, occurs-self, times-signed, total-append, total-map, apart-above, apart-append, apart-below, before-first, pairs-among, pairs-later, length-numbers_from, numbers_from-append}
-use Rattle.signed_sum.specs.Names.{inversion_count, rearrangement_sign, stands_before, if_zero, numbers_from, occurs, signed, total}
-use Rattle.composition_law.specs.Surjections.{numbered, piece, spliced, symbols_of, values_of, with_values}
-use Rattle.composition_law.proofs.Paths.{total-all}
-use Rattle.composition_law.proofs.Cuts.{IsCutOf, each_cut}
-use Rattle.surjection_law.proofs.BoundaryByValueTwice.{multiplicity-other, multiplicity-same}
-use Rattle.surjection_law.specs.Names.{caesura_count, multiplicity}
-use Rattle.composition_law.proofs.Renaming.{Back, occurs-renamed}
-use Rattle.composition_law.proofs.States.{AllKind, IsWalk, walk-edge, walk-next, walk-out, walks-by, walks-cong, zero-there}
-use Rattle.composition_law.proofs.Walks.{Cell, composed, edge, ends, expo, next, out, values, walks}
+use Rattle.signed_sum.{proofs.Names.{occurs-01, occurs-apart, occurs-self, times-signed, total-append, total-map, apart-above, apart-append, apart-below, before-first, pairs-among, pairs-later, length-numbers_from, numbers_from-append}, specs.Names.{inversion_count, rearrangement_sign, stands_before, if_zero, numbers_from, occurs, signed, total}}
+use Rattle.composition_law.{specs.Surjections.{numbered, piece, spliced, symbols_of, values_of, with_values}, proofs.Paths.total-all, proofs.Cuts.{IsCutOf, each_cut}, proofs.Renaming.{Back, occurs-renamed}, proofs.States.{AllKind, IsWalk, walk-edge, walk-next, walk-out, walks-by, walks-cong, zero-there}, proofs.Walks.{Cell, composed, edge, ends, expo, next, out, values, walks}}
+use Rattle.surjection_law.{proofs.Multiplicity.{multiplicity-other, multiplicity-same}, specs.Names.{caesura_count, multiplicity}}
 
 -- the entries of a walk: the caesuras of u are numbered from n on, and those of v from b on
 abbrev pub numbers_of : ℕ → ℕ → List Cell → List (ℕ × List ℕ)

@@ -1,13 +1,8 @@
 -- What is known of a walk, and of what was passed before it. `kind` is 1 at the values of u, and 0 at those of v.
-use Rattle.std.proofs.Common.{List, [], ap, arith, cond, inl, inr, length, refl, suc, sym, zero, ℕ, ◌++◌, ◌==◌, ◌∙◌, ◌∷◌, ◌≡◌, ℤ}
-use Rattle.std.proofs.lemmas.Int.{ints}
+use Rattle.std.proofs.{Common.{List, [], ap, arith, cond, inl, inr, length, refl, suc, sym, zero, ℕ, ◌++◌, ◌==◌, ◌∙◌, ◌∷◌, ◌≡◌, ℤ}, lemmas.Int.ints, lemmas.Bool.Decides.nat_tests}
 use native.Mathlib.Decide.{ℕ_discrete}
-use Rattle.std.proofs.lemmas.Bool.Decides.{nat_tests}
-use Rattle.composition_law.proofs.Appends.{aligned-last, aligned-more, alignedV-last, alignedV-more, good-append, goodv-append}
-use Rattle.composition_law.proofs.Cells.{Aligned, AlignedV, Good, GoodV}
-use Rattle.composition_law.proofs.Walks.{Cell, edge, ends, next, out, values, walks}
-use Rattle.signed_sum.proofs.Names.{occurs-01, occurs-again, occurs-apart, occurs-self}
-use Rattle.signed_sum.specs.Names.{if_zero, occurs}
+use Rattle.composition_law.proofs.{Appends.{aligned-last, aligned-more, alignedV-last, alignedV-more, good-append, goodv-append}, Cells.{Aligned, AlignedV, Good, GoodV}, Walks.{Cell, edge, ends, next, out, values, walks}}
+use Rattle.signed_sum.{proofs.Names.{occurs-01, occurs-again, occurs-apart, occurs-self}, specs.Names.{if_zero, occurs}}
 
 module _ (kind : ℕ → ℕ) where
   abbrev pub AllKind : ℕ → List ℕ → Type 0
@@ -23,11 +18,6 @@ module _ (kind : ℕ → ℕ) where
 
   pub skip-1 : (x y : ℕ) (W : List ℕ) → kind x ≡ 1 → kind y ≡ 0 → occurs y (x ∷ W) ≡ occurs y W
   skip-1 x y W h k = occurs-apart y x W (λ e. kinds-apart x y h k (sym e))
-
-  -- no value of v stands in a list of values of u
-  pub kind-none : (y : ℕ) (u : List ℕ) → kind y ≡ 0 → AllKind 1 u → occurs y u ≡ 0
-  kind-none y [] h k = refl
-  kind-none y (x ∷ u) h k = skip-1 x y u k.0 h ∙ kind-none y u h k.1
 
   -- ---- walks
 

@@ -1,16 +1,10 @@
 -- The sign of a list of steps: that of the term with the cut for it is that of the cut for u with the cut of its
 -- face for v, and of moving the caesuras of v past those of u and past the gaps of the values below k.
-use Rattle.std.proofs.Common.{◌≡◌, ℕ, zero, suc, ◌+◌, ◌*◌, ◌%◌, ◌-◌, ◌<◌, ◌≤◌, ◌⊎◌, inl, inr, cond, ◌==◌, List, [], ◌∷◌, length, map, refl, sym, ◌∙◌, ap, arith, append-nil, ℤ, ne_eqb, eq-eqb}
-use Rattle.std.proofs.lemmas.Int.{ints}
+use Rattle.std.proofs.{Common.{◌≡◌, ℕ, zero, suc, ◌+◌, ◌*◌, ◌%◌, ◌-◌, ◌<◌, ◌≤◌, ◌⊎◌, inl, inr, cond, ◌==◌, List, [], ◌∷◌, length, map, refl, sym, ◌∙◌, ap, arith, append-nil, ℤ, ne_eqb, eq-eqb}, lemmas.Int.ints}
 use Rattle.interval_cut_law.proofs.Walks.{gaps_below, walk_exponent, walk_face}
-use Rattle.signed_sum.proofs.Names.{less-no, occurs-01, occurs-apart, occurs-self, signed-parity, signed-signed, less-yes}
-use Rattle.signed_sum.specs.Names.{if_zero, less, occurs, signed}
+use Rattle.signed_sum.{proofs.Names.{less-no, occurs-01, occurs-apart, occurs-self, signed-parity, signed-signed, less-yes}, specs.Names.{if_zero, less, occurs, signed}}
 use Rattle.surjection_law.specs.Names.{caesura_count}
-use Rattle.composition_law.proofs.CutByCut.{walk_of}
-use Rattle.composition_law.proofs.Renaming.{Back, caesuras-map, occurs-renamed}
-use Rattle.composition_law.proofs.States.{AllKind, IsWalk, kinds-apart, waiting, walk-edge, walk-next, walk-out}
-use Rattle.composition_law.proofs.Steps.{Gap, Step, cut_ends, cut_of, go_on, inner_of, last_next, named, out_go, out_stop, outer_as, pass, triple, turn, turns}
-use Rattle.composition_law.proofs.Walks.{ends, expo, values}
+use Rattle.composition_law.proofs.{CutByCut.walk_of, Renaming.{Back, caesuras-map, occurs-renamed}, States.{AllKind, IsWalk, kinds-apart, waiting, walk-edge, walk-next, walk-out}, Steps.{Gap, Step, cut_ends, cut_of, go_on, inner_of, last_next, named, out_go, out_stop, outer_as, pass, triple, turn, turns}, Walks.{ends, expo, values}}
 
 -- the algebra of the signs, with numbers alone: h tells whether the entry is a caesura
 
@@ -164,9 +158,6 @@ module _ (kind : ℕ → ℕ) (k s : ℕ) (apart : (x : ℕ) → kind x ≡ 1 �
   alone : (v : List ℕ) (y : ℕ) → length (y ∷ v) ≡ 1 → v ≡ []
   alone [] y e = refl
   alone (z ∷ v) y e = absurd (omega (arith, e))
-
-  k-inside : (k ≤ k) × (k < k + s)
-  k-inside = (omega arith, omega (arith, some))
 
   -- what is left where h tells whether a 0 is left
   step-turn : (y a : ℕ) (u v : List ℕ) (t : List Step) → kind y ≡ 0 → AllKind kind 1 u → IsStep u (y ∷ v) t → IsStep (0 ∷ u) (y ∷ v) (turn y a ∷ t)

@@ -1,21 +1,10 @@
 -- The boundary of a composition of surjections.
-use Rattle.std.proofs.Common.{◌≡◌, ℕ, zero, suc, ◌+◌, ◌-◌, ◌<◌, ◌≤◌, inl, inr, ◌||◌, Bool, true, false, cond, ◌==◌, List, [], ◌∷◌, length, map, refl, sym, ◌∙◌, ap, arith, ℤ, pos, ◌+ℤ◌, ◌*ℤ◌, nat_lt, eq-eqb, ne_eqb}
-use Rattle.std.proofs.lemmas.Bool.{cases_Bool, cases_eq}
-use Rattle.std.proofs.lemmas.Bool.Decides.{nat_tests}
+use Rattle.std.proofs.{Common.{◌≡◌, ℕ, zero, suc, ◌+◌, ◌-◌, ◌<◌, ◌≤◌, inl, inr, ◌||◌, Bool, true, false, cond, ◌==◌, List, [], ◌∷◌, length, map, refl, sym, ◌∙◌, ap, arith, ℤ, pos, ◌+ℤ◌, ◌*ℤ◌, nat_lt, eq-eqb, ne_eqb}, lemmas.Bool.{cases_Bool, cases_eq}, lemmas.Bool.Decides.nat_tests}
 use Rattle.interval_cut_law.specs.Names.{rising_lists}
 use Rattle.linear_law.specs.Names.{Each}
-use Rattle.signed_sum.proofs.Names.{less-no, occurs-cons, occurs-self, occurs-tail, fun_ext, restricted-gone, total-map, value_at-kept_terms, less-yes, range-in, range-out}
-use Rattle.signed_sum.specs.Names.{if_zero, is_degenerate, less, occurs, signed, normalized, total, value_at}
-use Rattle.composition_law.specs.Surjections.{composition, cut_term, cuts_at, grown, lifted, numbered, spliced, with_values}
-use Rattle.surjection_law.proofs.BoundaryPlaces.{value_at-degenerate, value_at-surjection_boundary_places, without_place-cong}
-use Rattle.surjection_law.proofs.SurjectionTerms.{multiplicity-at_least}
-use Rattle.surjection_law.specs.Names.{caesura_count, surjection_boundary, without_place, IsOnto, arity, multiplicity}
-use Rattle.composition_law.proofs.EqualNeighbours.{composed-inner, composed-outer}
-use Rattle.composition_law.proofs.Renaming.{boundary-moved, caesuras-map, occurs-renamed}
-use Rattle.composition_law.proofs.SplicedWalks.{AreInner, AreValues, IsValue, cut-walks, numbers_of, signed_value, walks-signed_value}
-use Rattle.composition_law.proofs.WalkLaw.{compose-law}
-use Rattle.composition_law.proofs.Walks.{composed, walks}
-use Rattle.composition_law.specs.Laws.{SurjectionLeibniz}
+use Rattle.signed_sum.{proofs.Names.{less-no, occurs-cons, occurs-self, occurs-tail, fun_ext, restricted-gone, total-map, value_at-kept_terms, less-yes, range-in, range-out}, specs.Names.{if_zero, is_degenerate, less, occurs, signed, normalized, total, value_at}}
+use Rattle.composition_law.{specs.Surjections.{composition, cut_term, cuts_at, grown, lifted, numbered, spliced, with_values}, proofs.EqualNeighbours.{composed-inner, composed-outer}, proofs.Renaming.{boundary-moved, caesuras-map, occurs-renamed}, proofs.SplicedWalks.{AreInner, AreValues, IsValue, cut-walks, numbers_of, signed_value, walks-signed_value}, proofs.WalkLaw.compose-law, proofs.Walks.{composed, walks}, specs.Laws.SurjectionLeibniz}
+use Rattle.surjection_law.{proofs.BoundaryPlaces.{normalized-boundary, value_at-surjection_boundary_places, without_place-cong}, proofs.SurjectionTerms.multiplicity-at_least, specs.Names.{caesura_count, surjection_boundary, without_place, IsOnto, arity, multiplicity}}
 
 -- the values in a walk: 0 for k, and those of the term for the others
 abbrev pub renamed : ℕ → ℕ → ℕ → ℕ
@@ -181,9 +170,6 @@ module _ (k r s : ℕ) (a : 1 ≤ k) (b : k ≤ r) (c : 1 ≤ s) where
         go true d = sym (n d)
         go false d = e
 
-    boundary-terms : (w : List ℕ) → normalized (λ w. value_at phi (surjection_boundary w)) w ≡ without_place [] w g
-    boundary-terms w = cut-off (λ w. value_at phi (surjection_boundary w)) w (without_place [] w g) (value_at-surjection_boundary_places phi w) (λ d. sym (value_at-surjection_boundary_places phi w) ∙ value_at-degenerate phi w d)
-
     pub degenerate-none : (is_degenerate u || is_degenerate v) ≡ true → value_at phi (composition k u v) ≡ pos 0
     degenerate-none d = composition-walks u v phi o q ∙ go (is_degenerate u) refl d
       where
@@ -213,7 +199,7 @@ module _ (k r s : ℕ) (a : 1 ≤ k) (b : k ≤ r) (c : 1 ≤ s) where
         let hu = values-of u (within r u o) in
         let hv = inner-of v (within s v q) in
         composition-walks u v (λ w. value_at phi (surjection_boundary w)) o q
-        ∙ ap (composed U V) (fun_ext boundary-terms)
+        ∙ ap (composed U V) (fun_ext (normalized-boundary phi))
         ∙ compose-law g (kind k s) U V (zero-occurs u o) (kind-low 0 (omega (arith, a))) hu.2 hv.1
         ∙ (λ i. outer-boundary i +ℤ signed (caesuras-map (renamed k s) (renamed_back k s) u hu.1 i) (inner-boundary i))
 

@@ -1,16 +1,8 @@
 -- The boundary of a composition of tuples.
-use Rattle.std.proofs.Common.{◌≡◌, ℕ, ◌≤◌, Bool, true, false, cond, ◌||◌, List, [], ◌∷◌, length, refl, sym, ◌∙◌, ap, arith, subst, ℤ, pos, pred, ◌+ℤ◌}
-use Rattle.std.proofs.lemmas.Int.{ints}
-use Rattle.std.proofs.lemmas.Bool.{or_right}
-use Rattle.signed_sum.proofs.Names.{is_same_list-self, is_same_list-true, fun_ext, restricted-gone}
-use Rattle.signed_sum.specs.Names.{is_same_list, unless_empty, signed, restricted, value_at, without_one}
-use Rattle.table_reduction_law.proofs.FormalSums.{value_at-tuple_boundary}
-use Rattle.table_reduction_law.proofs.TupleActions.{Vanishes, face_sum-degenerate, vanishes}
-use Rattle.table_reduction_law.specs.Names.{begins_with_entry, is_degenerate_tuple, tuple_boundary, tuple_degree}
-use Rattle.composition_law.proofs.Paths.{composition-sum}
-use Rattle.composition_law.specs.Tuples.{tuple_composition, path_sum}
-use Rattle.composition_law.proofs.PathLaw.{Twins, here, ones, paths-law, there, twins-left, twins-right}
-use Rattle.composition_law.specs.Laws.{TupleLeibniz}
+use Rattle.std.proofs.{Common.{◌≡◌, ℕ, ◌≤◌, Bool, true, false, cond, ◌||◌, List, [], ◌∷◌, length, refl, sym, ◌∙◌, ap, arith, subst, ℤ, pos, pred, ◌+ℤ◌}, lemmas.Int.ints, lemmas.Bool.or_right}
+use Rattle.signed_sum.{proofs.Names.{is_same_list-self, is_same_list-true, fun_ext, restricted-gone}, specs.Names.{is_same_list, unless_empty, signed, restricted, value_at, without_one}}
+use Rattle.table_reduction_law.{proofs.FormalSums.value_at-tuple_boundary, proofs.TupleActions.{Vanishes, face_sum-degenerate, vanishes}, specs.Names.{begins_with_entry, is_degenerate_tuple, tuple_boundary, tuple_degree}}
+use Rattle.composition_law.{proofs.Paths.composition-sum, specs.Tuples.{tuple_composition, path_sum}, proofs.PathLaw.{Twins, here, ones, paths-law, there, twins-left, twins-right}, specs.Laws.TupleLeibniz}
 
 -- equal neighbours
 degenerate-twins : (w : List (List ℕ)) → is_degenerate_tuple w ≡ true → Twins w

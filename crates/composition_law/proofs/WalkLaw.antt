@@ -1,16 +1,8 @@
 -- The boundary law of compositions at 0.
-use Rattle.std.proofs.Common.{List, [], ap, append-nil, append_assoc, arith, cond, inl, inr, refl, suc, sym, zero, ℕ, ◌%◌, ◌*◌, ◌++◌, ◌+◌, ◌==◌, ◌∙◌, ◌∷◌, ◌≡◌, ◌⊎◌, pos, ℤ, ◌+ℤ◌}
-use Rattle.std.proofs.lemmas.Int.{ints}
-use Rattle.std.proofs.lemmas.Bool.Decides.{nat_tests}
-use Rattle.composition_law.proofs.Appends.{ends-append, expo-append, expo-split, passed-append, values-append}
-use Rattle.composition_law.proofs.Cells.{Good, GoodV, last-none, last-one, place-caesura, place-last, u-law, v-law}
-use Rattle.composition_law.proofs.Rests.{Outs, marks, whole}
-use Rattle.composition_law.proofs.States.{AllKind, Fresh, IsWalk, Ready, SameOut, same-both, same-in, same-next, skip-1, waiting, zero-there}
-use Rattle.composition_law.proofs.Walks.{Cell, composed, entry, edge, ends, expo, expo_in, next, out, passed, values, walks}
-use Rattle.signed_sum.proofs.Names.{Alike, Alike-append, Alike-cons, occurs-append, occurs-01, occurs-again, occurs-later, occurs-other, occurs-self, signed-+, signed-parity, signed-signed, signed-zero}
-use Rattle.signed_sum.specs.Names.{if_zero, occurs, unless_zero, signed}
-use Rattle.surjection_law.proofs.PlaceLemmas.{among-cong, among-push, without_place-zero}
-use Rattle.surjection_law.specs.Names.{caesura_count, caesuras_among, caesuras_before_last, place_exponent, place_term, without_place}
+use Rattle.std.proofs.{Common.{List, [], ap, append-nil, append_assoc, arith, cond, inl, inr, refl, suc, sym, zero, ℕ, ◌%◌, ◌*◌, ◌++◌, ◌+◌, ◌==◌, ◌∙◌, ◌∷◌, ◌≡◌, ◌⊎◌, pos, ℤ, ◌+ℤ◌}, lemmas.Int.ints, lemmas.Bool.Decides.nat_tests}
+use Rattle.composition_law.proofs.{Appends.{ends-append, expo-append, expo-split, passed-append, values-append}, Cells.{Good, GoodV, place-caesura, place-last, u-law, v-law}, Rests.{Outs, marks, whole}, States.{AllKind, Fresh, IsWalk, Ready, SameOut, same-both, same-in, same-next, skip-1, waiting, zero-there}, Walks.{Cell, composed, entry, edge, ends, expo, expo_in, next, out, passed, values, walks}}
+use Rattle.signed_sum.{proofs.Names.{Alike, Alike-append, Alike-cons, occurs-append, occurs-01, occurs-again, occurs-later, occurs-other, occurs-self, signed-+, signed-parity, signed-signed, signed-zero}, specs.Names.{if_zero, occurs, unless_zero, signed}}
+use Rattle.surjection_law.{proofs.PlaceLemmas.{among-cong, among-push, among-split, before, before-in, before_last, without_place-zero}, specs.Names.{caesura_count, caesuras_among, caesuras_before_last, place_exponent, place_term, without_place}}
 
 -- ---- entries of u alone
 
@@ -59,17 +51,11 @@ expo-cong (out x ∷ p) W Z U h = expo-cong p W Z U h
 expo-cong (edge x ∷ p) W Z U h = λ i. Alike-append (values p) W Z h x i * caesura_count (ends p ++ U) + expo-cong p W Z U h i
 expo-cong (next x ∷ p) W Z U h = expo-cong p W Z U h
 
-caesuras-split : (A B u : List ℕ) → caesuras_among (A ++ B) u ≡ caesuras_among A (B ++ u) + caesuras_among B u
-caesuras-split [] B u = omega arith
-caesuras-split (w ∷ A) B u = let ih = caesuras-split A B u in let e = ap (occurs w) (append_assoc A B u) in omega arith
-
 last-split : (A O W : List ℕ) (y : ℕ) → occurs y O ≡ 0 → caesuras_before_last (A ++ (y ∷ O)) y W ≡ caesuras_among A (y ∷ (O ++ (y ∷ W)))
-last-split [] O W y h = last-none y y O W h
-last-split (w ∷ A) O W y h =
-    let ih = last-split A O W y h in
-    let b = last-one w y (A ++ (y ∷ O)) W (occurs-later y A (y ∷ O) (occurs-self y O)) in
-    let e = ap (occurs w) (append_assoc A (y ∷ O) (y ∷ W)) in
-    omega arith
+last-split A O W y h =
+    let e = before_last (A ++ (y ∷ O)) y W ∙ before-in A (y ∷ O) y (y ∷ W) (occurs-self y O) in
+    let g : before (y ∷ O) y (y ∷ W) ≡ 0 = ap (λ j. if_zero j 0 (occurs y (O ++ (y ∷ W)) + before O y (y ∷ W))) h in
+    omega (arith, e, g)
 
 opposite : (m n : ℕ) (z : ℤ) → m % 2 ≡ suc n % 2 → signed m z +ℤ signed n z ≡ pos 0
 opposite m n z h = let e = signed-parity m (suc n) z h in omega (arith, ints)
@@ -115,7 +101,7 @@ corner-signs A O W y z H E1 E2 C D T e m b n l1 l2 q r t = go (occurs-01 y W)
         place_term (A ++ (y ∷ O)) y W (signed (E1 + (occurs y W * C + e)) H) +ℤ place_term (A ++ (y ∷ [])) z (O ++ W) (signed (E2 + (occurs y (z ∷ (O ++ W)) * (T + D) + e)) H) ≡ pos 0
     go (inr k) =
         let a : caesuras_among (A ++ (y ∷ O)) (y ∷ W) ≡ caesuras_among A (y ∷ (O ++ W)) + (1 + caesuras_among O (y ∷ W)) =
-        (let a0 = caesuras-split A (y ∷ O) (y ∷ W) in let a1 = among-cong A (y ∷ (O ++ (y ∷ W))) (y ∷ (O ++ W)) l1 in let a2 = occurs-later y O (y ∷ W) (occurs-self y W) in omega arith) in
+        (let a0 = among-split A (y ∷ O) (y ∷ W) in let a1 = among-cong A (y ∷ (O ++ (y ∷ W))) (y ∷ (O ++ W)) l1 in let a2 = occurs-later y O (y ∷ W) (occurs-self y W) in omega arith) in
         let f : place_term (A ++ (y ∷ O)) y W (signed (E1 + (occurs y W * C + e)) H) ≡ signed (caesuras_among (A ++ (y ∷ O)) (y ∷ W) + (E1 + (occurs y W * C + e))) H =
         place-caesura (A ++ (y ∷ O)) y W (signed (E1 + (occurs y W * C + e)) H) k ∙ signed-signed (caesuras_among (A ++ (y ∷ O)) (y ∷ W)) (E1 + (occurs y W * C + e)) H in
         let c1 : occurs y W * C ≡ 1 * C = ap (λ j. j * C) k in

@@ -1,6 +1,5 @@
 -- A term of a composition, entry by entry. The composed value is 0 here, and u and v share no value.
-use Rattle.std.proofs.Common.{◌+◌, ◌*◌, List, [], ap, arith, refl, suc, zero, ℕ, ◌++◌, ◌∙◌, ◌∷◌, ◌≡◌, neg_ℤ, pos, ℤ, ◌+ℤ◌}
-use Rattle.std.proofs.lemmas.Int.{ints}
+use Rattle.std.proofs.{Common.{◌+◌, ◌*◌, List, [], ap, arith, refl, suc, zero, ℕ, ◌++◌, ◌∙◌, ◌∷◌, ◌≡◌, neg_ℤ, pos, ℤ, ◌+ℤ◌}, lemmas.Int.ints}
 use Rattle.signed_sum.specs.Names.{occurs, unless_zero, signed}
 use Rattle.surjection_law.specs.Names.{caesura_count, place_exponent, place_term}
 

@@ -6,8 +6,7 @@ use Rattle.simplicial_law.specs.Names.{HaveDegrees}
 use Rattle.signed_sum.specs.Names.{is_degenerate, signed, value_at}
 use Rattle.surjection_law.specs.Names.{caesura_count, surjection_boundary, IsOnto}
 use Rattle.table_reduction_law.specs.Names.{is_degenerate_tuple, tuple_boundary, tuple_degree}
-use Rattle.composition_law.specs.Surjections.{composition}
-use Rattle.composition_law.specs.Tuples.{tuple_composition}
+use Rattle.composition_law.specs.{Surjections.composition, Tuples.tuple_composition}
 
 -- The boundary of u composed with v at k is the boundary of u composed with v plus, with the sign of the degree
 -- of u, u composed with the boundary of v.

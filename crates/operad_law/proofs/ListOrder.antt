@@ -1,8 +1,5 @@
 -- Lists in the order of lists, first difference first: lists that compare equal are the same.
-use Rattle.std.proofs.Common.{◌≡◌, ℕ, List, [], ◌∷◌, refl, sym, Ordering, Less, Equal, Greater}
-use Rattle.std.specs.Ordering.{nat_cmp, ordering_then}
-use Rattle.std.specs.Cmp.Lexicographic.{slice_cmp}
-use Rattle.std.proofs.lemmas.Cmp.{ranked}
+use Rattle.std.{proofs.Common.{◌≡◌, ℕ, List, [], ◌∷◌, refl, sym, Ordering, Less, Equal, Greater}, specs.Ordering.{nat_cmp, ordering_then}, specs.Cmp.Lexicographic.slice_cmp, proofs.lemmas.Cmp.ranked}
 
 then_equal : (o p : Ordering) → ordering_then o p ≡ Equal → (o ≡ Equal) × (p ≡ Equal)
 then_equal Less p e = cc

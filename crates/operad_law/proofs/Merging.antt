@@ -1,20 +1,7 @@
 -- Two ascending lists of terms merged into one: what is merged so far, and what is left.
-use Rattle.std.proofs.Common.{◌≡◌, ◌≢◌, ◌⊎◌, ℕ, suc, ◌+◌, ◌*◌, ◌≤◌, ◌<◌, ◌^◌, List, [], ◌∷◌, ◌++◌, length, drop, get_or, refl, sym, ap, subst, ◌∙◌, inl, inr, arith, Ordering, Less, Equal, Greater, FitsSigned, w64, to_z, of_z, ℤ, ◌+ℤ◌, ◌*ℤ◌, nat_abs, append-nil, length-drop}
-use Rattle.std.specs.Cmp.{IsTotalOrder}
-use Rattle.std.specs.Ordering.{ordering_reverse}
-use Rattle.std.proofs.Math.Nat.{mul-le-mul_left}
-use Rattle.std.proofs.Math.Seq.{drop-cons}
-use Rattle.std.proofs.lemmas.Int.{ints, to_z-of_z}
-use Rattle.std.proofs.lemmas.Bool.{cases_Bool}
-use Rattle.std.proofs.lemmas.List.{drop_all}
-use Rattle.signed_sum.proofs.Names.{add-mul, mul-add, mul_assoc, mul_comm, value_at-append}
-use Rattle.signed_sum.specs.Names.{value_at, weight_of, is_zero}
-use Rattle.operad_law.specs.FormalSums.{IsBelow, IsAscending, IsNonzero, IsFormalSum, IsPlusScaled, with_term}
-use Rattle.operad_law.specs.Places.{IsAbove, first_order}
-use Rattle.operad_law.proofs.PlusTerm.{value_at-with_term, weight_of-with_term, IsBelow-less, abs_sum}
-use Rattle.operad_law.proofs.ScaledSums.{abs-mul}
-use Rattle.signed_sum.proofs.Names.{weight_of-append}
-use Rattle.operad_law.proofs.TermPlaces.{weight_at}
+use Rattle.std.{proofs.Common.{◌≡◌, ◌≢◌, ◌⊎◌, ℕ, suc, ◌+◌, ◌*◌, ◌≤◌, ◌<◌, ◌^◌, List, [], ◌∷◌, ◌++◌, length, drop, get_or, refl, sym, ap, subst, ◌∙◌, inl, inr, arith, Ordering, Less, Equal, Greater, FitsSigned, w64, to_z, of_z, ℤ, ◌+ℤ◌, ◌*ℤ◌, nat_abs, length-drop}, specs.Cmp.IsTotalOrder, specs.Ordering.ordering_reverse, proofs.Math.Nat.mul-le-mul_left, proofs.Math.Seq.drop-cons, proofs.lemmas.Int.{ints, to_z-of_z}, proofs.lemmas.Bool.cases_Bool, proofs.lemmas.List.drop_all}
+use Rattle.signed_sum.{proofs.Names.{add-mul, mul-add, mul_assoc, mul_comm, value_at-append, weight_of-append}, specs.Names.{value_at, weight_of, is_zero}}
+use Rattle.operad_law.{specs.FormalSums.{IsBelow, IsAscending, IsNonzero, IsPlusScaled, with_term}, specs.Places.{IsAbove, first_order}, proofs.PlusTerm.{value_at-with_term, weight_of-with_term, IsBelow-less, abs_sum}, proofs.ScaledSums.abs-mul, proofs.TermPlaces.weight_at}
 
 -- `out` is what is merged of `first` and `by` times `other`, and `xs` and `ys` what is left of them
 pub record IsMerging {X : Type 0} (cmp : X → X → Ordering) (first other : List (X × ℤ)) (by : ℤ) (out xs ys : List (X × ℤ)) : Type 0 where
@@ -23,9 +10,6 @@ pub record IsMerging {X : Type 0} (cmp : X → X → Ordering) (first other : Li
   pub nonzero : IsNonzero out
   pub first_up : IsAscending cmp (out ++ xs)
   pub other_up : IsAscending cmp (out ++ ys)
-
-pub IsMerging-none : {X : Type 0} (cmp : X → X → Ordering) (first other : List (X × ℤ)) (by : ℤ) → IsAscending cmp first → IsAscending cmp other → IsMerging cmp first other by [] first other
-IsMerging-none cmp first other by a b = record { sums = λ phi. omega (arith, ints); grows = omega arith; nonzero = tt; first_up = a; other_up = b }
 
 -- ---- the order
 front_of : {X : Type 0} (cmp : X → X → Ordering) (y : X) (ls rs : List (X × ℤ)) → IsBelow cmp y (ls ++ rs) → IsBelow cmp y ls
@@ -208,8 +192,3 @@ pub merged-scaled : {X : Type 0} (cmp : X → X → Ordering) (first other : Lis
 merged-scaled cmp first other by out i j h k m =
     let d : IsMerging cmp first other by out [] [] = merging_done cmp first other by out i j h k m in
     record { sums = λ phi. omega (arith, ints, d.sums phi); grows = omega (arith, d.grows) }
-
-pub merged-formal : {X : Type 0} (cmp : X → X → Ordering) (first other : List (X × ℤ)) (by : ℤ) (out : List (X × ℤ)) (i j : ℕ) → weight_of first + nat_abs by * weight_of other ≤ 10 ^ 18 → length first ≤ i → length other ≤ j → IsMerging cmp first other by out (drop i first) (drop j other) → IsFormalSum cmp out
-merged-formal cmp first other by out i j w h k m =
-    let d : IsMerging cmp first other by out [] [] = merging_done cmp first other by out i j h k m in
-    record { ascending = rw append-nil at d.first_up; nonzero = d.nonzero; light = omega (arith, d.grows) }

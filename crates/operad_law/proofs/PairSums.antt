@@ -1,14 +1,7 @@
 -- Terms of pairs, added to a sum one after the other.
-use Rattle.std.proofs.Common.{◌≡◌, ℕ, ◌+◌, ◌*◌, ◌<◌, ◌≤◌, List, [], ◌∷◌, ◌++◌, length, take, drop, get_or, map, refl, sym, ◌∙◌, ap, arith, Ordering, Equal, ℤ, pos, ◌+ℤ◌, ◌*ℤ◌, nat_abs, ◌^◌, ◌%◌, ◌==◌, Bool, true, false, eqb-true, w64, FitsSigned}
-use Rattle.std.specs.Ordering.{ordering_then}
-use Rattle.std.proofs.lemmas.Int.{ints}
-use Rattle.std.proofs.lemmas.Bool.{eqb-false}
-use Rattle.std.proofs.lemmas.List.{map-append, take_more}
-use Rattle.signed_sum.proofs.Names.{one-mul, signed-parity, value_at-append, value_at-before, value_at-behind, value_at-pair, weight_of-append}
-use Rattle.signed_sum.specs.Names.{signed, value_at, weight_of, pair_boundary, paired_before, paired_behind, parity}
-use Rattle.operad_law.specs.FormalSums.{IsPlusScaled, IsSameSum, plus_term}
-use Rattle.operad_law.proofs.PlusTerm.{value_at-plus_term, weight_of-plus_term}
-use Rattle.operad_law.proofs.ScaledSums.{weight_of-halves}
+use Rattle.std.{proofs.Common.{◌≡◌, ℕ, ◌+◌, ◌*◌, ◌<◌, ◌≤◌, List, [], ◌∷◌, ◌++◌, length, take, get_or, map, sym, ◌∙◌, ap, arith, Ordering, Equal, ℤ, pos, ◌+ℤ◌, ◌*ℤ◌, nat_abs, ◌^◌, ◌%◌, ◌==◌, Bool, true, false, eqb-true, w64, FitsSigned}, specs.Ordering.ordering_then, proofs.lemmas.Int.ints, proofs.lemmas.Bool.eqb-false, proofs.lemmas.List.{map-append, take_more}}
+use Rattle.signed_sum.{proofs.Names.{one-mul, signed-parity, value_at-append, value_at-before, value_at-behind, value_at-pair, weight_of-append}, specs.Names.{signed, value_at, weight_of, pair_boundary, paired_before, paired_behind, parity}}
+use Rattle.operad_law.{specs.FormalSums.{IsPlusScaled, IsSameSum, plus_term}, proofs.PlusTerm.{value_at-plus_term, weight_of-plus_term}, proofs.ScaledSums.weight_of-halves}
 
 -- pairs are ordered by their first and then by their second
 abbrev pub pair_order : {X Y : Type 0} → (X → X → Ordering) → (Y → Y → Ordering) → X × Y → X × Y → Ordering

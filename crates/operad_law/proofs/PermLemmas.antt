@@ -1,13 +1,7 @@
 -- Permutations: what no refusal says, images under maps that keep them, compositions and powers of the cycle.
-use Rattle.std.proofs.Common.{cond, ◌≡◌, ℕ, zero, suc, ◌+◌, ◌%◌, ◌<◌, ◌≤◌, ◌≢◌, ◌==◌, ◌||◌, Bool, false, List, [], ◌∷◌, ◌++◌, length, map, get_or, None, Some, refl, sym, ap, ◌∙◌, inl, inr, arith, subst, All, nat_lt, eq-eqb, ne_eqb}
-use Rattle.std.proofs.Math.Nat.{mod-add-mod, add-mod-mod, mod-eq_of_lt, mod-lt, mod_self}
-use Rattle.std.proofs.lemmas.Bool.{cases_Bool, cases_eq, eqb-false, or_parts}
-use Rattle.std.proofs.lemmas.List.{length-map, map-append}
-use Rattle.std.proofs.lemmas.List.Elements.{All-nil, All-cons, All-head, All-tail, All-map, All-weaker, All-get_or}
-use Rattle.signed_sum.specs.Names.{IsDistinct, numbers_from, occurs, cycle_power, cycle, entry_at}
-use Rattle.signed_sum.proofs.Names.{length-numbers_from, numbers_from-distinct, occurs-01, occurs-cons, occurs-mid, occurs-more}
-use Rattle.operad_law.specs.Refusals.{first_place_from, is_misplaced, permutation_fault, repeated_place}
-use Rattle.operad_law.specs.Permutations.{IsPerm, composed, identity}
+use Rattle.std.proofs.{Common.{cond, ◌≡◌, ℕ, zero, suc, ◌+◌, ◌%◌, ◌<◌, ◌≤◌, ◌≢◌, ◌==◌, ◌||◌, Bool, false, List, [], ◌∷◌, ◌++◌, length, map, get_or, None, Some, refl, sym, ap, ◌∙◌, inl, inr, arith, subst, All, nat_lt, eq-eqb, ne_eqb}, Math.Nat.{mod-add-mod, add-mod-mod, mod-eq_of_lt, mod-lt, mod_self}, lemmas.Bool.{cases_Bool, cases_eq, eqb-false, or_parts}, lemmas.Bool.Decides.nat_tests, lemmas.List.{length-map, map-append}, lemmas.List.Elements.{All-nil, All-cons, All-head, All-tail, All-map, All-weaker, All-get_or}}
+use Rattle.signed_sum.{specs.Names.{IsDistinct, numbers_from, occurs, cycle_power, cycle, entry_at}, proofs.Names.{length-numbers_from, numbers_from-distinct, occurs-01, occurs-cons, occurs-mid, occurs-more, occurs-range, occurs-tail, range-in}}
+use Rattle.operad_law.specs.{Refusals.{first_place_from, is_misplaced, permutation_fault, repeated_place}, Permutations.{IsPerm, composed, identity}}
 
 -- ---- what it means that a test holds nowhere
 first_place-none : (test : List ℕ → ℕ → Bool) (before : List ℕ) (x : ℕ) (xs : List ℕ) → first_place_from test before (x ∷ xs) ≡ None →
@@ -69,21 +63,15 @@ occurs-map_none : (f : ℕ → ℕ) (x : ℕ) (ys : List ℕ) → ((y : ℕ) →
 occurs-map_none f x [] h = refl
 occurs-map_none f x (y ∷ ys) h =
     let ne : f x ≢ f y = h y (occurs-mid y [] ys) in
-    rw (ne_eqb (f x) (f y) ne) (occurs-map_none f x ys (λ z o. h z (occurs-later_one z y ys o)))
-  where
-    occurs-later_one : (z y : ℕ) (ys : List ℕ) → occurs z ys ≡ 1 → occurs z (y ∷ ys) ≡ 1
-    occurs-later_one z y ys o = elim (occurs-cons z y ys) [ inl e ↦ ap (λ w. occurs w (y ∷ ys)) e ∙ occurs-mid y [] ys | inr e ↦ e ∙ o ]
+    rw (ne_eqb (f x) (f y) ne) (occurs-map_none f x ys (λ z o. h z (occurs-tail z y ys o)))
 
 pub IsDistinct-map : (f : ℕ → ℕ) (xs : List ℕ) → IsDistinct xs → ((x y : ℕ) → occurs x xs ≡ 1 → occurs y xs ≡ 1 → f x ≡ f y → x ≡ y) → IsDistinct (map f xs)
 IsDistinct-map f [] d h = tt
 IsDistinct-map f (x ∷ xs) d h = (
-  occurs-map_none f x xs (λ y o e. let q : x ≡ y = h x y (occurs-mid x [] xs) (later y o) e in
+  occurs-map_none f x xs (λ y o e. let q : x ≡ y = h x y (occurs-mid x [] xs) (occurs-tail y x xs o) e in
       let z : occurs y xs ≡ 0 = ap (λ w. occurs w xs) (sym q) ∙ d.0 in absurd (omega arith)),
-  IsDistinct-map f xs d.1 (λ y z o p. h y z (later y o) (later z p)),
+  IsDistinct-map f xs d.1 (λ y z o p. h y z (occurs-tail y x xs o) (occurs-tail z x xs p)),
 )
-  where
-    later : (z : ℕ) → occurs z xs ≡ 1 → occurs z (x ∷ xs) ≡ 1
-    later z o = elim (occurs-cons z x xs) [ inl e ↦ ap (λ w. occurs w (x ∷ xs)) e ∙ occurs-mid x [] xs | inr e ↦ e ∙ o ]
 
 -- an entry of a list has what all entries have
 pub All-occurs : (P : ℕ → Type 0) (xs : List ℕ) (v : ℕ) → All P xs → occurs v xs ≡ 1 → P v
@@ -97,7 +85,6 @@ All-occurs P (x ∷ xs) v a o = elim (occurs-cons v x xs) [
 pub record Permutes (f : ℕ → ℕ) (n : ℕ) : Type 0 where
   pub within : (v : ℕ) → 1 ≤ v → v ≤ n → (1 ≤ f v) × (f v ≤ n)
   pub apart : (v w : ℕ) → 1 ≤ v → v ≤ n → 1 ≤ w → w ≤ n → f v ≡ f w → v ≡ w
-  pub reaches : (v : ℕ) → 1 ≤ v → v ≤ n → (w : ℕ) × (1 ≤ w) × (w ≤ n) × (f w ≡ v)
 
 pub IsPerm-map : (f : ℕ → ℕ) (p : List ℕ) → IsPerm p → Permutes f (length p) → IsPerm (map f p)
 IsPerm-map f p h m =
@@ -113,10 +100,7 @@ IsPerm-map f p h m =
 occurs-get_or : (p : List ℕ) (i : ℕ) → i < length p → occurs (get_or p i 0) p ≡ 1
 occurs-get_or [] i h = absurd (omega arith)
 occurs-get_or (x ∷ p) zero h = occurs-mid x [] p
-occurs-get_or (x ∷ p) (suc i) h = elim (occurs-cons (get_or p i 0) x p) [
-  | inl e ↦ ap (λ w. occurs w (x ∷ p)) e ∙ occurs-mid x [] p
-  | inr e ↦ e ∙ occurs-get_or p i (omega arith)
-]
+occurs-get_or (x ∷ p) (suc i) h = occurs-tail (get_or p i 0) x p (occurs-get_or p i (omega arith))
 
 distinct-apart : (p : List ℕ) (i j : ℕ) → IsDistinct p → i < length p → j < length p → get_or p i 0 ≡ get_or p j 0 → i ≡ j
 distinct-apart [] i j d h k e = absurd (omega arith)
@@ -133,17 +117,11 @@ removed x (y ∷ ys) = cond (x == y) ys (y ∷ removed x ys)
 
 length-removed : (x : ℕ) (ks : List ℕ) → occurs x ks ≡ 1 → suc (length (removed x ks)) ≡ length ks
 length-removed x [] o = absurd (omega (arith, o))
-length-removed x (k ∷ ks) o = elim (cases_eq x k) [
-  | inl e ↦ rw (eq-eqb x k e) refl
-  | inr n ↦ rw (ne_eqb x k n) (ap suc (length-removed x ks (rw (ne_eqb x k n) at o)))
-]
+length-removed x (k ∷ ks) o = grind (arith, nat_tests, length-removed x ks)
 
 occurs-removed : (x y : ℕ) (ks : List ℕ) → y ≢ x → occurs y (removed x ks) ≡ occurs y ks
 occurs-removed x y [] n = refl
-occurs-removed x y (k ∷ ks) n = elim (cases_eq x k) [
-  | inl e ↦ rw (eq-eqb x k e, ne_eqb y k (λ q. n (q ∙ sym e))) refl
-  | inr m ↦ rw (ne_eqb x k m) (ap (λ o. cond (y == k) 1 o) (occurs-removed x y ks n))
-]
+occurs-removed x y (k ∷ ks) n = grind (arith, nat_tests, occurs-removed x y ks)
 
 -- distinct entries of a list are no more than it has places
 no_more : (xs ks : List ℕ) → IsDistinct xs → ((v : ℕ) → occurs v xs ≡ 1 → occurs v ks ≡ 1) → length xs ≤ length ks
@@ -151,44 +129,47 @@ no_more [] ks d h = omega arith
 no_more (x ∷ xs) ks d h =
     let ih = no_more xs (removed x ks) d.1 (λ v o.
     let apart : v ≢ x = λ e. absurd (let k : occurs v xs ≡ 0 = ap (λ w. occurs w xs) e ∙ d.0 in omega arith) in
-    occurs-removed x v ks apart ∙ h v (later v o)) in
+    occurs-removed x v ks apart ∙ h v (occurs-tail v x xs o)) in
     omega (arith, ih, length-removed x ks (h x (occurs-mid x [] xs)))
-  where
-    later : (v : ℕ) → occurs v xs ≡ 1 → occurs v (x ∷ xs) ≡ 1
-    later v o = elim (occurs-cons v x xs) [ inl e ↦ ap (λ w. occurs w (x ∷ xs)) e ∙ occurs-mid x [] xs | inr e ↦ e ∙ o ]
-
-pub numbers_from-has : (a n v : ℕ) → a ≤ v → v < a + n → occurs v (numbers_from a n) ≡ 1
-numbers_from-has a zero v h k = absurd (omega arith)
-numbers_from-has a (suc n) v h k = elim (cases_eq v a) [
-  | inl e ↦ rw (eq-eqb v a e) refl
-  | inr m ↦ rw (ne_eqb v a m) (numbers_from-has (suc a) n v (omega arith) (omega arith))
-]
-
-pub place_of : (v : ℕ) (xs : List ℕ) → occurs v xs ≡ 1 → (i : ℕ) × (i < length xs) × (get_or xs i 0 ≡ v)
-place_of v [] o = absurd (omega (arith, o))
-place_of v (x ∷ xs) o = elim (cases_eq v x) [
-  | inl e ↦ (0, omega arith, sym e)
-  | inr n ↦ let r = place_of v xs (rw (ne_eqb v x n) at o) in (suc r.0, omega (arith, r.1), r.2)
-]
 
 pub perm-has : (p : List ℕ) → IsPerm p → (v : ℕ) → 1 ≤ v → v ≤ length p → occurs v p ≡ 1
 perm-has p h v a b = elim (occurs-01 v p) [
   | inr o ↦ o
   | inl z ↦ absurd (
       let n = numbers_from 1 (length p) in
-      let there : occurs v n ≡ 1 = numbers_from-has 1 (length p) v a (omega arith) in
+      let there : occurs v n ≡ 1 = range-in v 1 (length p) a (omega arith) in
       let few = no_more p (removed v n) h.distinct (λ w o.
       let inside : (1 ≤ w) × (w ≤ length p) = All-occurs (λ u. (1 ≤ u) × (u ≤ length p)) p w h.within o in
       let apart : w ≢ v = λ e. absurd (let k : occurs w p ≡ 0 = ap (λ u. occurs u p) e ∙ z in omega arith) in
-      occurs-removed v w n apart ∙ numbers_from-has 1 (length p) w inside.0 (omega (arith, inside.1))) in
+      occurs-removed v w n apart ∙ range-in w 1 (length p) inside.0 (omega (arith, inside.1))) in
       omega (arith, few, length-removed v n there, length-numbers_from 1 (length p)))
 ]
+
+-- a permutation takes each of the numbers from 1 to its length, and no other
+pub perm-onto : (p : List ℕ) → IsPerm p → (v : ℕ) → occurs v p ≡ occurs v (numbers_from 1 (length p))
+perm-onto p h = occurs-range 1 (length p) p
+    (λ v o. let b : (1 ≤ v) × (v ≤ length p) = All-occurs (λ u. (1 ≤ u) × (u ≤ length p)) p v h.within o in (b.0, omega (arith, b.1)))
+    (λ v a b. perm-has p h v a (omega (arith, b)))
+
+pub entry-map : (f : ℕ → ℕ) (t : List ℕ) (v : ℕ) → 1 ≤ v → v ≤ length t → entry_at (map f t) v ≡ f (entry_at t v)
+entry-map f t zero a b = absurd (omega arith)
+entry-map f [] (suc v) a b = absurd (omega arith)
+entry-map f (x ∷ t) (suc zero) a b = refl
+entry-map f (x ∷ t) (suc (suc v)) a b = entry-map f t (suc v) (omega arith) (omega arith)
+
+pub entry-identity : (r v : ℕ) → 1 ≤ v → v ≤ r → entry_at (identity r) v ≡ v
+entry-identity r zero a b = absurd (omega arith)
+entry-identity r (suc v) a b = omega (arith, numbers-at 1 r v (omega arith))
+  where
+    numbers-at : (a n i : ℕ) → i < n → get_or (numbers_from a n) i 0 ≡ a + i
+    numbers-at a zero i h = absurd (omega arith)
+    numbers-at a (suc n) zero h = omega arith
+    numbers-at a (suc n) (suc i) h = omega (arith, numbers-at (suc a) n i (omega arith))
 
 pub Permutes-entry_at : (p : List ℕ) → IsPerm p → Permutes (entry_at p) (length p)
 Permutes-entry_at p h = record {
   within = λ v a b. at_one v a b;
   apart = λ v w a b c d e. at_two v w a b c d e;
-  reaches = λ v a b. let r = place_of v p (perm-has p h v a b) in (suc r.0, omega arith, omega (arith, r.1), r.2);
 }
   where
     at_one : (v : ℕ) → 1 ≤ v → v ≤ length p → (1 ≤ entry_at p v) × (entry_at p v ≤ length p)
@@ -226,13 +207,7 @@ Permutes-cycle r h = record {
       | inr n ↦ let k : suc v ≡ suc w = sym (cycle-other r v m) ∙ e ∙ cycle-other r w n in omega arith
     ]
   ];
-  reaches = λ v a b. before v a b;
 }
-  where
-    before : (v : ℕ) → 1 ≤ v → v ≤ r → (w : ℕ) × (1 ≤ w) × (w ≤ r) × (cycle r w ≡ v)
-    before zero a b = absurd (omega arith)
-    before (suc zero) a b = (r, h, omega arith, cycle-last r r refl)
-    before (suc (suc v)) a b = (suc v, omega arith, omega arith, cycle-other r (suc v) (λ e. absurd (omega arith)))
 
 numbers_from-within : (a n m : ℕ) → 1 ≤ a → a + n ≤ suc m → All (λ v. (1 ≤ v) × (v ≤ m)) (numbers_from a n)
 numbers_from-within a zero m h k = All-nil (λ v. (1 ≤ v) × (v ≤ m))

@@ -1,14 +1,7 @@
 -- A list of terms with one more term: its value, its weight and its order.
-use Rattle.std.proofs.Common.{◌≡◌, ◌+◌, ◌≤◌, List, [], ◌∷◌, ◌++◌, ◌^◌, refl, ap, ◌∙◌, inl, inr, arith, Ordering, Less, Equal, Greater, ℤ, pos, ◌+ℤ◌, ◌*ℤ◌, nat_abs}
-use Rattle.std.proofs.Math.Nat.{le_trans}
-use Rattle.std.specs.Ordering.{ordering_reverse}
-use Rattle.std.specs.Cmp.{IsTotalOrder}
-use Rattle.std.proofs.lemmas.Int.{ints}
-use Rattle.std.proofs.lemmas.Bool.{cases_Bool}
-use Rattle.signed_sum.proofs.Names.{add-mul, is_zero-true}
-use Rattle.signed_sum.specs.Names.{value_at, weight_of, is_zero}
-use Rattle.operad_law.specs.FormalSums.{IsBelow, IsAscending, IsNonzero, IsFormalSum, with_term, plus_first, plus_term}
-use Rattle.operad_law.specs.Places.{IsAbove}
+use Rattle.std.{proofs.Common.{◌≡◌, ◌+◌, ◌≤◌, List, [], ◌∷◌, ◌++◌, ◌^◌, refl, ap, ◌∙◌, inl, inr, arith, Ordering, Less, Equal, Greater, ℤ, pos, ◌+ℤ◌, ◌*ℤ◌, nat_abs}, proofs.Math.Nat.le_trans, specs.Ordering.ordering_reverse, specs.Cmp.IsTotalOrder, proofs.lemmas.Int.ints, proofs.lemmas.Bool.cases_Bool}
+use Rattle.signed_sum.{proofs.Names.{add-mul, is_zero-true}, specs.Names.{value_at, weight_of, is_zero}}
+use Rattle.operad_law.specs.{FormalSums.{IsBelow, IsAscending, IsNonzero, IsFormalSum, with_term, plus_first, plus_term}, Places.IsAbove}
 
 pub value_at-with_term : {X : Type 0} (phi : X → ℤ) (x : X) (c : ℤ) (ts : List (X × ℤ)) → value_at phi (with_term x c ts) ≡ c *ℤ phi x +ℤ value_at phi ts
 value_at-with_term phi x c ts = elim (cases_Bool (is_zero c)) [

@@ -1,16 +1,10 @@
 -- Sums of scaled sums, and of boundaries, term by term.
-use Rattle.std.proofs.Common.{◌≡◌, ℕ, ◌+◌, ◌*◌, ◌≤◌, List, [], ◌∷◌, ◌++◌, take, drop, refl, ap, arith, ℤ, pos, ◌*ℤ◌, nat_abs, take-append-drop}
-use Rattle.std.proofs.lemmas.Int.{ints, unsigned_abs-mul}
-use Rattle.std.proofs.Math.Nat.{mul-le-mul_left}
-use Rattle.signed_sum.proofs.Names.{one-mul, value_at-append, weight_of-append}
-use Rattle.signed_sum.specs.Names.{value_at, weight_of}
+use Rattle.std.proofs.{Common.{◌≡◌, ℕ, ◌+◌, ◌*◌, ◌≤◌, List, [], ◌∷◌, ◌++◌, take, drop, ap, arith, ℤ, pos, ◌*ℤ◌, nat_abs, take-append-drop}, lemmas.Int.{ints, unsigned_abs-mul}, Math.Nat.mul-le-mul_left}
+use Rattle.signed_sum.{proofs.Names.{one-mul, value_at-append, weight_of-append}, specs.Names.{value_at, weight_of}}
 use Rattle.operad_law.specs.FormalSums.{IsPlusScaled, IsSameSum, SumsBoundaries}
 
 pub abs-mul : (a b : ℤ) → nat_abs (a *ℤ b) ≡ nat_abs a * nat_abs b
 abs-mul a b = unsigned_abs-mul a b
-
-pub SumsBoundaries-none : {X : Type 0} (boundary : X → List (X × ℤ)) → SumsBoundaries boundary [] []
-SumsBoundaries-none boundary = record { sums = λ phi. refl; light = omega arith }
 
 pub SumsBoundaries-one : {X : Type 0} (boundary : X → List (X × ℤ)) (x : X) (by : ℤ) (none faces new : List (X × ℤ)) → none ≡ [] → IsSameSum faces (boundary x) → weight_of faces ≤ 255 → IsPlusScaled none faces by new → SumsBoundaries boundary ((x, by) ∷ []) new
 SumsBoundaries-one boundary x by none faces new z same w n = record {

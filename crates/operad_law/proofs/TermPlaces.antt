@@ -1,16 +1,7 @@
 -- A term added at a place of the list.
-use Rattle.std.proofs.Common.{◌≡◌, ℕ, zero, suc, ◌+◌, ◌≤◌, ◌<◌, ◌≢◌, Bool, true, false, cond, List, [], ◌∷◌, ◌++◌, length, take, drop, set, get_or, get_or-set_same, refl, sym, ap, ◌∙◌, inl, inr, arith, Ordering, Less, Equal, Greater, is_eq, FitsSigned, w64, of_z, ℤ, pos, ◌+ℤ◌, nat_abs, take-append-drop, drop-set-lt, length-set}
-use Rattle.std.proofs.lemmas.Int.{ints}
-use Rattle.std.proofs.lemmas.Bool.{cases_Bool}
-use Rattle.signed_sum.proofs.Names.{is_zero-true}
-use Rattle.std.proofs.Math.Seq.{take-suc, drop-cons}
-use Rattle.std.proofs.lemmas.List.{take-set}
-use Rattle.std.specs.Cmp.{IsTotalOrder}
-use Rattle.operad_law.specs.Places.{IsAbove}
-use Rattle.operad_law.specs.FormalSums.{IsAscending, IsBelow, coefficient_of, with_term, plus_term, plus_first}
-use Rattle.std.specs.Ordering.{ordering_reverse}
-use Rattle.signed_sum.specs.Names.{is_zero, weight_of}
-use Rattle.operad_law.proofs.PlusTerm.{plus_term-append, weight_of-with_term}
+use Rattle.std.{proofs.Common.{◌≡◌, ℕ, zero, suc, ◌+◌, ◌≤◌, ◌<◌, ◌≢◌, Bool, true, false, cond, List, [], ◌∷◌, ◌++◌, length, take, drop, set, get_or, get_or-set_same, refl, sym, ap, ◌∙◌, inl, inr, arith, Ordering, Less, Equal, Greater, is_eq, FitsSigned, w64, of_z, ℤ, pos, ◌+ℤ◌, nat_abs, take-append-drop, drop-set-lt, length-set}, proofs.lemmas.Int.ints, proofs.lemmas.Bool.cases_Bool, proofs.Math.Seq.{take-suc, drop-cons}, proofs.lemmas.List.take-set, specs.Cmp.IsTotalOrder, specs.Ordering.ordering_reverse}
+use Rattle.signed_sum.{proofs.Names.is_zero-true, specs.Names.{is_zero, weight_of}}
+use Rattle.operad_law.{specs.Places.IsAbove, specs.FormalSums.{IsAscending, IsBelow, coefficient_of, with_term, plus_term, plus_first}, proofs.PlusTerm.{plus_term-append, weight_of-with_term}}
 
 IsAbove-push : {X : Type 0} (cmp : X → X → Ordering) (x : X) (ts : List (X × ℤ)) (t : X × ℤ) → IsAbove cmp x ts → cmp t.0 x ≡ Less → IsAbove cmp x (ts ++ t ∷ [])
 IsAbove-push cmp x [] t a l = (l, tt)

@@ -1,10 +1,7 @@
 -- The sums of the turn of an element, term by term.
-use Rattle.std.proofs.Common.{◌≡◌, ℕ, suc, ◌+◌, ◌≤◌, ◌^◌, List, [], sym, ap, ◌∙◌, inl, inr, arith, Ordering, Equal, w64, to_z, of_z, FitsSigned, ℤ, negsuc, ◌*ℤ◌, nat_abs}
-use Rattle.std.proofs.lemmas.Int.{ints, to_z-of_z}
-use Rattle.signed_sum.specs.Names.{value_at, weight_of, IsSign, difference, power_sum, after_turns}
-use Rattle.operad_law.specs.FormalSums.{IsSameSum, plus_term}
-use Rattle.operad_law.proofs.PlusTerm.{weight_of-plus_term}
-use Rattle.operad_law.proofs.Unique.{summed, value_at-summed}
+use Rattle.std.proofs.{Common.{◌≡◌, ℕ, suc, ◌+◌, ◌≤◌, ◌^◌, List, [], sym, ap, ◌∙◌, inl, inr, arith, Ordering, Equal, w64, to_z, of_z, FitsSigned, ℤ, negsuc, ◌*ℤ◌, nat_abs}, lemmas.Int.{ints, to_z-of_z}}
+use Rattle.signed_sum.{specs.Names.{value_at, weight_of, IsSign, difference, power_sum, after_turns}, proofs.Names.pair_turn-sign}
+use Rattle.operad_law.{specs.FormalSums.{IsSameSum, plus_term}, proofs.PlusTerm.weight_of-plus_term, proofs.Unique.{summed, value_at-summed}}
 
 -- a list summed up is the same sum
 pub IsSameSum-summed : {X : Type 0} (cmp : X → X → Ordering) (same : (x y : X) → cmp x y ≡ Equal → x ≡ y) (s ts : List (X × ℤ)) → s ≡ summed cmp ts → IsSameSum s ts
@@ -21,13 +18,6 @@ sign_size s h = elim h [ inl e ↦ ap nat_abs e | inr e ↦ ap nat_abs e ]
 
 pub fits_sign : (s : ℤ) → IsSign s → FitsSigned w64 s
 fits_sign s h = elim h [ inl e ↦ omega (arith, ints) | inr e ↦ omega (arith, ints) ]
-
-pub times_sign : (a b : ℤ) → IsSign a → IsSign b → IsSign (a *ℤ b)
-times_sign a b h k =
-    elim h [
-      | inl e ↦ elim k [ inl f ↦ inl (λ i. e i *ℤ f i) | inr f ↦ inr (λ i. e i *ℤ f i) ]
-      | inr e ↦ elim k [ inl f ↦ inr (λ i. e i *ℤ f i) | inr f ↦ inl (λ i. e i *ℤ f i) ]
-    ]
 
 -- one more power in the sum
 pub power-next : {X : Type 0} (cmp : X → X → Ordering) (turn : X → X × ℤ) (n : ℕ) (x element : X) (sign : ℤ) (now new : List (X × ℤ)) → after_turns turn n x ≡ (element, sign) →
@@ -46,9 +36,6 @@ after_turns-next turn n x element next sign step product t e p =
 pub weight-next : {X : Type 0} (cmp : X → X → Ordering) (n : ℕ) (element : X) (sign : ℤ) (now new : List (X × ℤ)) → IsSign sign → weight_of now ≤ n → new ≡ plus_term cmp now element sign → weight_of new ≤ n + 1
 weight-next cmp n element sign now new s h e = rw e (omega (arith, weight_of-plus_term cmp now element sign, sign_size sign s))
 
-pub room : {X : Type 0} (now : List (X × ℤ)) (sign : ℤ) (n : ℕ) → IsSign sign → weight_of now ≤ n → n ≤ 2 ^ 32 → weight_of now + nat_abs sign ≤ 10 ^ 18
-room now sign n s h k = omega (arith, sign_size sign s)
-
 -- the product of two signs, as the code makes it
 pub product_of_signs : (s t : ℤ) → IsSign s → IsSign t → to_z w64 (of_z w64 (s *ℤ to_z w64 (of_z w64 t))) ≡ s *ℤ t
-product_of_signs s t h k = rw (to_z-of_z w64 t (fits_sign t k)) (to_z-of_z w64 (s *ℤ t) (fits_sign (s *ℤ t) (times_sign s t h k)))
+product_of_signs s t h k = rw (to_z-of_z w64 t (fits_sign t k)) (to_z-of_z w64 (s *ℤ t) (fits_sign (s *ℤ t) (pair_turn-sign s t h k)))

@@ -1,12 +1,7 @@
 -- Formal sums with the same value at every function are equal.
-use Rattle.std.proofs.Common.{◌≡◌, ◌≤◌, false, cond, List, [], ◌∷◌, refl, sym, ap, ◌∙◌, arith, Ordering, Less, Equal, Greater, is_eq, ℤ, pos, ◌+ℤ◌, ◌*ℤ◌}
-use Rattle.std.specs.Cmp.{IsTotalOrder}
-use Rattle.std.specs.Ordering.{ordering_reverse}
-use Rattle.std.proofs.lemmas.Cmp.{tied_itself}
-use Rattle.std.proofs.lemmas.Int.{ints}
+use Rattle.std.{proofs.Common.{◌≡◌, ◌≤◌, false, cond, List, [], ◌∷◌, refl, sym, ap, ◌∙◌, arith, Ordering, Less, Equal, Greater, is_eq, ℤ, pos, ◌+ℤ◌, ◌*ℤ◌}, specs.Cmp.IsTotalOrder, specs.Ordering.ordering_reverse, proofs.lemmas.Cmp.tied_itself, proofs.lemmas.Int.ints}
 use Rattle.signed_sum.specs.Names.{value_at, weight_of, is_zero}
-use Rattle.operad_law.specs.FormalSums.{IsBelow, IsAscending, IsNonzero, IsFormalSum, IsSameSum, plus_term}
-use Rattle.operad_law.proofs.PlusTerm.{value_at-plus_term, weight_of-plus_term, IsAscending-plus_term, IsNonzero-plus_term}
+use Rattle.operad_law.{specs.FormalSums.{IsBelow, IsAscending, IsNonzero, IsFormalSum, IsSameSum, plus_term}, proofs.PlusTerm.{value_at-plus_term, weight_of-plus_term, IsAscending-plus_term, IsNonzero-plus_term}}
 
 -- 1 at x, and 0 elsewhere
 abbrev pub one_at : {X : Type 0} → (X → X → Ordering) → X → X → ℤ

@@ -1,10 +1,6 @@
 -- Symbols in lists, the order of a word, and parity.
-use Rattle.std.proofs.Common.{◌≡◌, ℕ, zero, suc, ◌+◌, ◌-◌, length-drop, ◌<◌, ◌==◌, Bool, true, false, not, cond, List, [], ◌∷◌, length, take, drop, get_or, Some, refl, sym, ap, ◌∙◌, inl, inr, arith, pos, negsuc, neg_ℤ, eq-eqb, ne_eqb, length-take}
-use Rattle.std.specs.List.{list_any}
-use Rattle.std.proofs.lemmas.Bool.{cases_Bool, cases_eq}
-use Rattle.std.proofs.Math.Seq.{take-suc, drop-cons}
+use Rattle.std.{proofs.Common.{◌≡◌, ℕ, zero, suc, ◌+◌, ◌-◌, length-drop, ◌<◌, ◌==◌, Bool, true, false, not, cond, List, [], ◌∷◌, length, take, drop, get_or, refl, sym, ap, ◌∙◌, inl, inr, arith, pos, negsuc, neg_ℤ, eq-eqb, ne_eqb}, specs.List.list_any, proofs.lemmas.Bool.{cases_Bool, cases_eq}, proofs.Math.Seq.drop-cons}
 use Rattle.signed_sum.specs.Names.{occurs, signed, count_before, inversion_count, stands_before}
-use Rattle.operad_law.specs.Refusals.{first_place_from}
 use Rattle.operad_law.specs.Parity.{is_odd}
 
 -- whether some entry is v
@@ -16,17 +12,6 @@ any-occurs v (y ∷ xs) = elim (cases_eq v y) [
 ]
 
 -- ---- the first place at which a test holds
-pub first_place-found : (test : List ℕ → ℕ → Bool) (xs : List ℕ) (i : ℕ) → i < length xs → test (take i xs) (get_or xs i 0) ≡ true →
-    first_place_from test (take i xs) (drop i xs) ≡ Some (i + 1)
-first_place-found test xs i h t =
-    let n : suc (length (take i xs)) ≡ i + 1 = omega (arith, length-take i xs) in
-    rw (drop-cons xs i 0 h, t) (ap Some n)
-
-pub first_place-next : (test : List ℕ → ℕ → Bool) (xs : List ℕ) (i : ℕ) → i < length xs → test (take i xs) (get_or xs i 0) ≡ false →
-    first_place_from test (take i xs) (drop i xs) ≡ first_place_from test (take (i + 1) xs) (drop (i + 1) xs)
-first_place-next test xs i h t =
-    let e : i + 1 ≡ suc i = omega arith in
-    rw (e, drop-cons xs i 0 h, take-suc xs i 0 h, t) refl
 
 -- the rest of a list from a place on, as slicing shows it
 pub drop_rest : (xs : List ℕ) (i : ℕ) → take (length xs - i) (drop i xs) ≡ drop i xs
@@ -48,10 +33,6 @@ not_differ true false = refl
 not_differ false true = refl
 not_differ false false = refl
 
-pub not_not : (b : Bool) → not (not b) ≡ b
-not_not true = refl
-not_not false = refl
-
 pub differ-none : (a : Bool) → differ a false ≡ a
 differ-none true = refl
 differ-none false = refl
@@ -69,17 +50,6 @@ signed-odd zero = refl
 signed-odd (suc n) = ap neg_ℤ (signed-odd n) ∙ (elim (is_odd n) as (λ b. neg_ℤ (cond b (negsuc 0) (pos 1)) ≡ cond (not b) (negsuc 0) (pos 1)) [ true ↦ refl | false ↦ refl ])
 
 -- ---- the order of a word
-pub stands_before-skip : (xs : List ℕ) (i y x : ℕ) → i < length xs → (get_or xs i 0 ≡ x → ⊥) → (get_or xs i 0 ≡ y → ⊥) →
-    stands_before (drop i xs) y x ≡ stands_before (drop (i + 1) xs) y x
-stands_before-skip xs i y x h n m =
-    let e : i + 1 ≡ suc i = omega arith in
-    rw (e, drop-cons xs i 0 h, ne_eqb x (get_or xs i 0) (λ q. n (sym q)), ne_eqb y (get_or xs i 0) (λ q. m (sym q))) refl
-
-pub stands_before-after : (xs : List ℕ) (i y x : ℕ) → i < length xs → get_or xs i 0 ≡ x → stands_before (drop i xs) y x ≡ 0
-stands_before-after xs i y x h e = rw (drop-cons xs i 0 h, eq-eqb x (get_or xs i 0) (sym e)) refl
-
-pub stands_before-here : (xs : List ℕ) (i y x : ℕ) → i < length xs → (get_or xs i 0 ≡ x → ⊥) → get_or xs i 0 ≡ y → stands_before (drop i xs) y x ≡ 1
-stands_before-here xs i y x h n e = rw (drop-cons xs i 0 h, ne_eqb x (get_or xs i 0) (λ q. n (sym q)), eq-eqb y (get_or xs i 0) (sym e)) refl
 
 one_or_none : (w : List ℕ) (y x : ℕ) → is_odd (stands_before w y x) ≡ (stands_before w y x == 1)
 one_or_none [] y x = refl

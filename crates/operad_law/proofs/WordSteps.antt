@@ -1,14 +1,7 @@
 -- The letters of a mask one after the other, and the terms of the boundary of a word place by place.
-use Rattle.std.proofs.Common.{◌≡◌, ℕ, zero, suc, ◌+◌, ◌-◌, ◌*◌, ◌/◌, ◌%◌, ◌^◌, ◌≤◌, ◌<◌, ◌==◌, Bool, true, false, not, cond, List, [], ◌∷◌, ◌++◌, length, length-append, refl, sym, ◌∙◌, ap, subst, arith, append_assoc, append-nil, ℤ, pos, ◌+ℤ◌, eqb-true}
-use Rattle.std.proofs.Math.Nat.{add-mul-div_left, add-mul-mod_self_left, div-div-eq-div-mul, div-eq_of_lt, div-one, mod-eq_of_lt, pow-suc, pow-succ'}
-use Rattle.std.proofs.lemmas.Bool.{eqb-false}
-use Rattle.std.proofs.lemmas.Int.{ints}
-use Rattle.std.proofs.lemmas.Nat.{mul-mod}
-use Rattle.signed_sum.proofs.Names.{abs-signed, exact_words, value_at-masks, signed-parity, signed-zero, bound-append, bound-false, bound-true, length-letters, letters-mask, mask-below, mask-letters, times-signed, turn-end}
-use Rattle.signed_sum.specs.Names.{signed, value_at, weight_of, IsWord, letter_count, letter_degree, letters, mask_boundary, mask_of, mask_turn, parity, word_boundary, word_degree, word_turn}
-use Rattle.operad_law.specs.FormalSums.{IsSameSum, plus_term}
-use Rattle.operad_law.specs.Words.{with_place, word_order}
-use Rattle.operad_law.proofs.PlusTerm.{value_at-plus_term, weight_of-plus_term}
+use Rattle.std.proofs.{Common.{◌≡◌, ℕ, zero, suc, ◌+◌, ◌-◌, ◌*◌, ◌/◌, ◌%◌, ◌^◌, ◌≤◌, ◌<◌, ◌==◌, Bool, true, false, not, cond, List, [], ◌∷◌, ◌++◌, length, length-append, refl, sym, ◌∙◌, ap, subst, arith, append_assoc, append-nil, ℤ, pos, ◌+ℤ◌, eqb-true}, Math.Nat.{add-mul-div_left, add-mul-mod_self_left, div-div-eq-div-mul, div-eq_of_lt, div-one, mod-eq_of_lt, pow-suc, pow-succ'}, lemmas.Bool.eqb-false, lemmas.Int.ints, lemmas.Nat.mul-mod}
+use Rattle.signed_sum.{proofs.Names.{abs-signed, exact_words, value_at-masks, signed-parity, signed-zero, bound-append, bound-false, bound-true, length-letters, letters-mask, mask-below, mask-letters, times-signed, turn-end}, specs.Names.{signed, value_at, weight_of, IsWord, letter_count, letter_degree, letters, mask_boundary, mask_of, mask_turn, parity, word_boundary, word_degree, word_turn}}
+use Rattle.operad_law.{specs.FormalSums.{IsSameSum, plus_term}, specs.Words.{with_place, word_order}, proofs.PlusTerm.{value_at-plus_term, weight_of-plus_term}}
 
 pub count-one : (l m : Bool) → letter_count l m ≤ 1
 count-one false false = omega arith
@@ -86,9 +79,6 @@ pub record SumsTo (P i : ℕ) (x : ℕ × Bool) (s : List ((ℕ × Bool) × ℤ)
   pub light : weight_of s ≤ i
   pub at : (phi : ℕ × Bool → ℤ) →
       value_at phi s ≡ value_at (λ v. phi (mask_of (v ++ letters (P - i) (x.0 / 2 ^ i)), x.1)) (word_boundary (parity x.1) (letters i x.0))
-
-pub no-place : (P : ℕ) (x : ℕ × Bool) (s : List ((ℕ × Bool) × ℤ)) → s ≡ [] → SumsTo P 0 x s
-no-place P x s e = record { light = rw e (omega arith); at = λ phi. ap (value_at phi) e }
 
 pub all-places : (P : ℕ) (x : ℕ × Bool) (s : List ((ℕ × Bool) × ℤ)) → SumsTo P P x s → IsSameSum s (mask_boundary P x)
 all-places P x s k = record {

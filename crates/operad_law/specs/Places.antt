@@ -1,7 +1,5 @@
 -- Places in lists of terms, for the steps of `add_term` and of sums of two lists.
-use Rattle.std.specs.Prelude.{◌≡◌, List, [], ◌∷◌, ℤ}
-use Rattle.std.specs.declared.cmp.Ordering.{Ordering}
-use Rattle.std.specs.declared.cmp.Ordering.TheVariants.{Less, Greater}
+use Rattle.std.specs.{Prelude.{◌≡◌, List, [], ◌∷◌, ℤ}, declared.cmp.Ordering.Ordering, declared.cmp.Ordering.TheVariants.{Less, Greater}}
 
 -- the element of each term is less than x
 abbrev pub IsAbove : {X : Type 0} → (X → X → Ordering) → X → List (X × ℤ) → Type 0

@@ -1,7 +1,5 @@
 -- The order of words, and the term of a word's boundary at one place.
-use Rattle.std.specs.Prelude.{ℕ, ◌+◌, ◌/◌, ◌%◌, ◌^◌, ◌==◌, Bool, List, ℤ, pos, cond}
-use Rattle.std.specs.Ordering.{bool_cmp, nat_cmp, ordering_then}
-use Rattle.std.specs.declared.cmp.Ordering.{Ordering}
+use Rattle.std.specs.{Prelude.{ℕ, ◌+◌, ◌/◌, ◌%◌, ◌^◌, ◌==◌, Bool, List, ℤ, pos, cond}, Ordering.{bool_cmp, nat_cmp, ordering_then}, declared.cmp.Ordering.Ordering}
 use Rattle.signed_sum.specs.Names.{signed, letter_degree, letters, parity, word_degree}
 use Rattle.operad_law.specs.FormalSums.{plus_term}
 

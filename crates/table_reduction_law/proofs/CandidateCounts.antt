@@ -1,17 +1,8 @@
 -- The tuples and the terms of a May element, and their number.
-use Rattle.signed_sum.proofs.Names.{length-numbers_from}
-use Rattle.std.proofs.Common.{◌≡◌, ℕ, zero, suc, ◌+◌, ◌-◌, ◌*◌, ◌^◌, ◌≤◌, false, List, [], ◌∷◌, ◌++◌, refl, sym, ◌∙◌, ap, arith, map, subst, inl, inr, ℤ, pos, length-append, All, flat_map, length}
-use Rattle.std.proofs.Math.Nat.{pow-succ', pow-zero}
-use Rattle.std.proofs.lemmas.Bool.{cases_Bool}
-use Rattle.std.proofs.lemmas.List.{length-map}
-use Rattle.std.proofs.lemmas.List.Elements.{All-append, All-cons, All-head, All-map, All-nil, All-tail, All-weaker}
-use Rattle.signed_sum.specs.Names.{is_degenerate, numbers_from, kept_terms, unit_terms}
+use Rattle.signed_sum.{proofs.Names.length-numbers_from, specs.Names.{is_degenerate, numbers_from, kept_terms, unit_terms}}
+use Rattle.std.proofs.{Common.{◌≡◌, ℕ, zero, suc, ◌+◌, ◌-◌, ◌*◌, ◌^◌, ◌≤◌, false, List, [], ◌∷◌, ◌++◌, refl, sym, ◌∙◌, ap, arith, map, subst, inl, inr, ℤ, pos, length-append, All, flat_map, length}, Math.Nat.{pow-succ', pow-zero}, lemmas.Bool.cases_Bool, lemmas.List.length-map, lemmas.List.Elements.{All-append, All-cons, All-head, All-map, All-nil, All-tail, All-weaker}}
 use Rattle.surjection_law.specs.Names.{IsOnto}
-use Rattle.table_reduction_law.proofs.MayBoundary.{lead-tuple, tuple-append}
-use Rattle.table_reduction_law.proofs.PowerPairs.{power-perm}
-use Rattle.table_reduction_law.proofs.ReducedLists.{reduced_lists-onto}
-use Rattle.table_reduction_law.proofs.RowCounts.{reduced_lists-length}
-use Rattle.table_reduction_law.specs.Names.{binomial, CandidateCountLaw, MayTermsLaw, ReducedListsLaw, cycle_power, pair_count, leading_entries, may_candidates, may_element, may_tuples, power_pairs, reduced_lists, IsTuple}
+use Rattle.table_reduction_law.{proofs.MayBoundary.{lead-tuple, tuple-append}, proofs.PowerPairs.power-perm, proofs.ReducedLists.reduced_lists-onto, proofs.RowCounts.reduced_lists-length, specs.Names.{binomial, CandidateCountLaw, MayTermsLaw, ReducedListsLaw, cycle_power, pair_count, leading_entries, may_candidates, may_element, may_tuples, power_pairs, reduced_lists, IsTuple}}
 
 All-flat_map : {X Y : Type 0} (P : Y → Type 0) (Q : X → Type 0) (f : X → List Y) (xs : List X) → ((x : X) → Q x → All P (f x)) → All Q xs → All P (flat_map f xs)
 All-flat_map P Q f [] h k = All-nil P

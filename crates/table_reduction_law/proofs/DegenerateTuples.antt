@@ -1,13 +1,7 @@
 -- The table reduction of a degenerate tuple.
-use Rattle.std.proofs.Common.{◌≡◌, ℕ, ◌≤◌, Bool, true, false, ◌||◌, List, [], ◌∷◌, refl, sym, ◌∙◌, ap, arith, eqb, eq-eqb, ℤ, pos}
-use Rattle.std.proofs.lemmas.Bool.{or_left, or_right}
-use Rattle.std.proofs.lemmas.Int.{ints}
-use Rattle.signed_sum.proofs.Names.{is_same_list-true, occurs-self}
-use Rattle.signed_sum.specs.Names.{IsDistinct, begins_with, is_degenerate, is_same_list, IsNormalized}
-use Rattle.table_reduction_law.proofs.ReductionBoundary.{reduced-walked, reduction_sum, tuple_good, walked}
-use Rattle.table_reduction_law.proofs.ReductionWalks.{Good, good-distinct, good-end, good-use, walk, walk-zero}
-use Rattle.table_reduction_law.proofs.UnusedEntries.{unused-absent, unused-cons, unused-none}
-use Rattle.table_reduction_law.specs.Names.{cons_if_zero, unused, IsTuple, is_degenerate_tuple}
+use Rattle.std.proofs.{Common.{◌≡◌, ℕ, ◌≤◌, Bool, true, false, ◌||◌, List, [], ◌∷◌, refl, sym, ◌∙◌, ap, arith, eqb, eq-eqb, ℤ, pos}, lemmas.Bool.{or_left, or_right}, lemmas.Int.ints}
+use Rattle.signed_sum.{proofs.Names.{is_same_list-true, occurs-self}, specs.Names.{IsDistinct, begins_with, is_degenerate, is_same_list, IsNormalized}}
+use Rattle.table_reduction_law.{proofs.ReductionBoundary.{reduced-walked, reduction_sum, tuple_good, walked}, proofs.ReductionWalks.{Good, good-distinct, good-end, good-use, walk, walk-zero}, proofs.UnusedEntries.{unused-absent, unused-cons, unused-none}, specs.Names.{cons_if_zero, unused, IsTuple, is_degenerate_tuple}}
 
 pub normal-cons : (x : ℕ) (h : List ℕ → ℤ) → IsNormalized h → IsNormalized (λ u. h (x ∷ u))
 normal-cons x h n u r = n (x ∷ u) (or_right (begins_with x u) (is_degenerate u) r)

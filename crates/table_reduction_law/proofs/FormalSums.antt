@@ -1,20 +1,8 @@
 -- The laws on formal sums, from the laws on sums tested by functions.
-use Rattle.std.proofs.Common.{◌≡◌, ℕ, zero, suc, ◌+◌, ◌≤◌, Bool, cond, ◌==◌, ◌&&◌, ◌||◌, List, [], ◌∷◌, ◌++◌, map, refl, sym, ◌∙◌, ap, arith, inl, inr, ℤ, pos, ◌+ℤ◌, neg_ℤ, flat_map}
-use Rattle.std.proofs.lemmas.Int.{ints}
-use Rattle.std.proofs.lemmas.Bool.{cases_Bool}
-use Rattle.std.proofs.lemmas.Bool.Decides.{nat_tests}
-use Rattle.signed_sum.proofs.Names.{without_one_terms, without_one-without_one, occurs-self, occurs-tail, fun_ext, restricted-gone, restricted-there, total-append, total-map, value_at-kept_terms, value_at-unit_terms}
-use Rattle.signed_sum.specs.Names.{is_degenerate, is_same_list, numbers_from, occurs, unless_empty, IsNormalized, alternating_terms, kept_terms, normalized, restricted, total, unit_terms, value_at, without_each, without_one}
-use Rattle.surjection_law.proofs.BoundaryPlaces.{normalized-is, value_at-degenerate, value_at-surjection_boundary_places}
-use Rattle.surjection_law.specs.Names.{surjection_boundary, without_place, IsOnto, IsRelabelling}
-use Rattle.table_reduction_law.proofs.DegenerateTuples.{reduced-degenerate}
-use Rattle.table_reduction_law.proofs.MayBoundary.{boundary, even-lists, may-cong, odd-lists}
-use Rattle.table_reduction_law.proofs.Permutations.{Within, map-within, moves-cycle, perm-within, place, reduced-moved, relabels, tuple-moved, uncycle, within-tail}
-use Rattle.table_reduction_law.proofs.PowerPairs.{may_sum, may_tuple_sum, pair_sum, sum_below}
-use Rattle.table_reduction_law.proofs.ReductionBoundary.{boundary-cong, chain-law, face_sum, reduced-walked, reduction_sum, tuple_good, walked}
-use Rattle.table_reduction_law.proofs.ReductionWalks.{walk-cong}
-use Rattle.table_reduction_law.proofs.TupleActions.{face_sum-degenerate, face_sum-map, vanishes}
-use Rattle.table_reduction_law.specs.Names.{DegenerateTupleLaw, MayRelations, ReductionActionLaw, ReductionBoundaryLaw, TupleActionLaw, TupleBoundaryLaw, cycle, cycle_power, pair_count, leading_entries, may_candidates, may_element, may_tuples, power_pairs, turned, reduced_lists, table_reduction, IsTuple, entry_at, is_degenerate_tuple, is_zero_tuple, permuted_tuple, tuple_boundary}
+use Rattle.std.proofs.{Common.{◌≡◌, ℕ, zero, suc, ◌+◌, ◌≤◌, Bool, cond, ◌==◌, ◌&&◌, ◌||◌, List, [], ◌∷◌, ◌++◌, map, refl, sym, ◌∙◌, ap, arith, inl, inr, ℤ, pos, ◌+ℤ◌, neg_ℤ, flat_map}, lemmas.Int.ints, lemmas.Bool.cases_Bool, lemmas.Bool.Decides.nat_tests}
+use Rattle.signed_sum.{proofs.Names.{without_one_terms, without_one-without_one, occurs-self, occurs-tail, fun_ext, restricted-gone, restricted-there, total-append, total-map, value_at-kept_terms, value_at-unit_terms}, specs.Names.{is_degenerate, is_same_list, numbers_from, occurs, unless_empty, IsNormalized, alternating_terms, kept_terms, normalized, restricted, total, unit_terms, value_at, without_each, without_one}}
+use Rattle.surjection_law.{proofs.BoundaryPlaces.normalized-boundary, specs.Names.{surjection_boundary, without_place, IsOnto, IsRelabelling}}
+use Rattle.table_reduction_law.{proofs.DegenerateTuples.reduced-degenerate, proofs.MayBoundary.{boundary, even-lists, may-cong, odd-lists}, proofs.Permutations.{Within, map-within, moves-cycle, perm-within, place, reduced-moved, relabels, tuple-moved, uncycle, within-tail}, proofs.PowerPairs.{may_sum, may_tuple_sum, pair_sum, sum_below}, proofs.ReductionBoundary.{boundary-cong, chain-law, face_sum, reduced-walked, reduction_sum, tuple_good, walked}, proofs.ReductionWalks.walk-cong, proofs.TupleActions.{face_sum-degenerate, face_sum-map, vanishes}, specs.Names.{DegenerateTupleLaw, MayRelations, ReductionActionLaw, ReductionBoundaryLaw, TupleActionLaw, TupleBoundaryLaw, cycle, cycle_power, pair_count, leading_entries, may_candidates, may_element, may_tuples, power_pairs, turned, reduced_lists, table_reduction, IsTuple, entry_at, is_degenerate_tuple, is_zero_tuple, permuted_tuple, tuple_boundary}}
 
 -- values of formal sums
 
@@ -74,12 +62,7 @@ value_at-may_element p d h =
 pub normalized-normalized : (h : List ℕ → ℤ) → IsNormalized (normalized h)
 normalized-normalized h w e = restricted-gone is_degenerate h w e
 
--- the boundary of a degenerate list is zero
-normalized-boundary : (h : List ℕ → ℤ) (u : List ℕ) → normalized (λ u. value_at h (surjection_boundary u)) u ≡ without_place [] u (normalized h)
-normalized-boundary h u =
-    normalized-is (λ u. value_at h (surjection_boundary u)) (λ w e. value_at-degenerate h w e) u ∙ value_at-surjection_boundary_places h u
-
--- and so is the table reduction of a degenerate tuple
+-- the table reduction of a degenerate tuple is zero
 restricted-reduction : (r : ℕ) (h : List ℕ → ℤ) → 1 ≤ r → (v : List (List ℕ)) → IsTuple r v →
     restricted is_degenerate_tuple (λ v. value_at h (table_reduction v)) v ≡ reduction_sum v (normalized h)
 restricted-reduction r h k v t = elim (cases_Bool (is_degenerate_tuple v)) [

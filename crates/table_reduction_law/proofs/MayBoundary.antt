@@ -1,10 +1,7 @@
 -- The relations of May elements in lists of values.
 use Rattle.std.proofs.Common.{◌≡◌, ℕ, zero, suc, ◌%◌, ◌≤◌, List, [], ◌∷◌, ◌++◌, map, refl, ◌∙◌, ap, ℤ, ◌+ℤ◌, neg_ℤ}
 use Rattle.surjection_law.specs.Names.{without_place}
-use Rattle.table_reduction_law.proofs.Permutations.{moves-cycle, reduced-moved, tuple-moved, uncycle}
-use Rattle.table_reduction_law.proofs.PowerPairs.{even-tuples, may_sum, may_tuple_sum, odd-tuples, pairs-cong, power-perm, sum-cong, sum_below, tuple_turned, turned_tuple}
-use Rattle.table_reduction_law.proofs.ReductionBoundary.{chain-law, face_sum, reduction_sum}
-use Rattle.table_reduction_law.specs.Names.{cycle, pair_count, leading_entries, turned, IsTuple}
+use Rattle.table_reduction_law.{proofs.Permutations.{moves-cycle, reduced-moved, tuple-moved, uncycle}, proofs.PowerPairs.{even-tuples, may_sum, may_tuple_sum, odd-tuples, pairs-cong, power-perm, sum-cong, sum_below, tuple_turned, turned_tuple}, proofs.ReductionBoundary.{chain-law, face_sum, reduction_sum}, specs.Names.{cycle, pair_count, leading_entries, turned, IsTuple}}
 
 pub lead-tuple : (p d : ℕ) → IsTuple p (leading_entries p d)
 lead-tuple p zero = (power-perm p 0, tt)

@@ -1,15 +1,7 @@
 -- May elements at 2.
-use Rattle.std.proofs.Common.{◌≡◌, ℕ, zero, suc, ◌+◌, ◌≤◌, ◌⊎◌, inl, inr, true, false, List, [], ◌∷◌, ◌++◌, refl, sym, ◌∙◌, ap, arith, lit≤, ℤ, pos, ◌+ℤ◌, neg_ℤ}
-use Rattle.std.proofs.lemmas.Int.{ints}
-use Rattle.std.proofs.lemmas.Bool.{or_right}
-use Rattle.signed_sum.proofs.Names.{occurs-apart, occurs-self, restricted-there}
-use Rattle.signed_sum.specs.Names.{is_degenerate, IsNormalized, normalized}
-use Rattle.table_reduction_law.proofs.DegenerateTuples.{normal-cons, normal-twice, reduced-degenerate, walk-begins}
-use Rattle.table_reduction_law.proofs.FormalSums.{normalized-normalized, value_at-may_element}
-use Rattle.table_reduction_law.proofs.PowerPairs.{may_sum, may_tuple_sum, pair_sum, pairs-cong, pairs-neg, power-perm}
-use Rattle.table_reduction_law.proofs.ReductionBoundary.{reduced-walked, reduction_sum}
-use Rattle.table_reduction_law.proofs.ReductionWalks.{walk}
-use Rattle.table_reduction_law.specs.Names.{in_turn, MayTwoLaw, pair_count, leading_entries, cons_if_zero, unused, IsPermutationOf, IsTuple, begins_with_entry, is_degenerate_tuple}
+use Rattle.std.proofs.{Common.{◌≡◌, ℕ, zero, suc, ◌+◌, ◌≤◌, ◌⊎◌, inl, inr, true, false, List, [], ◌∷◌, ◌++◌, refl, sym, ◌∙◌, ap, arith, lit≤, ℤ, pos, ◌+ℤ◌, neg_ℤ}, lemmas.Int.ints, lemmas.Bool.or_right}
+use Rattle.signed_sum.{proofs.Names.{occurs-apart, occurs-self, restricted-there}, specs.Names.{is_degenerate, IsNormalized, normalized}}
+use Rattle.table_reduction_law.{proofs.DegenerateTuples.{normal-cons, normal-twice, reduced-degenerate, walk-begins}, proofs.FormalSums.{normalized-normalized, value_at-may_element}, proofs.PowerPairs.{may_sum, may_tuple_sum, pair_sum, pairs-cong, pairs-neg, power-perm}, proofs.ReductionBoundary.{reduced-walked, reduction_sum}, proofs.ReductionWalks.walk, specs.Names.{in_turn, MayTwoLaw, pair_count, leading_entries, cons_if_zero, unused, IsPermutationOf, IsTuple, begins_with_entry, is_degenerate_tuple}}
 
 abbrev one : List ℕ
 one = 1 ∷ 2 ∷ []

@@ -1,11 +1,7 @@
 -- The removals from the lists of a table reduction cancel, but for those that take one permutation out of the tuple.
-use Rattle.std.proofs.Common.{◌≡◌, ℕ, zero, suc, cond, List, [], ◌∷◌, refl, ◌∙◌, ap, arith, ◌==◌, true, false, ℤ, pos, ◌+ℤ◌, neg_ℤ}
-use Rattle.std.proofs.lemmas.Int.{ints}
-use Rattle.signed_sum.proofs.Names.{Alike, occurs-self, signed-+, signed-neg, signed-zero, without_one-sum, without_one-zero}
-use Rattle.signed_sum.specs.Names.{signed, without_one}
-use Rattle.table_reduction_law.proofs.ReductionWalks.{Good, good-end, good-use, left, put, removals, removals-agree, removals-mark, walk}
-use Rattle.table_reduction_law.proofs.UnusedEntries.{unused-cons}
-use Rattle.table_reduction_law.specs.Names.{unused}
+use Rattle.std.proofs.{Common.{◌≡◌, ℕ, zero, suc, cond, List, [], ◌∷◌, refl, ◌∙◌, ap, arith, ◌==◌, true, false, ℤ, pos, ◌+ℤ◌, neg_ℤ}, lemmas.Int.ints}
+use Rattle.signed_sum.{proofs.Names.{Alike, occurs-self, signed-+, signed-neg, signed-zero, without_one-sum, without_one-zero}, specs.Names.{signed, without_one}}
+use Rattle.table_reduction_law.{proofs.ReductionWalks.{Good, good-end, good-use, left, put, removals, removals-agree, removals-mark, walk}, proofs.UnusedEntries.unused-cons, specs.Names.unused}
 
 -- no value has ended a row
 abbrev pub unmarked : ℕ → ℕ

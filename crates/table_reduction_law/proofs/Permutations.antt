@@ -1,13 +1,8 @@
 -- Permutations as maps of values, and table reduction of a moved tuple.
-use Rattle.std.proofs.Common.{◌≡◌, ℕ, zero, suc, ◌+◌, ◌<◌, ◌≤◌, cond, List, [], ◌∷◌, ◌++◌, map, refl, sym, ◌∙◌, ap, arith, ◌==◌, inl, inr, eq-eqb, ne_eqb, take, ℤ, length, pred}
-use Rattle.std.proofs.lemmas.Bool.Decides.{eqb_tells, nat_tests}
-use Rattle.std.proofs.lemmas.List.{length-map, map-append, take-map}
-use Rattle.signed_sum.proofs.Names.{range-in, range-out, occurs-01, occurs-apart, occurs-self, occurs-tail, total-map}
-use Rattle.signed_sum.specs.Names.{IsDistinct, numbers_from, occurs, total}
-use Rattle.surjection_law.specs.Names.{IsRelabelling}
-use Rattle.table_reduction_law.proofs.ReductionBoundary.{permutation-length, reduction_sum}
-use Rattle.table_reduction_law.proofs.UnusedEntries.{unused-in, unused-out}
-use Rattle.table_reduction_law.specs.Names.{cycle, cons_if_zero, row_lengths, rows, unused, IsPermutationOf, IsTuple, entry_at}
+use Rattle.std.proofs.{Common.{◌≡◌, ℕ, zero, suc, ◌+◌, ◌<◌, ◌≤◌, cond, List, [], ◌∷◌, ◌++◌, map, refl, sym, ◌∙◌, ap, arith, ◌==◌, inl, inr, eq-eqb, ne_eqb, take, ℤ, length, pred}, lemmas.Bool.Decides.{eqb_tells, nat_tests}, lemmas.List.{length-map, map-append, take-map}}
+use Rattle.signed_sum.{proofs.Names.{range-in, range-out, occurs-01, occurs-apart, occurs-self, occurs-tail, total-map}, specs.Names.{IsDistinct, numbers_from, occurs, total}}
+use Rattle.surjection_law.specs.Names.{IsOnto, IsRelabelling}
+use Rattle.table_reduction_law.{proofs.ReductionBoundary.{permutation-length, reduction_sum}, proofs.UnusedEntries.{unused-in, unused-out}, specs.Names.{cycle, cons_if_zero, row_lengths, rows, unused, IsPermutationOf, IsTuple, entry_at}}
 
 -- a list of values as a map
 
@@ -118,15 +113,14 @@ map-distinct : (r : ℕ) (t i : ℕ → ℕ) (w : List ℕ) → IsRelabelling r 
 map-distinct r t i [] m k d = tt
 map-distinct r t i (y ∷ w) m k d = (map-has r t i y w m (k y (occurs-self y w)) (within-tail r y w k) ∙ d.0, map-distinct r t i w m (within-tail r y w k) d.1)
 
+pub onto-moved : (r : ℕ) (t i : ℕ → ℕ) (w : List ℕ) → IsRelabelling r t i → IsOnto r w → IsOnto r (map t w)
+onto-moved r t i w m o v = elim (occurs-01 v (numbers_from 1 r)) [
+  | inl z ↦ elim (occurs-01 v (map t w)) [ inl q ↦ q ∙ sym z | inr q ↦ absurd (let b = map-within r t i v w m (λ x h. sym (o x) ∙ h) q in omega (arith, b, z)) ]
+  | inr z ↦ ap (λ j. occurs j (map t w)) (sym (m.back_there v z)) ∙ map-in t (i v) w (o (i v) ∙ m.back v z) ∙ sym z
+]
+
 pub perm-moved : (r : ℕ) (t i : ℕ → ℕ) (w : List ℕ) → IsRelabelling r t i → IsPermutationOf r w → IsPermutationOf r (map t w)
-perm-moved r t i w m k = record { distinct = map-distinct r t i w m (perm-within r w k) k.distinct; onto = all }
-  where
-    all : (v : ℕ) → occurs v (map t w) ≡ occurs v (numbers_from 1 r)
-    all v =
-        elim (occurs-01 v (numbers_from 1 r)) [
-          | inl z ↦ elim (occurs-01 v (map t w)) [ inl q ↦ q ∙ sym z | inr q ↦ absurd (let b = map-within r t i v w m (perm-within r w k) q in omega (arith, b, z)) ]
-          | inr z ↦ ap (λ j. occurs j (map t w)) (sym (m.back_there v z)) ∙ map-in t (i v) w (k.onto (i v) ∙ m.back v z) ∙ sym z
-        ]
+perm-moved r t i w m k = record { distinct = map-distinct r t i w m (perm-within r w k) k.distinct; onto = onto-moved r t i w m k.onto }
 
 pub tuple-moved : (r : ℕ) (t i : ℕ → ℕ) (w : List (List ℕ)) → IsRelabelling r t i → IsTuple r w → IsTuple r (map (λ x. map t x) w)
 tuple-moved r t i [] m k = tt

@@ -1,12 +1,7 @@
 -- May elements in tuples.
-use Rattle.std.proofs.Common.{◌≡◌, ℕ, zero, suc, ◌+◌, ◌%◌, ◌≤◌, List, [], ◌∷◌, ◌++◌, map, refl, sym, ◌∙◌, ap, arith, append_assoc, append-nil, cond, eq-eqb, ne_eqb, ◌<◌, ℤ, pos, ◌+ℤ◌, neg_ℤ}
-use Rattle.std.proofs.lemmas.Int.{ints}
-use Rattle.std.proofs.lemmas.List.{map-append}
-use Rattle.signed_sum.proofs.Names.{numbers_from-distinct}
-use Rattle.signed_sum.specs.Names.{numbers_from, unless_empty, without_one}
-use Rattle.table_reduction_law.proofs.Permutations.{moves-cycle, perm-moved}
-use Rattle.table_reduction_law.proofs.ReductionBoundary.{face_sum, reduction_sum}
-use Rattle.table_reduction_law.specs.Names.{cycle, cycle_power, pair_count, leading_entries, IsPermutationOf, IsTuple}
+use Rattle.std.proofs.{Common.{◌≡◌, ℕ, zero, suc, ◌+◌, ◌%◌, ◌≤◌, List, [], ◌∷◌, ◌++◌, map, refl, sym, ◌∙◌, ap, arith, append_assoc, append-nil, cond, eq-eqb, ne_eqb, ◌<◌, ℤ, pos, ◌+ℤ◌, neg_ℤ}, lemmas.Int.ints, lemmas.List.map-append}
+use Rattle.signed_sum.{proofs.Names.numbers_from-distinct, specs.Names.{numbers_from, unless_empty, without_one}}
+use Rattle.table_reduction_law.{proofs.Permutations.{moves-cycle, perm-moved}, proofs.ReductionBoundary.{face_sum, reduction_sum}, specs.Names.{cycle, cycle_power, pair_count, leading_entries, IsPermutationOf, IsTuple}}
 
 -- the sum of f below n
 abbrev pub sum_below : ℕ → (ℕ → ℤ) → ℤ
@@ -75,10 +70,6 @@ sum-plus (suc n) f g = let a = sum-plus n f g in omega (arith, ints)
 sum-neg : (n : ℕ) (f : ℕ → ℤ) → sum_below n (λ e. neg_ℤ (f e)) ≡ neg_ℤ (sum_below n f)
 sum-neg zero f = refl
 sum-neg (suc n) f = let a = sum-neg n f in omega (arith, ints)
-
-sum-zero : (n : ℕ) → sum_below n (λ e. pos 0) ≡ pos 0
-sum-zero zero = refl
-sum-zero (suc n) = let a = sum-zero n in omega (arith, ints)
 
 -- the sum from 1 on
 sum-shift : (n : ℕ) (f : ℕ → ℤ) → sum_below n (λ e. f (suc e)) +ℤ f 0 ≡ sum_below n f +ℤ f n

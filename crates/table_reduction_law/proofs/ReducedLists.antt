@@ -1,15 +1,8 @@
 -- The lists of a table reduction take each value, and have r + d entries.
-use Rattle.std.proofs.Common.{◌≡◌, ℕ, zero, suc, ◌+◌, ◌≤◌, List, [], ◌∷◌, ◌++◌, ◌∙◌, ap, arith, sum, take, All, length}
-use Rattle.std.proofs.lemmas.List.Elements.{All-map, All-weaker}
-use Rattle.signed_sum.proofs.Names.{Alike, Alike-cons, occurs-again, occurs-self}
+use Rattle.std.proofs.{Common.{◌≡◌, ℕ, zero, suc, ◌+◌, ◌≤◌, List, [], ◌∷◌, ◌++◌, ◌∙◌, ap, arith, sum, take, All, length}, lemmas.List.Elements.{All-map, All-weaker}}
+use Rattle.signed_sum.{proofs.Names.{Alike, Alike-cons, occurs-again, occurs-self}, specs.Names.occurs}
 use Rattle.surjection_law.specs.Names.{IsOnto}
-use Rattle.table_reduction_law.proofs.ReductionBoundary.{permutation-length, tuple_good}
-use Rattle.table_reduction_law.proofs.ReductionWalks.{Good, good-distinct, good-end, good-use, left}
-use Rattle.table_reduction_law.proofs.RowLengths.{IsRight, all-right, sum-cons}
-use Rattle.table_reduction_law.proofs.RowsAsWalks.{count-alike, rows-from, rows-longer, rows_from, take-all}
-use Rattle.table_reduction_law.proofs.UnusedEntries.{unused-distinct, unused-none}
-use Rattle.signed_sum.specs.Names.{occurs}
-use Rattle.table_reduction_law.specs.Names.{ArePositive, reduced_lists, row_lengths, rows, unused, IsTuple}
+use Rattle.table_reduction_law.{proofs.ReductionBoundary.{permutation-length, tuple_good}, proofs.ReductionWalks.{Good, good-distinct, good-end, good-use, left}, proofs.RowLengths.{IsRight, all-right, sum-cons}, proofs.RowsAsWalks.{count-alike, rows-from, rows-longer, rows_from, take-all}, proofs.UnusedEntries.{unused-distinct, unused-none}, specs.Names.{ArePositive, reduced_lists, row_lengths, rows, unused, IsTuple}}
 
 sum-least : (ls : List ℕ) → ArePositive ls → length ls ≤ sum ls
 sum-least [] h = omega arith

@@ -1,15 +1,8 @@
 -- Table reduction is a chain map.
-use Rattle.std.proofs.Common.{◌≡◌, ℕ, zero, suc, ◌+◌, ◌≤◌, List, [], ◌∷◌, map, refl, sym, ◌∙◌, ap, arith, ℤ, pos, length}
-use Rattle.std.proofs.lemmas.Int.{ints}
-use Rattle.signed_sum.proofs.Names.{length-numbers_from, numbers_from-distinct, total-map}
-use Rattle.signed_sum.specs.Names.{numbers_from, unless_empty, total, without_one}
+use Rattle.std.proofs.{Common.{◌≡◌, ℕ, zero, suc, ◌+◌, ◌≤◌, List, [], ◌∷◌, map, refl, sym, ◌∙◌, ap, arith, ℤ, pos, length}, lemmas.Int.ints}
+use Rattle.signed_sum.{proofs.Names.{length-numbers_from, numbers_from-distinct, total-map}, specs.Names.{numbers_from, unless_empty, total, without_one}}
 use Rattle.surjection_law.specs.Names.{without_place}
-use Rattle.table_reduction_law.proofs.Pairing.{pairing, removals-last}
-use Rattle.table_reduction_law.proofs.ReductionWalks.{Good, walk}
-use Rattle.table_reduction_law.proofs.RowsAsWalks.{bridge, count-alike, rows-from, rows_from}
-use Rattle.table_reduction_law.proofs.UnusedEntries.{unused-none}
-use Rattle.table_reduction_law.proofs.WalkBoundary.{places}
-use Rattle.table_reduction_law.specs.Names.{reduced_lists, row_lengths, rows, IsPermutationOf, IsTuple}
+use Rattle.table_reduction_law.{proofs.Pairing.{pairing, removals-last}, proofs.ReductionWalks.{Good, walk}, proofs.RowsAsWalks.{bridge, count-alike, rows-from, rows_from}, proofs.UnusedEntries.unused-none, proofs.WalkBoundary.places, specs.Names.{reduced_lists, row_lengths, rows, IsPermutationOf, IsTuple}}
 
 pub permutation-length : (r : ℕ) (w : List ℕ) → IsPermutationOf r w → length w ≡ r
 permutation-length r w k = count-alike w (numbers_from 1 r) k.distinct (numbers_from-distinct 1 r) k.onto ∙ length-numbers_from 1 r

@@ -1,12 +1,8 @@
 -- Table reduction entry by entry, and all removals from its lists.
-use Rattle.std.proofs.Common.{◌≡◌, ℕ, zero, suc, ◌+◌, cond, List, [], ◌∷◌, refl, sym, ◌∙◌, ap, arith, ◌==◌, subst, eq-eqb, ne_eqb, ℤ, pos, ◌+ℤ◌, neg_ℤ}
+use Rattle.std.proofs.{Common.{◌≡◌, ℕ, zero, suc, ◌+◌, cond, List, [], ◌∷◌, refl, sym, ◌∙◌, ap, arith, ◌==◌, subst, eq-eqb, ne_eqb, ℤ, pos, ◌+ℤ◌, neg_ℤ}, lemmas.Bool.Decides.nat_tests, lemmas.Int.ints}
 use native.Mathlib.Decide.{ℕ_discrete}
-use Rattle.std.proofs.lemmas.Bool.Decides.{nat_tests}
-use Rattle.std.proofs.lemmas.Int.{ints}
-use Rattle.signed_sum.proofs.Names.{Alike, Alike-cons, occurs-01, occurs-again, occurs-apart, occurs-head, occurs-self, occurs-swap, occurs-tail, signed-+}
-use Rattle.signed_sum.specs.Names.{IsDistinct, occurs, unless_zero, signed}
-use Rattle.table_reduction_law.proofs.UnusedEntries.{unused-absent, unused-cong, unused-cons, unused-distinct, unused-in, unused-out}
-use Rattle.table_reduction_law.specs.Names.{cons_if_zero, unused}
+use Rattle.signed_sum.{proofs.Names.{Alike, Alike-cons, occurs-01, occurs-again, occurs-apart, occurs-head, occurs-self, occurs-swap, occurs-tail, signed-+}, specs.Names.{IsDistinct, occurs, unless_zero, signed}}
+use Rattle.table_reduction_law.{proofs.UnusedEntries.{unused-absent, unused-cong, unused-cons, unused-distinct, unused-in, unused-out}, specs.Names.{cons_if_zero, unused}}
 
 -- the sum of h over what may stand from here on. `xs` is what is left of the row at hand, `a` are the entries that are used, and `ws` are the permutations of the later rows. An entry ends its row, or it is used
 abbrev pub walk : List (List ℕ) → List ℕ → List ℕ → (List ℕ → ℤ) → ℤ

@@ -1,8 +1,6 @@
 -- How many lists of row lengths there are.
-use Rattle.std.proofs.Common.{length-append, ◌≡◌, ℕ, zero, suc, ◌+◌, List, [], ◌∷◌, map, refl, ◌∙◌, ap, arith, length}
-use Rattle.std.proofs.lemmas.List.{length-map}
-use Rattle.table_reduction_law.proofs.ReductionBoundary.{permutation-length}
-use Rattle.table_reduction_law.specs.Names.{binomial, reduced_lists, row_lengths, rows, with_longer_first, IsTuple}
+use Rattle.std.proofs.{Common.{length-append, ◌≡◌, ℕ, zero, suc, ◌+◌, List, [], ◌∷◌, map, refl, ◌∙◌, ap, arith, length}, lemmas.List.length-map}
+use Rattle.table_reduction_law.{proofs.ReductionBoundary.permutation-length, specs.Names.{binomial, reduced_lists, row_lengths, rows, with_longer_first, IsTuple}}
 
 count-lengths : (k n : ℕ) → length (row_lengths (suc k) (suc n)) ≡ binomial n k
 count-lengths zero zero = refl

@@ -1,13 +1,7 @@
 -- The lists of row lengths.
-use Rattle.std.proofs.Common.{◌≡◌, ℕ, zero, suc, ◌+◌, ◌&&◌, cond, ◌==◌, List, [], ◌∷◌, map, refl, ◌∙◌, ap, arith, ne_eqb, ℤ, pos, All, length, sum}
-use Rattle.std.proofs.lemmas.List.Elements.{All-append, All-cons, All-map, All-nil, All-weaker}
-use Rattle.std.proofs.lemmas.List.Sums.{sum_by-cons}
-use Rattle.std.proofs.lemmas.Bool.Decides.{nat_tests}
-use Rattle.std.proofs.lemmas.Int.{ints}
-use Rattle.signed_sum.proofs.Names.{total-append, total-map, total-zero}
-use Rattle.signed_sum.specs.Names.{is_same_list, total}
-use Rattle.table_reduction_law.proofs.RowsAsWalks.{total-positive}
-use Rattle.table_reduction_law.specs.Names.{ArePositive, RowLengthsLaw, row_lengths, with_longer_first}
+use Rattle.std.proofs.{Common.{◌≡◌, ℕ, zero, suc, ◌+◌, ◌&&◌, cond, ◌==◌, List, [], ◌∷◌, map, refl, ◌∙◌, ap, arith, ne_eqb, ℤ, pos, All, length, sum}, lemmas.List.Elements.{All-append, All-cons, All-map, All-nil, All-weaker}, lemmas.List.Sums.sum_by-cons, lemmas.Bool.Decides.nat_tests, lemmas.Int.ints}
+use Rattle.signed_sum.{proofs.Names.{total-append, total-map, total-zero}, specs.Names.{is_same_list, total}}
+use Rattle.table_reduction_law.{proofs.RowsAsWalks.total-positive, specs.Names.{ArePositive, RowLengthsLaw, row_lengths, with_longer_first}}
 
 pub sum-cons : (n : ℕ) (ls : List ℕ) → sum (n ∷ ls) ≡ n + sum ls
 sum-cons n ls = sum_by-cons (λ x. x) n ls

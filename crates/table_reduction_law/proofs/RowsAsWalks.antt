@@ -1,13 +1,8 @@
 -- The sum over the lists of row lengths is the sum entry by entry.
-use Rattle.std.proofs.Common.{◌≡◌, ℕ, zero, suc, ◌+◌, ◌<◌, cond, List, [], ◌∷◌, ◌++◌, map, refl, sym, ◌∙◌, ap, arith, ◌==◌, take, ℤ, pos, ◌+ℤ◌, length, pred}
+use Rattle.std.proofs.{Common.{◌≡◌, ℕ, zero, suc, ◌+◌, ◌<◌, cond, List, [], ◌∷◌, ◌++◌, map, refl, sym, ◌∙◌, ap, arith, ◌==◌, take, ℤ, pos, ◌+ℤ◌, length, pred}, lemmas.Bool.Decides.nat_tests, lemmas.Int.ints}
 use native.Mathlib.Decide.{ℕ_discrete}
-use Rattle.std.proofs.lemmas.Bool.Decides.{nat_tests}
-use Rattle.std.proofs.lemmas.Int.{ints}
-use Rattle.signed_sum.proofs.Names.{Alike, Alike-append, occurs-apart, occurs-self, occurs-swap, total-append, total-map}
-use Rattle.signed_sum.specs.Names.{IsDistinct, occurs, total}
-use Rattle.table_reduction_law.proofs.ReductionWalks.{Good, good-distinct, good-end, good-use, left, walk}
-use Rattle.table_reduction_law.proofs.UnusedEntries.{unused-absent, unused-cong, unused-distinct, unused-in, unused-out}
-use Rattle.table_reduction_law.specs.Names.{row_lengths, rows, unused, with_longer_first}
+use Rattle.signed_sum.{proofs.Names.{Alike, Alike-append, occurs-apart, occurs-self, occurs-swap, total-append, total-map}, specs.Names.{IsDistinct, occurs, total}}
+use Rattle.table_reduction_law.{proofs.ReductionWalks.{Good, good-distinct, good-end, good-use, left, walk}, proofs.UnusedEntries.{unused-absent, unused-cong, unused-distinct, unused-in, unused-out}, specs.Names.{row_lengths, rows, unused, with_longer_first}}
 
 -- lists of the same values have the same length
 

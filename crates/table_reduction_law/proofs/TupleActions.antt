@@ -1,11 +1,7 @@
 -- The boundary of a tuple that is acted on, and of a degenerate tuple.
-use Rattle.std.proofs.Common.{◌≡◌, ℕ, Bool, true, false, ◌||◌, List, [], ◌∷◌, map, refl, sym, ◌∙◌, ap, arith, ℤ, pos}
-use Rattle.std.proofs.lemmas.Int.{ints}
-use Rattle.std.proofs.lemmas.Bool.{or_right}
-use Rattle.signed_sum.proofs.Names.{is_same_list-true, fun_ext, restricted-gone, without_one-zero}
-use Rattle.signed_sum.specs.Names.{is_same_list, unless_empty, restricted, without_one}
-use Rattle.table_reduction_law.proofs.ReductionBoundary.{face_sum}
-use Rattle.table_reduction_law.specs.Names.{begins_with_entry, is_degenerate_tuple}
+use Rattle.std.proofs.{Common.{◌≡◌, ℕ, Bool, true, false, ◌||◌, List, [], ◌∷◌, map, refl, sym, ◌∙◌, ap, arith, ℤ, pos}, lemmas.Int.ints, lemmas.Bool.or_right}
+use Rattle.signed_sum.{proofs.Names.{is_same_list-true, fun_ext, restricted-gone, without_one-zero}, specs.Names.{is_same_list, unless_empty, restricted, without_one}}
+use Rattle.table_reduction_law.{proofs.ReductionBoundary.face_sum, specs.Names.{begins_with_entry, is_degenerate_tuple}}
 
 without_one-map : (t : ℕ → ℕ) (w : List (List ℕ)) (h : List (List ℕ) → ℤ) → without_one (map (λ x. map t x) w) h ≡ without_one w (λ v. h (map (λ x. map t x) v))
 without_one-map t [] h = refl

@@ -1,7 +1,6 @@
 -- What is left of a list.
 use Rattle.std.proofs.Common.{◌≡◌, ℕ, cond, List, [], ◌∷◌, refl, sym, ◌∙◌, ap, arith, ◌==◌, inl, inr}
-use Rattle.signed_sum.proofs.Names.{occurs-zero, Alike, occurs-01, occurs-apart, occurs-tail}
-use Rattle.signed_sum.specs.Names.{IsDistinct, occurs}
+use Rattle.signed_sum.{proofs.Names.{occurs-zero, Alike, occurs-01, occurs-apart, occurs-tail}, specs.Names.{IsDistinct, occurs}}
 use Rattle.table_reduction_law.specs.Names.{cons_if_zero, unused}
 
 pub unused-cong : (a b w : List ℕ) → Alike a b → unused a w ≡ unused b w

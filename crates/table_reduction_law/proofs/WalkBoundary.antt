@@ -1,13 +1,9 @@
 -- The signs of the removals: a row's end is a caesura, and where an entry is used no copy of it is left.
-use Rattle.std.proofs.Common.{◌≡◌, ℕ, zero, suc, ◌+◌, List, [], ◌∷◌, ◌++◌, refl, sym, ◌∙◌, ap, arith, subst, append_assoc, ℤ}
+use Rattle.std.proofs.{Common.{◌≡◌, ℕ, zero, suc, ◌+◌, List, [], ◌∷◌, ◌++◌, refl, sym, ◌∙◌, ap, arith, subst, append_assoc, ℤ}, lemmas.Int.ints}
 use native.Mathlib.Decide.{ℕ_discrete}
-use Rattle.std.proofs.lemmas.Int.{ints}
-use Rattle.signed_sum.proofs.Names.{Alike, Alike-append, Alike-cons, occurs-again, occurs-apart, occurs-before, occurs-head, occurs-later, occurs-self, occurs-swap}
-use Rattle.signed_sum.specs.Names.{if_zero, occurs, unless_zero, signed}
-use Rattle.surjection_law.proofs.PlaceLemmas.{among-cong, among-push, last-cong, last-here}
-use Rattle.surjection_law.specs.Names.{caesuras_among, caesuras_before_last, place_exponent, place_term, without_place}
-use Rattle.table_reduction_law.proofs.ReductionWalks.{Agree, Good, good-distinct, good-end, good-use, left, put, put-apart, put-here, removals, removals-agree, walk, walk-cong, walk-signed, walk-sum, walk-when}
-use Rattle.table_reduction_law.specs.Names.{unused}
+use Rattle.signed_sum.{proofs.Names.{Alike, Alike-append, Alike-cons, occurs-again, occurs-apart, occurs-before, occurs-head, occurs-later, occurs-self, occurs-swap}, specs.Names.{if_zero, occurs, unless_zero, signed}}
+use Rattle.surjection_law.{proofs.PlaceLemmas.{among-cong, among-push, last-cong, last-here}, specs.Names.{caesuras_among, caesuras_before_last, place_exponent, place_term, without_place}}
+use Rattle.table_reduction_law.{proofs.ReductionWalks.{Agree, Good, good-distinct, good-end, good-use, left, put, put-apart, put-here, removals, removals-agree, walk, walk-cong, walk-signed, walk-sum, walk-when}, specs.Names.unused}
 
 last-apart : (p : List ℕ) (v x : ℕ) (u z : List ℕ) → (v ≡ x → ⊥) → Alike (x ∷ v ∷ u) (v ∷ z) → caesuras_before_last (p ++ (x ∷ [])) v u ≡ caesuras_before_last p v z
 last-apart [] v x u z n e = refl

@@ -3,10 +3,7 @@
 use Rattle.std.specs.Prelude.{◌≡◌, ℕ, ◌+◌, ◌≤◌, ◌%◌, false, cond, sum, List, [], ◌∷◌, All, length, map, ℤ, pos, negsuc, ◌-ℤ◌, IsTrue}
 use Rattle.signed_sum.specs.Names.{is_degenerate, is_same_list, numbers_from, total, value_at}
 use Rattle.surjection_law.specs.Names.{surjection_boundary, IsOnto}
-use Rattle.table_reduction_law.specs.Tuples.{IsPermutationOf, IsTuple, entry_at, is_degenerate_tuple, permuted_tuple, tuple_boundary}
-use Rattle.table_reduction_law.specs.Reduction.{reduced_lists, row_lengths, table_reduction}
-use Rattle.table_reduction_law.specs.MayElements.{cycle, may_candidates, may_element, may_tuples, turned}
-use Rattle.table_reduction_law.specs.Counts.{ArePositive, binomial, candidate_count, in_turn}
+use Rattle.table_reduction_law.specs.{Tuples.{IsPermutationOf, IsTuple, entry_at, is_degenerate_tuple, permuted_tuple, tuple_boundary}, Reduction.{reduced_lists, row_lengths, table_reduction}, MayElements.{cycle, may_candidates, may_element, may_tuples, turned}, Counts.{ArePositive, binomial, candidate_count, in_turn}}
 
 -- The boundary of the boundary of a tuple is zero.
 abbrev pub TupleBoundaryLaw : Type 0

@@ -1,12 +1,7 @@
-use Rattle.std.proofs.Common.{sym, ap, ◌∙◌, ◌≡◌, ◌≤◌, ◌-◌, ◌^◌, ◌++◌, ◌∷◌, [], length, drop, arith, eqb-true, refl, subst, w64, to_z, of_z, ℤ, nat_abs, length-drop}
-use Rattle.std.proofs.lemmas.Result.{on_ok_weaker}
+use Rattle.std.proofs.{Common.{sym, ap, ◌∙◌, ◌≡◌, ◌≤◌, ◌-◌, ◌^◌, ◌++◌, ◌∷◌, [], length, drop, arith, eqb-true, refl, subst, w64, to_z, of_z, ℤ, nat_abs, length-drop}, lemmas.Result.on_ok_weaker}
 use Rattle.signed_sum.specs.Names.{signed}
-use Rattle.barratt_eccles.specs.CompositionWalk.{AddsPaths}
-use Rattle.barratt_eccles.proofs.EntryLemmas.{rest-slice}
-use Rattle.barratt_eccles.proofs.PathLemmas.{AddsPaths-empty, AddsPaths-end, AddsPaths-next, AddsPaths-none, AddsPaths-same, IsHere, bits-same, many, point-end, point-x, point-y, room-end, room-x, room-y, signed-small, within-entry}
-use Rattle.barratt_eccles.proofs.RefusalLemmas.{not_empty}
+use Rattle.barratt_eccles.{specs.CompositionWalk.AddsPaths, proofs.EntryLemmas.rest-slice, proofs.PathLemmas.{AddsPaths-empty, AddsPaths-end, AddsPaths-next, AddsPaths-none, AddsPaths-same, IsHere, bits-same, many, point-end, point-x, point-y, room-end, room-x, room-y, signed-small, within-entry}, proofs.RefusalLemmas.not_empty, proofs.composing.+add_paths.Goals.{then-is_empty-via-then-is_empty, then-is_empty-via-else-is_empty+then-is_empty-2}}
 use Rattle.barratt_eccles.proofs.composing.+add_paths.Goals as goal
-use Rattle.barratt_eccles.proofs.composing.+add_paths.Goals.{then-is_empty-via-then-is_empty, then-is_empty-via-else-is_empty+then-is_empty-2}
 
 pub returns-then-is_empty : goal.returns-then-is_empty
 returns-then-is_empty t c = elim c.then-is_empty.branch [

@@ -1,8 +1,6 @@
-use Rattle.std.proofs.Common.{sym, ap, ◌∙◌, ◌≡◌, false, true, is_some, w64}
-use Rattle.std.proofs.lemmas.Int.{to_z-of_z}
+use Rattle.std.proofs.{Common.{sym, ap, ◌∙◌, ◌≡◌, false, true, is_some, w64}, lemmas.Int.to_z-of_z}
 use Rattle.table_reduction_law.specs.Names.{is_degenerate_tuple}
-use Rattle.barratt_eccles.proofs.PathLemmas.{AddsTuple-none, AddsTuple-term}
-use Rattle.barratt_eccles.proofs.RefusalLemmas.{degenerate-is}
+use Rattle.barratt_eccles.proofs.{PathLemmas.{AddsTuple-none, AddsTuple-term}, RefusalLemmas.degenerate-is}
 use Rattle.barratt_eccles.proofs.composing.add_tuple.Goals as goal
 
 pub returns-then-is_some : goal.returns-then-is_some

@@ -1,5 +1,4 @@
-use Rattle.std.proofs.Common.{arith, ◌≡◌, sym, ◌∙◌, w64, to_z, of_z, pos, neg_ℤ, ◌-ℤ◌}
-use Rattle.std.proofs.lemmas.Int.{ints, to_z-of_z}
+use Rattle.std.proofs.{Common.{arith, ◌≡◌, sym, ◌∙◌, w64, to_z, of_z, pos, neg_ℤ, ◌-ℤ◌}, lemmas.Int.{ints, to_z-of_z}}
 use Rattle.signed_sum.proofs.Names.{signed-parity}
 use Rattle.barratt_eccles.proofs.composing.with_sign.Goals as goal
 

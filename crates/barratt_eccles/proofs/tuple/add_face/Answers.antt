@@ -1,5 +1,4 @@
-use Rattle.std.proofs.Common.{sym, ap, ◌∙◌, ◌≡◌, false, w64}
-use Rattle.std.proofs.lemmas.Int.{to_z-of_z}
+use Rattle.std.proofs.{Common.{sym, ap, ◌∙◌, ◌≡◌, false, w64}, lemmas.Int.to_z-of_z}
 use Rattle.table_reduction_law.specs.Names.{is_zero_tuple}
 use Rattle.barratt_eccles.proofs.FaceLemmas.{AddsFace-term}
 use Rattle.barratt_eccles.proofs.tuple.add_face.Goals as goal

@@ -1,5 +1,4 @@
-use Rattle.std.proofs.Common.{arith, ◌≡◌, ◌≤◌, w64, to_z, of_z, ℤ, pos, neg_ℤ, ◌-ℤ◌, nat_abs}
-use Rattle.std.proofs.lemmas.Int.{ints}
+use Rattle.std.proofs.{Common.{arith, ◌≡◌, ◌≤◌, w64, to_z, of_z, ℤ, pos, neg_ℤ, ◌-ℤ◌, nat_abs}, lemmas.Int.ints}
 use Rattle.barratt_eccles.proofs.FaceLemmas.{IsWalk-end, IsWalk-next, IsWalk-small, IsWalk-start, face-generator}
 use Rattle.barratt_eccles.proofs.tuple.sum_of_faces.Goals as goal
 

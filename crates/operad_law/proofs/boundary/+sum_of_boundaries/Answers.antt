@@ -1,8 +1,6 @@
-use Rattle.std.proofs.Common.{arith, rules, ap, ◌≢◌, ◌<◌, ◌/◌, length, subst}
-use Rattle.std.proofs.lemmas.Result.{IfOk-weaker}
+use Rattle.std.proofs.{Common.{arith, rules, ap, ◌≢◌, ◌<◌, ◌/◌, length, subst}, lemmas.Result.IfOk-weaker}
 use Rattle.signed_sum.specs.Names.{weight_of}
-use Rattle.operad_law.specs.FormalSums.{SumsBoundaries}
-use Rattle.operad_law.proofs.ScaledSums.{SumsBoundaries-both, weight_of-halves, front_fits, back_fits}
+use Rattle.operad_law.{specs.FormalSums.SumsBoundaries, proofs.ScaledSums.{SumsBoundaries-both, weight_of-halves, front_fits, back_fits}}
 use Rattle.operad_law.proofs.boundary.+sum_of_boundaries.Goals as goal
 
 pub scaled_total-requires : goal.scaled_total-requires

@@ -1,10 +1,6 @@
-use Rattle.std.proofs.Common.{arith, ◌≤◌, w64, ap, nat_abs}
-use Rattle.std.proofs.Math.Nat.{le_trans, mul-le-mul_left}
-use Rattle.std.proofs.lemmas.Int.{to_z-of_z}
+use Rattle.std.proofs.{Common.{arith, ◌≤◌, w64, ap, nat_abs}, Math.Nat.{le_trans, mul-le-mul_left}, lemmas.Int.to_z-of_z, lemmas.Result.IfOk-weaker}
 use Rattle.signed_sum.specs.Names.{weight_of}
-use Rattle.operad_law.proofs.Unique.{weight_least}
-use Rattle.operad_law.proofs.ScaledSums.{SumsBoundaries-one}
-use Rattle.std.proofs.lemmas.Result.{IfOk-weaker}
+use Rattle.operad_law.proofs.{Unique.weight_least, ScaledSums.SumsBoundaries-one}
 use Rattle.operad_law.proofs.boundary.scaled_boundary.Goals as goal
 
 pub scaled_total-requires : goal.scaled_total-requires

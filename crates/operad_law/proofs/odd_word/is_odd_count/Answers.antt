@@ -1,6 +1,5 @@
-use Rattle.operad_law.proofs.WordLemmas.{odd_count-step, turned, unturned}
+use Rattle.operad_law.proofs.{WordLemmas.{odd_count-step, turned, unturned}, odd_word.is_odd_count.Goals.{then-comes_before, else-comes_before}}
 use Rattle.operad_law.proofs.odd_word.is_odd_count.Goals as goal
-use Rattle.operad_law.proofs.odd_word.is_odd_count.Goals.{then-comes_before, else-comes_before}
 
 pub loop-y-preserved : goal.loop-y-preserved
 loop-y-preserved c =

@@ -1,7 +1,6 @@
 use Rattle.std.proofs.Common.{◌≡◌, drop}
 use Rattle.signed_sum.specs.Names.{count_before, stands_before}
-use Rattle.operad_law.specs.Parity.{is_odd}
-use Rattle.operad_law.proofs.WordLemmas.{differ}
+use Rattle.operad_law.{specs.Parity.is_odd, proofs.WordLemmas.differ}
 use Rattle.operad_law.proofs.odd_word.is_odd_count.Given as goal
 
 abbrev pub invariant-loop-y : goal.invariant-loop-y

@@ -1,6 +1,5 @@
-use Rattle.operad_law.proofs.WordLemmas.{odd_pairs-step, turned, unturned}
+use Rattle.operad_law.proofs.{WordLemmas.{odd_pairs-step, turned, unturned}, odd_word.is_odd_rearrangement.Goals.{then-is_odd_count, else-is_odd_count}}
 use Rattle.operad_law.proofs.odd_word.is_odd_rearrangement.Goals as goal
-use Rattle.operad_law.proofs.odd_word.is_odd_rearrangement.Goals.{then-is_odd_count, else-is_odd_count}
 
 pub loop-i-preserved : goal.loop-i-preserved
 loop-i-preserved c =

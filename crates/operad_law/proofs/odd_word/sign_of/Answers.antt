@@ -1,7 +1,6 @@
 use Rattle.std.proofs.Common.{◌≡◌, sym, ap, ◌∙◌, cond, pos, negsuc}
 use Rattle.signed_sum.specs.Names.{inversion_count, stands_before}
-use Rattle.operad_law.specs.Parity.{is_odd}
-use Rattle.operad_law.proofs.WordLemmas.{signed-odd}
+use Rattle.operad_law.{specs.Parity.is_odd, proofs.WordLemmas.signed-odd}
 use Rattle.operad_law.proofs.odd_word.sign_of.Goals as goal
 
 pub returns-then-is_odd_rearrangement : goal.returns-then-is_odd_rearrangement

@@ -1,10 +1,6 @@
-use Rattle.std.proofs.Common.{◌≡◌, ◌+◌, ◌≤◌, take, nat_abs, ◌∙◌, w64, FitsSigned, to_z, of_z, ap}
-use Rattle.std.proofs.lemmas.Int.{to_z-of_z}
-use Rattle.std.proofs.lemmas.Map.Lookups.{exact_pairs}
-use Rattle.signed_sum.proofs.Names.{paired_before-weight}
-use Rattle.signed_sum.specs.Names.{weight_of}
-use Rattle.operad_law.specs.FormalSums.{plus_term}
-use Rattle.operad_law.proofs.PairSums.{fits_count, pair_order, plus-next, room-next}
+use Rattle.std.proofs.{Common.{◌≡◌, ◌+◌, ◌≤◌, take, ◌∙◌, w64, to_z, of_z}, lemmas.Int.to_z-of_z, lemmas.Map.Lookups.exact_pairs}
+use Rattle.signed_sum.{proofs.Names.paired_before-weight, specs.Names.weight_of}
+use Rattle.operad_law.{specs.FormalSums.plus_term, proofs.PairSums.{fits_count, pair_order, plus-next, room-next}}
 use Rattle.operad_law.proofs.pair.add_before.Goals as goal
 
 pub add_small-requires : goal.add_small-requires

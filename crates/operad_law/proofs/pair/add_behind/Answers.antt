@@ -1,11 +1,6 @@
-use Rattle.std.proofs.Common.{◌≡◌, ◌+◌, ◌≤◌, take, nat_abs, ◌∙◌, w64, FitsSigned, to_z, of_z, ap, arith}
-use Rattle.std.proofs.lemmas.Int.{to_z-of_z}
-use Rattle.std.proofs.lemmas.Map.Lookups.{exact_pairs}
-use Rattle.signed_sum.proofs.Names.{abs-signed, paired_behind-weight}
-use Rattle.signed_sum.specs.Names.{signed, parity, weight_of}
-use Rattle.operad_law.specs.FormalSums.{plus_term}
-use Rattle.operad_law.proofs.TermPlaces.{weight_at}
-use Rattle.operad_law.proofs.PairSums.{fits_count, pair_order, plus-next, room-next}
+use Rattle.std.proofs.{Common.{◌≡◌, ◌+◌, ◌≤◌, take, nat_abs, ◌∙◌, w64, to_z, of_z, ap, arith}, lemmas.Int.to_z-of_z, lemmas.Map.Lookups.exact_pairs}
+use Rattle.signed_sum.{proofs.Names.{abs-signed, paired_behind-weight}, specs.Names.{signed, parity, weight_of}}
+use Rattle.operad_law.{specs.FormalSums.plus_term, proofs.TermPlaces.weight_at, proofs.PairSums.{fits_count, pair_order, plus-next, room-next}}
 use Rattle.operad_law.proofs.pair.add_behind.Goals as goal
 
 pub exchanged-requires : goal.exchanged-requires

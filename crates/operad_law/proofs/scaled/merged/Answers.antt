@@ -1,11 +1,7 @@
-use Rattle.std.proofs.Common.{arith, rules, ap, ◌∙◌, ◌≤◌, ◌<◌, ◌+◌, ◌*◌, ◌^◌, ◌⊎◌, ◌++◌, [], inl, inr, length, Less, Greater, w64, to_z, of_z, FitsSigned, ℤ, ◌*ℤ◌, nat_abs}
-use Rattle.std.proofs.lemmas.Int.{to_z-of_z}
+use Rattle.std.proofs.{Common.{arith, rules, ap, ◌∙◌, ◌≤◌, ◌<◌, ◌+◌, ◌*◌, ◌^◌, ◌⊎◌, ◌++◌, [], inl, inr, length, Less, Greater, w64, to_z, of_z, FitsSigned, ℤ, ◌*ℤ◌, nat_abs}, lemmas.Int.to_z-of_z}
 use Rattle.signed_sum.specs.Names.{weight_of}
-use Rattle.operad_law.specs.FormalSums.{with_term}
-use Rattle.operad_law.proofs.Merging.{first_within, other_within, both_within, more_first, more_other, more_both, times_bound, times_fits, times_is, sum_fits, sum_is, merged-scaled}
-use Rattle.operad_law.proofs.TermPlaces.{weight_at}
+use Rattle.operad_law.{specs.FormalSums.with_term, proofs.Merging.{first_within, other_within, both_within, more_first, more_other, more_both, times_bound, times_fits, times_is, sum_fits, sum_is, merged-scaled}, proofs.TermPlaces.weight_at, proofs.scaled.merged.Goals.{then-i-first, else-i-first+then-j-other}}
 use Rattle.operad_law.proofs.scaled.merged.Goals as goal
-use Rattle.operad_law.proofs.scaled.merged.Goals.{then-i-first, else-i-first+then-j-other}
 
 pub loop-i-preserved-in-Less : goal.loop-i-preserved-in-Less
 loop-i-preserved-in-Less g c =

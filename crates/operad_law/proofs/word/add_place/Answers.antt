@@ -1,8 +1,6 @@
-use Rattle.std.proofs.Common.{◌≡◌, ◌/◌, ◌%◌, ◌^◌, ◌==◌, false, ap, subst, ◌∙◌, rules, w64, FitsSigned, OnOk, ne_eqb}
-use Rattle.std.proofs.lemmas.Int.{to_z-of_z}
+use Rattle.std.proofs.{Common.{◌≡◌, ◌/◌, ◌%◌, ◌^◌, ◌==◌, false, ap, subst, ◌∙◌, rules, w64, FitsSigned, OnOk, ne_eqb}, lemmas.Int.to_z-of_z}
 use Rattle.signed_sum.specs.Names.{letters}
-use Rattle.operad_law.specs.Words.{with_place}
-use Rattle.operad_law.proofs.WordSteps.{changed-valid, place-added, sign-before}
+use Rattle.operad_law.{specs.Words.with_place, proofs.WordSteps.{changed-valid, place-added, sign-before}}
 use Rattle.operad_law.proofs.word.add_place.Goals as goal
 
 pub invariant_of-changed : goal.invariant_of-changed

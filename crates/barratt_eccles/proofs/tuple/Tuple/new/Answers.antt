@@ -1,8 +1,7 @@
 use Rattle.std.proofs.Common.{arith, sym, ap, ◌∙◌, ◌≡◌, length, vec_len, ◌==◌, refl, subst, None, All, List, ℕ}
 use Rattle.operad_law.specs.Permutations.{IsPerm}
-use Rattle.barratt_eccles.proofs.RefusalLemmas.{no_fault, not_empty}
+use Rattle.barratt_eccles.{proofs.RefusalLemmas.{no_fault, not_empty}, specs.Refusals.{equal_neighbours_from, other_length_from}}
 use Rattle.table_reduction_law.specs.Names.{tuple_arity}
-use Rattle.barratt_eccles.specs.Refusals.{equal_neighbours_from, other_length_from}
 use Rattle.barratt_eccles.proofs.tuple.Tuple.new.Goals as goal
 
 pub invariant_of-result : goal.invariant_of-result

@@ -1,7 +1,6 @@
 use Rattle.std.proofs.Common.{◌≡◌, ap, ◌∙◌, w64, to_z, arith}
-use Rattle.signed_sum.specs.Names.{IsSign, power_sum}
-use Rattle.operad_law.proofs.Unique.{summed}
-use Rattle.operad_law.proofs.TurnSums.{IsSameSum-summed, power-next, product_of_signs, times_sign, after_turns-next, weight-next}
+use Rattle.signed_sum.{specs.Names.{IsSign, power_sum}, proofs.Names.pair_turn-sign}
+use Rattle.operad_law.proofs.{Unique.summed, TurnSums.{IsSameSum-summed, power-next, product_of_signs, after_turns-next, weight-next}}
 use Rattle.operad_law.proofs.cyclic.CyclicModel.norm.Goals as goal
 
 pub loop-power-preserved : goal.loop-power-preserved
@@ -17,7 +16,7 @@ loop-power-preserved g c =
       valid = rw (ap (λ v. v.0) now_next) (g.met.Self.CyclicModel.turn_valid element inv.valid inv.fits);
       fits = rw (ap (λ v. v.0) now_next) (g.met.Self.CyclicModel.turn_fits element inv.valid inv.fits);
       next = after_turns-next turn c.loop-power._power c.args.self.now element c.in_ok-next.next sign c.in_ok-next.step _ inv.next now_next product;
-      signed = rw product (times_sign sign c.in_ok-next.step inv.signed step_sign);
+      signed = rw product (pair_turn-sign sign c.in_ok-next.step inv.signed step_sign);
       so_far = power-next g.Self.Ord.cmp turn c.loop-power._power c.args.self.now element sign c.loop-power.sum c.add_small.new.sum inv.next inv.so_far c.in_ok-add_small.ensures;
       light = weight-next g.Self.Ord.cmp c.loop-power._power element sign c.loop-power.sum c.add_small.new.sum inv.signed inv.light c.in_ok-add_small.ensures;
     }

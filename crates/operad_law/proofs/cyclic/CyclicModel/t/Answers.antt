@@ -1,5 +1,4 @@
-use Rattle.std.proofs.Common.{ap, w64}
-use Rattle.std.proofs.lemmas.Int.{to_z-of_z}
+use Rattle.std.proofs.{Common.{ap, w64}, lemmas.Int.to_z-of_z}
 use Rattle.signed_sum.specs.Names.{IsSign, difference}
 use Rattle.operad_law.proofs.TurnSums.{IsSameSum-summed, difference-sum, fits_sign}
 use Rattle.operad_law.proofs.cyclic.CyclicModel.t.Goals as goal

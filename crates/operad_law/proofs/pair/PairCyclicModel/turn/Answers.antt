@@ -1,7 +1,5 @@
-use Rattle.std.proofs.Common.{◌≡◌, ◌∙◌, ◌*ℤ◌, ◌&&◌, ap, sym, subst, IsTrue, w64, to_z, of_z}
-use Rattle.std.proofs.lemmas.Int.{to_z-of_z}
-use Rattle.signed_sum.proofs.Names.{both-true}
-use Rattle.signed_sum.specs.Names.{IsSign, pair_turn}
+use Rattle.std.proofs.{Common.{◌≡◌, ◌∙◌, ◌*ℤ◌, ◌&&◌, ap, sym, subst, IsTrue, w64, to_z, of_z}, lemmas.Int.to_z-of_z}
+use Rattle.signed_sum.{proofs.Names.both-true, specs.Names.{IsSign, pair_turn}}
 use Rattle.operad_law.proofs.TurnSums.{fits_sign, product_of_signs}
 use Rattle.operad_law.proofs.pair.PairCyclicModel.turn.Goals as goal
 

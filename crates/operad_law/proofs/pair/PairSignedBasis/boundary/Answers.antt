@@ -1,10 +1,6 @@
-use Rattle.std.proofs.Common.{◌≡◌, ◌≤◌, ◌%◌, ◌==◌, ◌∙◌, ap, subst, arith}
-use Rattle.std.proofs.Math.Nat.{le_trans}
-use Rattle.signed_sum.proofs.Names.{paired_before-weight}
-use Rattle.signed_sum.specs.Names.{weight_of, pair_boundary}
-use Rattle.operad_law.specs.FormalSums.{IsSameSum}
-use Rattle.operad_law.proofs.PairSums.{pair-sum}
-use Rattle.operad_law.proofs.Unique.{weight_least}
+use Rattle.std.proofs.{Common.{◌≡◌, ◌≤◌, ◌%◌, ◌==◌, ◌∙◌, ap, subst, arith}, Math.Nat.le_trans}
+use Rattle.signed_sum.{proofs.Names.paired_before-weight, specs.Names.{weight_of, pair_boundary}}
+use Rattle.operad_law.{specs.FormalSums.IsSameSum, proofs.PairSums.pair-sum, proofs.Unique.weight_least}
 use Rattle.operad_law.proofs.pair.PairSignedBasis.boundary.Goals as goal
 
 pub add_before-requires : goal.add_before-requires

@@ -1,6 +1,5 @@
 use Rattle.std.proofs.Common.{◌≡◌, length, sym, ap, ◌∙◌}
-use Rattle.operad_law.specs.Permutations.{composed}
-use Rattle.operad_law.proofs.PermLemmas.{IsPerm-composed}
+use Rattle.operad_law.{specs.Permutations.composed, proofs.PermLemmas.IsPerm-composed}
 use Rattle.operad_law.proofs.perm.Perm.compose.Goals as goal
 
 pub invariant_of-result : goal.invariant_of-result

@@ -1,5 +1,4 @@
-use Rattle.std.proofs.Common.{◌/◌, ◌%◌, ◌==◌, ◌*◌, ◌+◌, ap, ◌∙◌, rules, w64, FitsSigned, pos}
-use Rattle.std.proofs.lemmas.Int.{to_z-of_z}
+use Rattle.std.proofs.{Common.{◌/◌, ◌%◌, ◌==◌, ◌*◌, ◌+◌, ap, ◌∙◌, rules, w64, FitsSigned, pos}, lemmas.Int.to_z-of_z}
 use Rattle.signed_sum.specs.Names.{signed, mask_turn, parity}
 use Rattle.operad_law.proofs.WordSteps.{turn-steps}
 use Rattle.operad_law.proofs.word.WordCyclicModel.turn.Goals as goal
