@@ -1,15 +1,10 @@
 -- The sum over the cuts of a walk, one cut after the other.
-use Rattle.std.proofs.Common.{◌≡◌, ℕ, ◌+◌, ◌%◌, List, [], ◌∷◌, ◌++◌, refl, sym, ◌∙◌, ap, ap₂, arith, subst, ℤ, pos, ◌+ℤ◌, IsSome, is_some, Option, Some, pred}
-use Rattle.std.proofs.lemmas.Bool.{false≢true}
-use Rattle.std.proofs.lemmas.Int.{ints}
+use Rattle.std.proofs.{Common.{◌≡◌, ℕ, ◌+◌, ◌%◌, List, [], ◌∷◌, ◌++◌, refl, sym, ◌∙◌, ap, ap₂, arith, subst, ℤ, pos, ◌+ℤ◌, IsSome, is_some, Option, Some, pred}, lemmas.Bool.false≢true, lemmas.Int.ints}
 use Rattle.signed_sum.specs.Names.{signed, total}
-use Rattle.simplicial_law.specs.Names.{CongruentInt}
-use Rattle.simplicial_law.proofs.Names.{CongruentInt-sum, CongruentInt_of, CongruentInt_refl, CongruentInt_trans}
+use Rattle.simplicial_law.{specs.Names.CongruentInt, proofs.Names.{CongruentInt-sum, CongruentInt_of, CongruentInt_refl, CongruentInt_trans}}
 use Rattle.interval_cut_law.specs.Names.{cuts, sign_exponent}
 use Rattle.surjection_law.specs.Names.{arity}
-use Rattle.interval_cut.specs.Names.{IsFaceTable, signed_product, product_from, OnAt, shown, Stage, At, CutWalk, cut_of, finish_of, next_walk, start_of, IsPartOfSum}
-use Rattle.interval_cut.proofs.ProductLemmas.{remainder}
-use Rattle.interval_cut.proofs.WalkLemmas.{on_at, on_walk}
+use Rattle.interval_cut.{specs.Names.{IsFaceTable, signed_product, product_from, OnAt, shown, Stage, At, CutWalk, cut_of, finish_of, next_walk, start_of, IsPartOfSum}, proofs.ProductLemmas.remainder, proofs.WalkLemmas.{on_at, on_walk}}
 
 abbrev step_of : CutWalk → List (List ℕ) → CutWalk
 step_of w [] = finish_of w.values w.top

@@ -1,16 +1,10 @@
 -- The exponent of a cut, walked from the right.
-use Rattle.std.proofs.Common.{Bool, ◌==◌, take_all, length-drop, length-set, ◌≡◌, ℕ, zero, suc, ◌+◌, ◌-◌, ◌*◌, ◌≤◌, ◌<◌, List, [], ◌∷◌, ◌++◌, drop, length, take, get_or, set, refl, sym, ◌∙◌, ap, ap₂, arith, subst, inl, inr, length-append, length-take-le, mul-le-mul, slice_index, slice_set, sum}
+use Rattle.std.proofs.{Common.{Bool, ◌==◌, take_all, length-drop, length-set, ◌≡◌, ℕ, zero, suc, ◌+◌, ◌-◌, ◌*◌, ◌≤◌, ◌<◌, List, [], ◌∷◌, ◌++◌, drop, length, take, get_or, set, refl, sym, ◌∙◌, ap, ap₂, arith, subst, inl, inr, length-append, length-take-le, mul-le-mul, slice_index, slice_set, sum}, lemmas.Bool.cases_lt, lemmas.List.take-set-le, lemmas.List.Sums.sum_by-set, Math.Seq.{drop-cons, take-set-lt}}
 use mir.Val.{bool_byte}
-use Rattle.std.proofs.lemmas.Bool.{cases_lt}
-use Rattle.std.proofs.lemmas.List.{take-set-le}
-use Rattle.std.proofs.lemmas.List.Sums.{sum_by-set}
-use Rattle.std.proofs.Math.Seq.{drop-cons, take-set-lt}
-use Rattle.signed_sum.specs.Names.{less, occurs}
-use Rattle.signed_sum.proofs.Names.{less-no, occurs-01, less-yes}
+use Rattle.signed_sum.{specs.Names.{less, occurs}, proofs.Names.{less-no, less-yes, occurs-01, occurs_once}}
 use Rattle.surjection_law.specs.Names.{arity}
 use Rattle.interval_cut_law.specs.Names.{IsCutFrom, lengths_below, sign_exponent}
-use Rattle.interval_cut.specs.Names.{IsPassed}
-use Rattle.interval_cut.proofs.WalkLemmas.{length-cut}
+use Rattle.interval_cut.{specs.Names.IsPassed, proofs.WalkLemmas.length-cut}
 
 -- ---- sums of the first numbers of a list
 
@@ -45,15 +39,9 @@ abbrev pub last_of : ℕ → List ℕ → ℕ
 last_of a [] = a
 last_of a (b ∷ p) = last_of b p
 
-last_of-append : (a : ℕ) (p : List ℕ) (n : ℕ) → last_of a (p ++ (n ∷ [])) ≡ n
+pub last_of-append : (a : ℕ) (p : List ℕ) (n : ℕ) → last_of a (p ++ (n ∷ [])) ≡ n
 last_of-append a [] n = refl
 last_of-append a (b ∷ p) n = last_of-append b p n
-
-once : (v : ℕ) (u : List ℕ) → occurs v u ≤ 1
-once v u = elim (occurs-01 v u) [ inl e ↦ omega arith | inr e ↦ omega arith ]
-
-fit : (l n m : ℕ) → l ≡ 0 → l * n ≤ m
-fit l n m e = let z : l * n ≡ 0 = ap (λ k. k * n) e ∙ omega arith in omega arith
 
 below-room : (v : ℕ) (u : List ℕ) (a : ℕ) (p : List ℕ) → IsCutFrom u a p → lengths_below v u a p + a ≤ length u + last_of a p
 below-room v [] a [] c = omega arith
@@ -62,7 +50,7 @@ below-room v (w ∷ u) a [] c = absurd c
 below-room v (w ∷ u) a (b ∷ p) c =
     let rest = below-room v u b p c.1 in
     let order = c.0 in
-    let one = once w u in
+    let one = occurs_once w u in
     elim (cases_lt w v) [
       | inl l ↦
           let times : less w v * (b - a + occurs w u) ≡ b - a + occurs w u = ap (λ n. n * (b - a + occurs w u)) (less-yes w v l) ∙ omega arith in
@@ -93,7 +81,7 @@ exponent-room (v ∷ u) a (b ∷ p) c l t =
     let rest = exponent-room u b p c.1 (omega arith) t in
     let order = c.0 in
     let grows = last-grows u b p c.1 in
-    let one = once v u in
+    let one = occurs_once v u in
     let lower = below-room v u b p c.1 in
     let term = term-room (b - a + occurs v u) (lengths_below v u b p) b (occurs v u) (omega (arith, order, grows, one, t)) (omega (arith, lower, t, l)) (omega (arith, grows, t)) one in
     omega (arith, rest, term)
@@ -219,7 +207,7 @@ interval u inner top i c h =
       inside = omega (arith, length-cut u 0 (inner ++ (top ∷ [])) c, length-append inner (top ∷ []));
       order = o.0;
       end = omega arith;
-      once = once (slice_index u i) (drop (i + 1) u);
+      once = occurs_once (slice_index u i) (drop (i + 1) u);
     }
 
 -- the facts and the step in the terms of the walk

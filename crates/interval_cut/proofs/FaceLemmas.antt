@@ -1,18 +1,9 @@
 -- The faces of a cut are written one after the other.
-use Rattle.std.proofs.Common.{true, false, ◌≡◌, ℕ, zero, suc, ◌+◌, ◌-◌, ◌≤◌, ◌<◌, ◌≢◌, List, [], ◌∷◌, ◌++◌, take, drop, length, get_or, refl, sym, ◌∙◌, ap, ap₂, arith, subst, length-drop, inl, inr, cond, eqb, length-append, set, get_or-set_same, get_or-set_other, slice_index, eq-eqb, ne_eqb, append-nil, append_assoc, take-append-drop, length-take}
-use Rattle.std.proofs.lemmas.Bool.{cases_eq}
-use Rattle.std.proofs.lemmas.List.{drop_more, drop_all, take_more_set}
-use Rattle.std.proofs.Math.Seq.{drop-append_seam, take-append_seam}
-use Rattle.linear_law.specs.Names.{sum_over, Each}
-use Rattle.linear_law.proofs.Names.{each_append}
-use Rattle.signed_sum.specs.Names.{IsDistinct, numbers_from, occurs}
-use Rattle.signed_sum.proofs.Names.{numbers_from-distinct, numbers_from-append}
+use Rattle.std.proofs.{Common.{true, false, ◌≡◌, ℕ, zero, suc, ◌+◌, ◌-◌, ◌≤◌, ◌<◌, ◌≢◌, List, [], ◌∷◌, ◌++◌, take, drop, length, get_or, refl, sym, ◌∙◌, ap, ap₂, arith, subst, length-drop, inl, inr, cond, eqb, length-append, set, get_or-set_same, get_or-set_other, slice_index, eq-eqb, ne_eqb, append-nil, append_assoc, take-append-drop, length-take}, lemmas.Bool.cases_eq, lemmas.List.{drop_more, take_more_set}, Math.Seq.{drop-append_seam, take-append_seam}}
+use Rattle.linear_law.{specs.Names.{sum_over, Each}, proofs.Names.each_append}
+use Rattle.signed_sum.{specs.Names.{IsDistinct, numbers_from, occurs}, proofs.Names.{length-numbers_from, numbers_from-distinct, numbers_from-append}}
 use Rattle.interval_cut_law.specs.Names.{IsCutFrom, cut_face}
-use Rattle.interval_cut.specs.Names.{IsFaceTable, IsPartOfFace, IsPartOfTable, flat_faces}
-
-pub length-numbers_from : (a n : ℕ) → length (numbers_from a n) ≡ n
-length-numbers_from a zero = refl
-length-numbers_from a (suc n) = ap suc (length-numbers_from (suc a) n)
+use Rattle.interval_cut.{specs.Names.{IsFaceTable, IsPartOfFace, IsPartOfTable, flat_faces}, proofs.ExponentLemmas.{last_of, last_of-append}}
 
 flat_faces-append : (ks ls u p : List ℕ) → flat_faces (ks ++ ls) u p ≡ flat_faces ks u p ++ flat_faces ls u p
 flat_faces-append [] ls u p = refl
@@ -30,10 +21,6 @@ flat_faces-next k u p =
 
 abbrev sizes : List ℕ → List ℕ → ℕ → List ℕ → ℕ
 sizes ks u a p = sum_over (λ k. length (cut_face k u a p)) ks
-
-abbrev end_from : ℕ → List ℕ → ℕ
-end_from a [] = a
-end_from a (b ∷ p) = end_from b p
 
 pub face_here : (k v : ℕ) (u : List ℕ) (a b : ℕ) (p : List ℕ) → k ≡ v → cut_face k (v ∷ u) a (b ∷ p) ≡ numbers_from a (suc (b - a)) ++ cut_face k u b p
 face_here k v u a b p e = ap (λ t. cond t (numbers_from a (suc (b - a)) ++ cut_face k u b p) (cut_face k u b p)) (eq-eqb k v e)
@@ -72,7 +59,7 @@ sizes-empty : (ks : List ℕ) (a : ℕ) (p : List ℕ) → sizes ks [] a p ≡ 0
 sizes-empty [] a p = refl
 sizes-empty (k ∷ ks) a p = omega (arith, sizes-empty ks a p)
 
-room : (ks u : List ℕ) (a : ℕ) (p : List ℕ) → IsDistinct ks → IsCutFrom u a p → sizes ks u a p + a ≤ length u + end_from a p
+room : (ks u : List ℕ) (a : ℕ) (p : List ℕ) → IsDistinct ks → IsCutFrom u a p → sizes ks u a p + a ≤ length u + last_of a p
 room ks [] a [] d c = let e = sizes-empty ks a [] in omega (arith, e)
 room ks [] a (b ∷ p) d c = absurd c
 room ks (v ∷ u) a [] d c = absurd c
@@ -82,10 +69,6 @@ room ks (v ∷ u) a (b ∷ p) d c =
     let o = c.0 in
     omega (arith, h, one, o)
 
-end_from-last : (a : ℕ) (p : List ℕ) (n : ℕ) → end_from a (p ++ (n ∷ [])) ≡ n
-end_from-last a [] n = refl
-end_from-last a (b ∷ p) n = end_from-last b p n
-
 length-flat_faces : (ks u p : List ℕ) → length (flat_faces ks u p) ≡ sizes ks u 0 p
 length-flat_faces [] u p = refl
 length-flat_faces (k ∷ ks) u p = length-append (cut_face k u 0 p) (flat_faces ks u p) ∙ ap (λ n. length (cut_face k u 0 p) + n) (length-flat_faces ks u p)
@@ -94,7 +77,7 @@ length-flat_faces (k ∷ ks) u p = length-append (cut_face k u 0 p) (flat_faces 
 pub faces_room : (k : ℕ) (u inner : List ℕ) (top : ℕ) → IsCutFrom u 0 (inner ++ (top ∷ [])) → length (flat_faces (numbers_from 1 k) u (inner ++ (top ∷ []))) ≤ top + length u
 faces_room k u inner top c =
     let h = room (numbers_from 1 k) u 0 (inner ++ (top ∷ [])) (numbers_from-distinct 1 k) c in
-    omega (arith, h, length-flat_faces (numbers_from 1 k) u (inner ++ (top ∷ [])), end_from-last 0 inner top)
+    omega (arith, h, length-flat_faces (numbers_from 1 k) u (inner ++ (top ∷ [])), last_of-append 0 inner top)
 
 -- ---- one face
 
@@ -105,25 +88,12 @@ numbers_step places old at k first b h =
     ap (λ n. take n (set places (at + k) (first + k))) e ∙ take_more_set places (at + k) (first + k) b ∙ ap (λ r. r ++ ((first + k) ∷ [])) h
     ∙ append_assoc (take at old) (numbers_from first k) ((first + k) ∷ []) ∙ ap (λ r. take at old ++ r) (sym (numbers_from-append first k 1))
 
-pub face_start : (k : ℕ) (u p : List ℕ) (at : ℕ) (old : List ℕ) → IsCutFrom u 0 p → IsPartOfFace k u p at 0 0 at old old
-face_start k [] [] at old c = record { rest = c; long = refl; written = refl }
-face_start k [] (b ∷ p) at old c = absurd c
-face_start k (v ∷ u) [] at old c = absurd c
-face_start k (v ∷ u) (b ∷ p) at old c = record { rest = c; long = refl; written = refl }
-
 module _ (k : ℕ) (u p : List ℕ) (at i a next : ℕ) (old done : List ℕ) (h : IsPartOfFace k u p at i a next old done) (inside : i < length u) (inside_cut : i < length p) where
   v : ℕ
   v = get_or u i 0
 
   b : ℕ
   b = get_or p i 0
-
-  -- the interval that comes next
-  pub face_order : a ≤ get_or p i 0
-  face_order =
-      let c : IsCutFrom (get_or u i 0 ∷ drop (i + 1) u) a (get_or p i 0 ∷ drop (i + 1) p) = subst (λ (x : List ℕ). IsCutFrom (get_or u i 0 ∷ drop (i + 1) u) a x) (drop_more p i 0 inside_cut)
-      (subst (λ (x : List ℕ). IsCutFrom x a (drop i p)) (drop_more u i 0 inside) h.rest) in
-      c.0
 
   split : drop i u ≡ get_or u i 0 ∷ drop (i + 1) u
   split = drop_more u i 0 inside
@@ -167,25 +137,7 @@ module _ (k : ℕ) (u p : List ℕ) (at i a next : ℕ) (old done : List ℕ) (h
             ∙ ap (λ r. done ++ r) (sym (face_taken q)) ∙ h.written;
       }
 
-pub face_end : (k : ℕ) (u p : List ℕ) (at i a next : ℕ) (old done : List ℕ) → IsPartOfFace k u p at i a next old done → length u ≤ i
-    → (next ≡ at + length (cut_face k u 0 p)) × (done ≡ old ++ cut_face k u 0 p)
-face_end k u p at i a next old done h b =
-    let none : drop i u ≡ [] = drop_all i u b in
-    let e : cut_face k (drop i u) a (drop i p) ≡ [] = ap (λ x. cut_face k x a (drop i p)) none in
-    (omega (arith, h.long, ap length e), sym (append-nil done) ∙ ap (λ r. done ++ r) (sym e) ∙ h.written)
-
 -- ---- the table
-
-pub table_start : (u p places starts : List ℕ) → slice_index starts 0 ≡ 0 → IsPartOfTable u p 0 0 places starts
-table_start u p places starts e = record {
-  start = λ j b. let z : j ≡ 0 = omega arith in ap (λ i. slice_index starts i) z ∙ e ∙ sym (ap (λ i. length (flat_faces (numbers_from 1 i) u p)) z);
-  here = refl;
-  written = nothing places;
-}
-  where
-    nothing : (xs : List ℕ) → take 0 xs ≡ []
-    nothing [] = refl
-    nothing (x ∷ xs) = refl
 
 pub table_step : (u p : List ℕ) (k next : ℕ) (places starts new : List ℕ) (after : ℕ) → IsPartOfTable u p k next places starts → k + 1 < length starts
     → after ≡ next + length (cut_face (k + 1) u 0 p) → take after new ≡ take next places ++ cut_face (k + 1) u 0 p
@@ -201,9 +153,6 @@ table_step u p k next places starts new after h b e w =
       here = long;
       written = w ∙ ap (λ r. r ++ cut_face (k + 1) u 0 p) h.written ∙ sym more;
     }
-
-pub table_end : (u p : List ℕ) (r next : ℕ) (places starts : List ℕ) → IsPartOfTable u p r next places starts → IsFaceTable u p r places starts
-table_end u p r next places starts h = record { start = h.start; written = ap (λ n. take n places) (sym h.here) ∙ h.written }
 
 pub part_moved : (k : ℕ) (u p : List ℕ) (at i : ℕ) (old : List ℕ) (a b n m : ℕ) (xs ys : List ℕ) → b ≡ a → m ≡ n → ys ≡ xs → IsPartOfFace k u p at i a n old (take n xs)
     → IsPartOfFace k u p at i b m old (take m ys)
@@ -221,16 +170,6 @@ next_room k u inner top next size c h r =
 
 -- ---- reading a face
 
-numbers_from-split : (a m n : ℕ) → numbers_from a (m + n) ≡ numbers_from a m ++ numbers_from (a + m) n
-numbers_from-split a zero n =
-    let e : zero + n ≡ n = omega arith in
-    let f : a ≡ a + zero = omega arith in
-    ap (numbers_from a) e ∙ ap (λ x. numbers_from x n) f
-numbers_from-split a (suc m) n =
-    let e : suc m + n ≡ suc (m + n) = omega arith in
-    let f : suc a + m ≡ a + suc m = omega arith in
-    ap (numbers_from a) e ∙ ap (λ r. a ∷ r) (numbers_from-split (suc a) m n) ∙ ap (λ x. a ∷ (numbers_from (suc a) m ++ numbers_from x n)) f
-
 module _ (u p : List ℕ) (r k : ℕ) (places starts : List ℕ) (h : IsFaceTable u p r places starts) (b : k + 1 ≤ r) where
   abbrev flat : ℕ → List ℕ
   flat n = flat_faces (numbers_from 1 n) u p
@@ -241,7 +180,7 @@ module _ (u p : List ℕ) (r k : ℕ) (places starts : List ℕ) (h : IsFaceTabl
   flat_split : flat r ≡ flat k ++ (cut_face (k + 1) u 0 p ++ flat_faces (numbers_from (1 + (k + 1)) (r - (k + 1))) u p)
   flat_split =
       let e : r ≡ k + 1 + (r - (k + 1)) = omega arith in
-      ap flat e ∙ ap (λ ks. flat_faces ks u p) (numbers_from-split 1 (k + 1) (r - (k + 1)))
+      ap flat e ∙ ap (λ ks. flat_faces ks u p) (numbers_from-append 1 (k + 1) (r - (k + 1)))
       ∙ flat_faces-append (numbers_from 1 (k + 1)) (numbers_from (1 + (k + 1)) (r - (k + 1))) u p
       ∙ ap (λ x. x ++ flat_faces (numbers_from (1 + (k + 1)) (r - (k + 1))) u p) (flat_faces-next k u p)
       ∙ append_assoc (flat k) (cut_face (k + 1) u 0 p) (flat_faces (numbers_from (1 + (k + 1)) (r - (k + 1))) u p)

@@ -1,16 +1,10 @@
 -- The gaps of a cut are written one after the other, and their inversions counted.
-use Rattle.std.proofs.Common.{◌≡◌, ℕ, zero, suc, ◌+◌, ◌-◌, ◌≤◌, ◌<◌, ◌≢◌, true, false, List, [], ◌∷◌, ◌++◌, take, drop, length, get_or, refl, sym, ◌∙◌, ap, ap₂, arith, subst, inl, inr, cond, eqb, length-append, length-drop, count_by, nat_lt, pos, eq-eqb, le-ltb, lt-ltb, ne_eqb, append-nil, append_assoc}
-use Rattle.std.proofs.lemmas.Bool.{cases_lt}
-use Rattle.std.proofs.lemmas.List.{drop_more, drop_all}
-use Rattle.std.proofs.lemmas.List.Sums.{sum_by-cons}
-use Rattle.signed_sum.specs.Names.{count_before, inversion_count, rearrangement_sign, less, numbers_from, occurs, signed}
-use Rattle.signed_sum.proofs.Names.{less-no, occurs-01, signed-parity, less-yes, numbers_from-append}
+use Rattle.std.proofs.{Common.{◌≡◌, ℕ, suc, ◌+◌, ◌-◌, ◌≤◌, ◌<◌, ◌≢◌, true, false, List, [], ◌∷◌, ◌++◌, take, drop, length, get_or, refl, sym, ◌∙◌, ap, ap₂, arith, subst, inl, inr, cond, eqb, length-append, length-drop, count_by, nat_lt, pos, eq-eqb, le-ltb, lt-ltb, ne_eqb, append-nil, append_assoc}, lemmas.Bool.cases_lt, lemmas.List.drop_more, lemmas.List.Sums.sum_by-cons}
+use Rattle.signed_sum.{specs.Names.{count_before, inversion_count, rearrangement_sign, less, numbers_from, occurs, signed}, proofs.Names.{length-numbers_from, less-no, occurs-01, signed-parity, less-yes, numbers_from-append}}
 use Rattle.operad_law.proofs.WordLemmas.{drop_rest}
 use Rattle.surjection_law.specs.Names.{caesura_count, IsOnto}
-use Rattle.interval_cut_law.specs.Names.{IsCutFrom, cut_face, gap_symbols, gap_word, sign_exponent, starting_word}
-use Rattle.interval_cut_law.proofs.GapWords.{sign-parity, sign_forms_agree}
-use Rattle.interval_cut.specs.Names.{flat_faces, IsPartOfGaps}
-use Rattle.interval_cut.proofs.FaceLemmas.{faces_room, length-numbers_from}
+use Rattle.interval_cut_law.{specs.Names.{IsCutFrom, cut_face, gap_symbols, gap_word, sign_exponent, starting_word}, proofs.GapWords.{sign-parity, sign_forms_agree}}
+use Rattle.interval_cut.{specs.Names.{flat_faces, IsPartOfGaps}, proofs.FaceLemmas.faces_room}
 
 -- ---- room: no face has more gaps than places
 
@@ -75,12 +69,6 @@ pub word_room : (k : ℕ) (u inner : List ℕ) (top : ℕ) → IsCutFrom u 0 (in
 word_room k u inner top c short low = omega (arith, word_short (numbers_from 1 k) u (inner ++ (top ∷ [])), faces_room k u inner top c)
 
 -- ---- one face
-
-pub gaps_start : (k : ℕ) (u p : List ℕ) (at : ℕ) (old : List ℕ) → IsCutFrom u 0 p → IsPartOfGaps k u p at 0 0 1 at old old
-gaps_start k [] [] at old c = record { rest = c; caesura = refl; long = refl; written = refl }
-gaps_start k [] (b ∷ p) at old c = absurd c
-gaps_start k (v ∷ u) [] at old c = absurd c
-gaps_start k (v ∷ u) (b ∷ p) at old c = record { rest = c; caesura = omega arith; long = refl; written = refl }
 
 module _ (k : ℕ) (u p : List ℕ) (at i a j next : ℕ) (old done : List ℕ) (h : IsPartOfGaps k u p at i a j next old done) (inside : i < length u) (inside_cut : i < length p) where
   split : drop i u ≡ get_or u i 0 ∷ drop (i + 1) u
@@ -150,23 +138,7 @@ module _ (k : ℕ) (u p : List ℕ) (at i a j next : ℕ) (old done : List ℕ) 
         written = ap (λ r. r ++ rest) w ∙ append_assoc done here rest ∙ ap (λ r. done ++ r) (sym (gaps_taken q edges s ee es)) ∙ h.written;
       }
 
-pub gaps_end : (k : ℕ) (u p : List ℕ) (at i a j next : ℕ) (old done : List ℕ) → IsPartOfGaps k u p at i a j next old done → length u ≤ i
-    → (next ≡ at + length (gap_symbols k (caesura_count u) 1 u 0 p)) × (done ≡ old ++ gap_symbols k (caesura_count u) 1 u 0 p)
-gaps_end k u p at i a j next old done h b =
-    let none : drop i u ≡ [] = drop_all i u b in
-    let e : gap_symbols k (caesura_count u) j (drop i u) a (drop i p) ≡ [] = ap (λ x. gap_symbols k (caesura_count u) j x a (drop i p)) none in
-    (omega (arith, h.long, ap length e), sym (append-nil done) ∙ ap (λ r. done ++ r) (sym e) ∙ h.written)
-
 -- ---- inversions
-
-pub before_short : (x : ℕ) (w : List ℕ) → count_before less x w ≤ length w
-before_short x [] = omega arith
-before_short x (y ∷ w) = let o = once y x in omega (arith, before_short x w, o)
-  where
-    once : (y x : ℕ) → less y x ≤ 1
-    once y zero = omega arith
-    once zero (suc x) = omega arith
-    once (suc y) (suc x) = once y x
 
 less-test : (y x : ℕ) → less y x ≡ cond {A = ℕ} (nat_lt y x) 1 0
 less-test y x = elim (cases_lt y x) [
@@ -192,9 +164,6 @@ later_short w i m h = omega (arith, h, ap length (drop_rest w (i + 1)), length-d
 -- one more caesura
 pub caesuras_step : (u : List ℕ) (i n m : ℕ) → i < length u → m ≡ occurs (get_or u i 0) (drop (i + 1) u) → n + caesura_count (drop i u) ≡ caesura_count u → n + m + caesura_count (drop (i + 1) u) ≡ caesura_count u
 caesuras_step u i n m h e k = omega (arith, ap caesura_count (drop_more u i 0 h), e, k)
-
-pub occurs_once : (v : ℕ) (u : List ℕ) → occurs v u ≤ 1
-occurs_once v u = elim (occurs-01 v u) [ inl e ↦ omega arith | inr e ↦ omega arith ]
 
 pub part_of_gaps_moved : (k : ℕ) (u p : List ℕ) (at i : ℕ) (old : List ℕ) (a b j n m : ℕ) (xs ys : List ℕ) → b ≡ a → m ≡ n → ys ≡ xs → IsPartOfGaps k u p at i a j n old (take n xs)
     → IsPartOfGaps k u p at i b j m old (take m ys)

@@ -1,10 +1,7 @@
 -- The walk over rising lists.
-use Rattle.std.proofs.Common.{◌≡◌, ℕ, ◌+◌, ◌-◌, ◌≤◌, ◌<◌, true, false, List, [], ◌∷◌, ◌++◌, map, take, drop, take_all, length-take-le, length-drop, length-append, length, get_or, refl, sym, ◌∙◌, ap, ap₂, arith, subst, Bool, if◌then◌else◌, ltb, zero, suc, replicate, lt-ltb, le-ltb, append-nil}
-use Rattle.std.proofs.lemmas.List.{length-replicate}
-use Rattle.std.proofs.lemmas.Slice.{take-put_mid}
+use Rattle.std.proofs.{Common.{◌≡◌, ℕ, ◌+◌, ◌-◌, ◌≤◌, ◌<◌, true, false, List, [], ◌∷◌, ◌++◌, map, take, drop, take_all, length-take-le, length-drop, length-append, length, get_or, refl, sym, ◌∙◌, ap, ap₂, arith, subst, Bool, if◌then◌else◌, ltb, zero, suc, replicate, lt-ltb, le-ltb, append-nil}, lemmas.List.length-replicate, lemmas.Slice.take-put_mid}
 use borrow.Rule.Slice.PartMut.{put_mid, mid_of, same_len_mid}
-use Rattle.linear_law.specs.Names.{Each}
-use Rattle.linear_law.proofs.Names.{each_append, each_map, each_of_map}
+use Rattle.linear_law.{specs.Names.Each, proofs.Names.{each_append, each_map, each_of_map}}
 use Rattle.interval_cut_law.specs.Names.{rising_lists}
 use Rattle.interval_cut.specs.Names.{lists_after, IsFullFrom, IsLastBelow}
 

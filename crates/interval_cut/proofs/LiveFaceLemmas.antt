@@ -1,15 +1,10 @@
 -- The faces of the first intervals of a cut, and when no live cut begins so.
-use Rattle.std.proofs.Common.{◌≡◌, ◌≢◌, ℕ, zero, suc, ◌+◌, ◌-◌, ◌≤◌, ◌<◌, Bool, true, false, ◌||◌, cond, eqb, List, [], ◌∷◌, ◌++◌, take, drop, length, get_or, set, refl, sym, ◌∙◌, ap, arith, subst, inl, inr, ◌⊎◌, length-append, length-drop, take_all, append_assoc, get_or-set_same, get_or-set_other, ◌&&◌, ◌==◌, not, replicate, eq-eqb, ne_eqb, append-nil, take-append-drop}
-use Rattle.std.proofs.lemmas.Bool.{cases_eq, or_right, or_from, or_parts, and_from, and_left, and_right}
-use Rattle.std.proofs.lemmas.List.{drop_more, drop_all, take_more}
-use Rattle.std.proofs.lemmas.List.Sums.{count_by-le-length, sum_by-cons}
-use Rattle.signed_sum.specs.Names.{is_degenerate, numbers_from, occurs}
-use Rattle.signed_sum.proofs.Names.{occurs-cons, occurs-later, occurs-mid}
+use Rattle.std.proofs.{Common.{◌≡◌, ◌≢◌, ℕ, zero, suc, ◌+◌, ◌-◌, ◌≤◌, ◌<◌, Bool, true, false, ◌||◌, cond, eqb, List, [], ◌∷◌, ◌++◌, take, drop, length, get_or, set, refl, sym, ◌∙◌, ap, arith, subst, inl, inr, ◌⊎◌, length-append, length-drop, take_all, append_assoc, get_or-set_same, get_or-set_other, ◌&&◌, ◌==◌, not, replicate, eq-eqb, ne_eqb, append-nil, take-append-drop}, lemmas.Bool.{cases_eq, or_right, or_from, or_parts, and_from, and_left, and_right}, lemmas.List.{drop_more, drop_all, take_more}, lemmas.List.Sums.{count_by-le-length, sum_by-cons}}
+use Rattle.signed_sum.{specs.Names.{is_degenerate, numbers_from, occurs}, proofs.Names.{length-numbers_from, occurs-cons, occurs-later, occurs-mid}}
 use Rattle.surjection_law.specs.Names.{IsSurjection, arity}
 use Rattle.surjection.proofs.WalkLemmas.{value_within}
 use Rattle.interval_cut_law.specs.Names.{IsCutFrom, cut_face, cut_faces, is_live}
-use Rattle.interval_cut.specs.Names.{is_live_cut, IsBegun, IsDeadEnd, IsFitting, IsTaken, IsUnfit, later_times, place_after, times}
-use Rattle.interval_cut.proofs.FaceLemmas.{face_here, face_other, length-numbers_from}
+use Rattle.interval_cut.{specs.Names.{is_live_cut, IsBegun, IsDeadEnd, IsFitting, IsTaken, IsUnfit, later_times, place_after, times}, proofs.FaceLemmas.{face_here, face_other}}
 
 -- ---- how often a value comes
 

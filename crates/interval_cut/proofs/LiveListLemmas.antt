@@ -1,18 +1,9 @@
 -- Lists of right ends that are passed over, since none of them is live.
-use Rattle.std.proofs.Common.{◌≡◌, ℕ, ◌+◌, ◌-◌, ◌≤◌, ◌<◌, Bool, true, false, cond, List, [], ◌∷◌, ◌++◌, map, take, drop, take_all, length-take-le, length-drop, length, get_or, set, length-set, refl, sym, ◌∙◌, ap, ap₂, arith, inl, inr, if◌then◌else◌, ltb, subst, length-append, append_assoc, zero-add, zero, suc, replicate, lt-ltb, le-ltb, take-append-drop}
-use Rattle.std.specs.List.{filter}
-use Rattle.std.proofs.lemmas.Bool.{cases_lt}
-use Rattle.std.proofs.lemmas.List.{length-replicate, length-map, take-append-le, take_more_set, drop_more}
-use Rattle.std.proofs.lemmas.List.Elements.{filter-append}
-use Rattle.std.proofs.Math.ListN.{get_or-append}
-use Rattle.std.proofs.lemmas.Slice.{take-put_mid}
+use Rattle.std.{proofs.Common.{◌≡◌, ℕ, ◌+◌, ◌-◌, ◌≤◌, ◌<◌, Bool, true, false, cond, List, [], ◌∷◌, ◌++◌, map, take, drop, take_all, length-take-le, length-drop, length, get_or, set, length-set, refl, sym, ◌∙◌, ap, ap₂, arith, inl, inr, if◌then◌else◌, ltb, subst, length-append, append_assoc, zero-add, zero, suc, replicate, lt-ltb, le-ltb, take-append-drop}, specs.List.filter, proofs.lemmas.Bool.cases_lt, proofs.lemmas.List.{length-replicate, length-map, take-append-le, take_more_set, drop_more}, proofs.lemmas.List.Elements.filter-append, proofs.Math.ListN.get_or-append, proofs.lemmas.Slice.take-put_mid}
 use borrow.Rule.Slice.PartMut.{put_mid, mid_of, same_len_mid}
-use Rattle.linear_law.specs.Names.{Each}
-use Rattle.linear_law.proofs.Names.{each_map}
+use Rattle.linear_law.{specs.Names.Each, proofs.Names.each_map}
 use Rattle.interval_cut_law.specs.Names.{IsCutFrom, rising_lists}
-use Rattle.interval_cut.specs.Names.{IsNextList, lists_after, is_live_cut, IsDeadEnd, KeepsLive, is_live_list, lists_from, lists_left, passed_list, Stage, Before, At}
-use Rattle.interval_cut.proofs.ListLemmas.{lists_after-first, lists_after-long, rising-long}
-use Rattle.interval_cut.proofs.WalkLemmas.{cut-first, cut-next, cut-replicate}
+use Rattle.interval_cut.{specs.Names.{IsNextList, lists_after, is_live_cut, IsDeadEnd, KeepsLive, is_live_list, lists_from, lists_left, passed_list, Stage, Before, At}, proofs.ListLemmas.{lists_after-first, lists_after-long, rising-long}, proofs.WalkLemmas.{cut-first, cut-next, cut-replicate}}
 
 pub filter-map : (live : List ℕ → Bool) (f : List ℕ → List ℕ) (xs : List (List ℕ)) → filter live (map f xs) ≡ map f (filter (λ x. live (f x)) xs)
 filter-map live f [] = refl
@@ -256,11 +247,3 @@ search-more live t top p later s e d k =
     let long : suc (length (lists_after top p)) ≡ length (lists_from t top p) = ap (λ x. length (lists_from x top p)) (sym e) in
     let short = k.shorter in
     (sym k.same ∙ ap (λ x. cond x (p ∷ filter live (lists_after top p)) (filter live (lists_after top p))) (sym d) ∙ same, omega arith)
-
--- a list that is live is found
-pub search-found : (live : List ℕ → Bool) (t : Bool) (top : ℕ) (p : List ℕ) (xs : List (List ℕ)) → t ≡ true → live p ≡ true → filter live (lists_from t top p) ≡ xs → xs ≡ p ∷ filter live (lists_after top p)
-search-found live t top p xs e d h =
-    sym h ∙ ap (λ x. filter live (lists_from x top p)) e ∙ ap (λ x. cond x (p ∷ filter live (lists_after top p)) (filter live (lists_after top p))) d
-
-pub search-none : (live : List ℕ → Bool) (t : Bool) (top : ℕ) (p : List ℕ) (xs : List (List ℕ)) → t ≡ false → filter live (lists_from t top p) ≡ xs → xs ≡ []
-search-none live t top p xs e h = sym h ∙ ap (λ x. filter live (lists_from x top p)) e

@@ -1,26 +1,11 @@
 -- Cuts that are not live give 0 on cochains of the degree.
-use Rattle.std.proofs.Common.{◌≡◌, ℕ, zero, suc, ◌%◌, ◌/◌, ◌<◌, Bool, true, false, cond, eqb, ◌==◌, List, [], ◌∷◌, map, length, refl, sym, ◌∙◌, ap, arith, inl, inr, eqb-true, eq-eqb, ℤ, pos, ◌+ℤ◌, ◌*ℤ◌, ◌&&◌, not}
-use Rattle.std.specs.List.{filter}
-use Rattle.std.proofs.Math.IntN.{zero-*ℤ, *ℤ-zero}
-use Rattle.std.proofs.lemmas.Bool.{and_cases, false≢true, or_cases, or_left, or_right}
-use Rattle.std.proofs.lemmas.Int.{ints}
-use Rattle.std.proofs.lemmas.List.{length-map}
+use Rattle.std.{proofs.Common.{◌≡◌, ℕ, zero, suc, ◌%◌, ◌/◌, ◌<◌, Bool, true, false, cond, eqb, ◌==◌, List, [], ◌∷◌, map, length, refl, sym, ◌∙◌, ap, arith, inl, inr, eqb-true, eq-eqb, ℤ, pos, ◌+ℤ◌, ◌*ℤ◌, ◌&&◌, not}, specs.List.filter, proofs.Math.IntN.{zero-*ℤ, *ℤ-zero}, proofs.lemmas.Bool.{and_cases, false≢true, or_cases, or_left, or_right}, proofs.lemmas.Int.ints, proofs.lemmas.List.length-map}
 use Rattle.linear_law.specs.Names.{IsAscending}
-use Rattle.signed_sum.specs.Names.{is_degenerate, numbers_from, signed, total}
-use Rattle.signed_sum.proofs.Names.{signed-zero}
+use Rattle.signed_sum.{specs.Names.{is_degenerate, numbers_from, signed, total}, proofs.Names.{is_degenerate-under, signed-zero}}
 use Rattle.simplicial_law.proofs.Names.{CongruentInt-sum, CongruentInt_of, CongruentInt_refl, CongruentInt_trans}
 use Rattle.surjection_law.specs.Names.{arity}
 use Rattle.interval_cut_law.specs.Names.{cut_face, cut_faces, cuts, sign_exponent, vertex_at, is_live, value_product}
-use Rattle.interval_cut.specs.Names.{IsOfDegree, IsPartOfSum, LiveWalk, is_live_cut, live_start, live_top, by_mask, signed_product}
-use Rattle.interval_cut.proofs.ProductLemmas.{remainder}
-
-degenerate-map : (g : ℕ → ℕ) (f : List ℕ) → is_degenerate f ≡ true → is_degenerate (map g f) ≡ true
-degenerate-map g [] d = absurd (false≢true d)
-degenerate-map g (x ∷ []) d = absurd (false≢true d)
-degenerate-map g (x ∷ y ∷ f) d = elim (or_cases (eqb x y) (is_degenerate (y ∷ f)) d) [
-  | inl e ↦ or_left (eqb (g x) (g y)) (is_degenerate (map g (y ∷ f))) (eq-eqb (g x) (g y) (ap g (eqb-true x y e)))
-  | inr e ↦ or_right (eqb (g x) (g y)) (is_degenerate (map g (y ∷ f))) (degenerate-map g (y ∷ f) e)
-]
+use Rattle.interval_cut.{specs.Names.{IsOfDegree, IsPartOfSum, LiveWalk, is_live_cut, live_start, live_top, by_mask, signed_product}, proofs.ProductLemmas.remainder}
 
 not_ascending : (f : List ℕ) → is_degenerate f ≡ true → IsAscending f → ⊥
 not_ascending [] d h = false≢true d
@@ -33,7 +18,7 @@ not_ascending (x ∷ y ∷ f) d h = elim (or_cases (eqb x y) (is_degenerate (y �
 -- a face that is no simplex of degree q has the value 0
 no_value : (q : ℕ) (a : List ℕ → ℕ) (g : ℕ → ℕ) (f : List ℕ) → IsOfDegree q a → (not (is_degenerate f) && (length f == suc q)) ≡ false → a (map g f) ≡ 0
 no_value q a g f h e = elim (and_cases (not (is_degenerate f)) (length f == suc q) e) [
-  | inl d ↦ h.ascending (map g f) (not_ascending (map g f) (degenerate-map g f (double (is_degenerate f) d)))
+  | inl d ↦ h.ascending (map g f) (not_ascending (map g f) (is_degenerate-under g f (double (is_degenerate f) d)))
   | inr l ↦ h.long (map g f) (λ s. false≢true (sym l ∙ eq-eqb (length f) (suc q) (sym (length-map f g) ∙ s)))
 ]
   where

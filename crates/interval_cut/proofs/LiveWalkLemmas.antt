@@ -1,12 +1,8 @@
 -- The steps of the walk over live cuts, and the count of them.
-use Rattle.std.proofs.Common.{◌≡◌, ℕ, ◌+◌, ◌-◌, ◌≤◌, Bool, true, false, cond, List, [], ◌∷◌, ◌++◌, map, take, length, replicate, refl, sym, ◌∙◌, ap, ap₂, subst, arith, Option, Some}
-use Rattle.std.specs.List.{filter}
-use Rattle.std.proofs.lemmas.List.{length-map, length-replicate, take-replicate}
+use Rattle.std.{proofs.Common.{◌≡◌, ℕ, ◌+◌, ◌-◌, ◌≤◌, Bool, true, false, cond, List, [], ◌∷◌, ◌++◌, map, take, length, replicate, refl, sym, ◌∙◌, ap, ap₂, subst, arith, Option, Some}, specs.List.filter, proofs.lemmas.List.{length-map, length-replicate, take-replicate}}
 use Rattle.surjection_law.specs.Names.{arity}
 use Rattle.interval_cut_law.specs.Names.{cuts, rising_lists, live_count_among, live_cut_count}
-use Rattle.interval_cut.specs.Names.{CutWalk, lists_after, next_walk, here_of, left_of, shown, LiveWalk, is_live_cut, live_top, live_walk, next_live, FindsLive, IsListFor, is_live_list, lists_left, Stage, Before, At, Done}
-use Rattle.interval_cut.proofs.LiveListLemmas.{filter-map}
-use Rattle.interval_cut.proofs.WalkLemmas.{cut-start}
+use Rattle.interval_cut.{specs.Names.{CutWalk, lists_after, next_walk, here_of, left_of, shown, LiveWalk, is_live_cut, live_top, live_walk, next_live, FindsLive, IsListFor, is_live_list, lists_left, Stage, Before, At, Done}, proofs.LiveListLemmas.filter-map, proofs.WalkLemmas.cut-start}
 
 -- the cuts that are to come are those of the lists that are to come
 left-lists : (s : Stage) (u : List ℕ) (top : ℕ) (inner : List ℕ) → length inner + 1 ≡ length u → left_of s u top inner ≡ map (λ p. p ++ (top ∷ [])) (lists_left s top inner)

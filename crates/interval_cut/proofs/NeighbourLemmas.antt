@@ -1,20 +1,7 @@
 -- The search for two equal neighbours.
-use Rattle.std.proofs.Common.{◌≡◌, ◌≢◌, ℕ, ◌+◌, ◌<◌, ◌≤◌, true, false, ◌||◌, List, [], ◌∷◌, drop, length, length-drop, get_or, refl, sym, ◌∙◌, ap, arith, suc, ◌-◌, ◌&&◌, ◌==◌, not, eq-eqb, ne_eqb}
-use Rattle.std.proofs.lemmas.List.{drop_more}
+use Rattle.std.proofs.Common.{◌≡◌, ◌≢◌, ℕ, ◌+◌, ◌<◌, ◌≤◌, true, false, ◌||◌, List, [], ◌∷◌, drop, length, length-drop, refl, sym, ◌∙◌, ap, arith, suc, ◌-◌, ◌&&◌, ◌==◌, not}
 use Rattle.signed_sum.specs.Names.{is_degenerate, numbers_from}
 use Rattle.interval_cut_law.specs.Names.{cut_face, cut_faces, is_live}
-
-both : (xs : List ℕ) (i : ℕ) → i + 1 < length xs → drop i xs ≡ get_or xs i 0 ∷ (get_or xs (i + 1) 0 ∷ drop (i + 1 + 1) xs)
-both xs i b = drop_more xs i 0 (omega arith) ∙ ap (λ r. get_or xs i 0 ∷ r) (drop_more xs (i + 1) 0 b)
-
-pub neighbours_found : (xs : List ℕ) (i : ℕ) → i + 1 < length xs → get_or xs i 0 ≡ get_or xs (i + 1) 0 → is_degenerate (drop i xs) ≡ true
-neighbours_found xs i b e =
-    ap is_degenerate (both xs i b) ∙ ap (λ t. t || is_degenerate (get_or xs (i + 1) 0 ∷ drop (i + 1 + 1) xs)) (eq-eqb (get_or xs i 0) (get_or xs (i + 1) 0) e)
-
-pub neighbours_differ : (xs : List ℕ) (i : ℕ) → i + 1 < length xs → get_or xs i 0 ≢ get_or xs (i + 1) 0 → is_degenerate (drop (i + 1) xs) ≡ is_degenerate (drop i xs)
-neighbours_differ xs i b n =
-    ap is_degenerate (drop_more xs (i + 1) 0 b)
-    ∙ sym (ap is_degenerate (both xs i b) ∙ ap (λ t. t || is_degenerate (get_or xs (i + 1) 0 ∷ drop (i + 1 + 1) xs)) (ne_eqb (get_or xs i 0) (get_or xs (i + 1) 0) n))
 
 few : (xs : List ℕ) → length xs ≤ 1 → is_degenerate xs ≡ false
 few [] b = refl

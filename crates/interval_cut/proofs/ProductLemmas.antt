@@ -1,13 +1,8 @@
 -- The product of the values on the faces, one face after the other.
-use Rattle.std.proofs.Common.{◌⊎◌, inl, inr, of_z, to_z, w8, ◌≡◌, ℕ, suc, ◌+◌, ◌-◌, ◌*◌, ◌%◌, ◌/◌, ◌≤◌, ◌<◌, Bool, true, false, cond, ◌==◌, List, map, refl, sym, ◌∙◌, ap, ap₂, arith, ℤ, pos, negsuc, ◌*ℤ◌}
-use Rattle.std.proofs.Math.IntN.{zero-*ℤ}
-use Rattle.std.proofs.Math.Nat.{mod-mod}
-use Rattle.std.proofs.lemmas.Bool.{cases_eq}
-use Rattle.signed_sum.specs.Names.{signed}
-use Rattle.signed_sum.proofs.Names.{signed-parity, signed-zero, mul_assoc, one-mul, mul_comm}
+use Rattle.std.proofs.{Common.{◌⊎◌, inl, inr, of_z, to_z, w8, ◌≡◌, ℕ, suc, ◌+◌, ◌-◌, ◌*◌, ◌%◌, ◌/◌, ◌≤◌, ◌<◌, Bool, true, false, cond, ◌==◌, List, map, refl, sym, ◌∙◌, ap, ap₂, arith, ℤ, pos, negsuc, ◌*ℤ◌}, Math.IntN.zero-*ℤ, Math.Nat.mod-mod, lemmas.Bool.cases_eq}
+use Rattle.signed_sum.{specs.Names.signed, proofs.Names.{signed-parity, signed-zero, mul_assoc, one-mul, mul_comm}}
 use Rattle.linear_law.specs.Names.{negated}
-use Rattle.simplicial_law.specs.Names.{CongruentInt}
-use Rattle.simplicial_law.proofs.Names.{negated_whole, whole, CongruentInt-signed, CongruentInt-times, CongruentInt_of, CongruentInt_refl, CongruentInt_sym, CongruentInt_trans}
+use Rattle.simplicial_law.{specs.Names.CongruentInt, proofs.Names.{negated_whole, whole, CongruentInt-signed, CongruentInt-times, CongruentInt_of, CongruentInt_refl, CongruentInt_sym, CongruentInt_trans}}
 use Rattle.interval_cut_law.specs.Names.{cut_face, vertex_at}
 use Rattle.interval_cut.specs.Names.{product_from}
 

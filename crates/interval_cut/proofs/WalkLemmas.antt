@@ -1,12 +1,8 @@
 -- The steps of the walk over cuts.
-use Rattle.std.proofs.Common.{◌≡◌, ℕ, ◌+◌, List, [], ◌∷◌, ◌++◌, map, length, refl, sym, ◌∙◌, ap, ap₂, arith, subst, zero-add, ◌<◌, ◌≤◌, ◌-◌, Bool, true, false, if◌then◌else◌, ltb, length-append, zero, suc, replicate, Some, None, IsSome, is_some, ltb-true}
-use Rattle.std.proofs.lemmas.Bool.{false≢true}
-use Rattle.interval_cut_law.specs.Names.{IsCutFrom, rising_lists}
-use Rattle.interval_cut.specs.Names.{CutWalk, cut_of, lists_after, next_walk, HasFaces, IsFaceTable, OnAt, shown, Stage, Before, At, Done}
-use Rattle.linear_law.specs.Names.{Each}
-use Rattle.interval_cut_law.proofs.CutOrder.{cut-earlier, rising-cuts}
-use Rattle.linear_law.proofs.Names.{each_append, each_map, each_of_map}
-use Rattle.interval_cut.proofs.ListLemmas.{lists_after-first}
+use Rattle.std.proofs.{Common.{◌≡◌, ℕ, ◌+◌, List, [], ◌∷◌, ◌++◌, map, length, refl, sym, ◌∙◌, ap, ap₂, arith, subst, zero-add, ◌<◌, ◌≤◌, ◌-◌, Bool, true, false, if◌then◌else◌, ltb, length-append, zero, suc, replicate, Some, None, IsSome, is_some, ltb-true}, lemmas.Bool.false≢true}
+use Rattle.interval_cut_law.{specs.Names.{IsCutFrom, rising_lists}, proofs.CutOrder.{cut-earlier, rising-cuts}}
+use Rattle.interval_cut.{specs.Names.{CutWalk, cut_of, lists_after, next_walk, HasFaces, IsFaceTable, OnAt, shown, Stage, Before, At, Done}, proofs.ListLemmas.lists_after-first}
+use Rattle.linear_law.{specs.Names.Each, proofs.Names.{each_append, each_map, each_of_map}}
 
 -- from before the first cut
 pub walk-first : (values inner new : List ℕ) (top : ℕ) (s : Stage) (w : CutWalk) → shown values top s inner ≡ w → s ≡ Before → length inner + 1 ≡ length values → new ≡ replicate (length inner) 0

@@ -1,14 +1,9 @@
 -- The search for live cuts among the lists of their right ends.
-use Rattle.std.specs.Prelude.{MatchBool, ◌≡◌, ◌≢◌, ◌⊎◌, ℕ, ◌+◌, ◌-◌, ◌≤◌, ◌<◌, suc, Bool, true, false, ◌==◌, List, [], ◌∷◌, ◌++◌, drop, length, replicate, slice_index, take}
-use Rattle.std.specs.List.{count_by, filter}
+use Rattle.std.specs.{Prelude.{MatchBool, ◌≡◌, ◌≢◌, ◌⊎◌, ℕ, ◌+◌, ◌-◌, ◌≤◌, ◌<◌, suc, Bool, true, false, ◌==◌, List, [], ◌∷◌, ◌++◌, drop, length, replicate, slice_index, take}, List.{count_by, filter}}
 use Rattle.signed_sum.specs.Names.{is_degenerate, occurs}
 use Rattle.surjection_law.specs.Names.{IsSurjection, arity}
 use Rattle.interval_cut_law.specs.Names.{IsCutFrom, cut_face, rising_lists}
-use Rattle.interval_cut.specs.Walking.{lists_after}
-use Rattle.interval_cut.specs.LiveWalking.{is_live_cut}
-use Rattle.interval_cut.specs.declared.live_search.Search.{Search}
-use Rattle.interval_cut.specs.declared.stage.Stage.{Stage}
-use Rattle.interval_cut.specs.declared.stage.Stage.TheVariants.{Before, At, Done}
+use Rattle.interval_cut.specs.{Walking.lists_after, LiveWalking.is_live_cut, declared.live_search.Search.Search, declared.stage.Stage.Stage, declared.stage.Stage.TheVariants.{Before, At, Done}}
 
 -- how often v comes
 abbrev pub times : ℕ → List ℕ → ℕ

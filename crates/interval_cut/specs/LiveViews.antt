@@ -1,8 +1,6 @@
 -- What a walk over live cuts shows of its fields.
 use Rattle.std.specs.Prelude.{◌≡◌}
-use Rattle.interval_cut.specs.LiveWalking.{LiveWalk, live_top, live_walk}
-use Rattle.interval_cut.specs.LiveSearch.{IsReadyFor}
-use Rattle.interval_cut.specs.declared.live.LiveCuts.TheInside.{Inside}
+use Rattle.interval_cut.specs.{LiveWalking.{LiveWalk, live_top, live_walk}, LiveSearch.IsReadyFor, declared.live.LiveCuts.TheInside.Inside}
 
 abbrev pub live_view : Inside → LiveWalk
 live_view a = live_walk a.search.degree a.cuts

@@ -1,6 +1,5 @@
 -- A walk over the live cuts, in their order.
-use Rattle.std.specs.Prelude.{ℕ, ◌*◌, ◌-◌, ◌^◌, min, Bool, ◌||◌, nat_lt, if◌then◌else◌, List, None}
-use Rattle.std.specs.List.{filter}
+use Rattle.std.specs.{Prelude.{ℕ, ◌*◌, ◌-◌, ◌^◌, min, Bool, ◌||◌, nat_lt, if◌then◌else◌, List, None}, List.filter}
 use Rattle.signed_sum.specs.Names.{numbers_from}
 use Rattle.surjection_law.specs.Names.{caesura_count, arity}
 use Rattle.interval_cut_law.specs.Names.{cut_faces, cuts, is_live, live_cut_count}

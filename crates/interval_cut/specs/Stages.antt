@@ -1,9 +1,7 @@
 -- What a walk over cuts shows at each of its stages, where `inner` has all right ends but the last.
 use Rattle.std.specs.Prelude.{ℕ, List, [], ◌∷◌, ◌++◌, map, Option, Some, None}
 use Rattle.interval_cut_law.specs.Names.{cuts}
-use Rattle.interval_cut.specs.Walking.{CutWalk, lists_after}
-use Rattle.interval_cut.specs.declared.stage.Stage.{Stage}
-use Rattle.interval_cut.specs.declared.stage.Stage.TheVariants.{Before, At, Done}
+use Rattle.interval_cut.specs.{Walking.{CutWalk, lists_after}, declared.stage.Stage.Stage, declared.stage.Stage.TheVariants.{Before, At, Done}}
 
 -- the cut that the walk is at
 abbrev pub here_of : Stage → ℕ → List ℕ → Option (List ℕ)

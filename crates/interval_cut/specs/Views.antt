@@ -2,10 +2,7 @@
 use Rattle.std.specs.Prelude.{◌≡◌, ◌+◌, ◌≤◌, [], ◌∷◌, ◌++◌, length, vec_len}
 use Rattle.surjection_law.specs.Names.{IsSurjection, arity}
 use Rattle.interval_cut_law.specs.Names.{IsCutFrom}
-use Rattle.interval_cut.specs.Faces.{IsFaceTable}
-use Rattle.interval_cut.specs.Walking.{CutWalk}
-use Rattle.interval_cut.specs.Stages.{shown, OnAt}
-use Rattle.interval_cut.specs.declared.cuts.Cuts.TheInside.{Inside}
+use Rattle.interval_cut.specs.{Faces.IsFaceTable, Walking.CutWalk, Stages.{shown, OnAt}, declared.cuts.Cuts.TheInside.Inside}
 
 abbrev pub view_of : Inside → CutWalk
 view_of a = shown a.values.items a.top a.stage a.inner.items

@@ -1,8 +1,7 @@
-ghost use Rattle.std.specs.Prelude.{◌≡◌, ◌↔◌, ℕ, ◌+◌, ◌*◌, ◌-◌, ◌^◌, ◌≤◌, ◌∷◌, IfOk, IsSome, IsTrue, length, min, pos, slice_index};
+ghost use Rattle.std.specs.{Prelude.{◌≡◌, ◌↔◌, ℕ, ◌+◌, ◌*◌, ◌-◌, ◌^◌, ◌≤◌, ◌∷◌, IfOk, IsSome, IsTrue, length, min, pos, slice_index}, List.filter};
 ghost use Rattle.signed_sum.specs.Names.{signed};
 ghost use Rattle.surjection_law.specs.Names.{caesura_count, arity};
 ghost use Rattle.interval_cut_law.specs.Names.{cut_face, rising_lists, sign_exponent, operation_value};
-ghost use Rattle.std.specs.List.{filter};
 ghost use Rattle.simplicial_law.specs.Names.{CongruentInt};
 ghost use Rattle.fp_field.specs.Served.{served};
 ghost use Rattle.interval_cut.specs.Names.{by_mask, signed_product, cut_of, IsListFor, IsReadyFor, is_live_list, capped_count, counted_live, live_finish, live_start, live_top, live_walk, next_live};

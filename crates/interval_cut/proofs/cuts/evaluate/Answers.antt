@@ -1,8 +1,6 @@
-use Rattle.std.proofs.Common.{◌∙◌, List, ℕ, length, subst, sym, ℤ, pos}
-use Rattle.std.proofs.lemmas.Bool.{false≢true}
-use Rattle.interval_cut.specs.Names.{IsPartOfSum, CutWalk, signed_product}
+use Rattle.std.proofs.{Common.{◌∙◌, List, ℕ, length, subst, sym, ℤ, pos}, lemmas.Bool.false≢true}
+use Rattle.interval_cut.{specs.Names.{IsPartOfSum, CutWalk, signed_product}, proofs.EvaluationLemmas.{part_end, part_start, part_step, whole_sum}}
 use Rattle.surjection_law.specs.Names.{arity}
-use Rattle.interval_cut.proofs.EvaluationLemmas.{part_end, part_start, part_step, whole_sum}
 use Rattle.interval_cut.proofs.cuts.evaluate.Goals as goal
 
 pub loop-cuts-init : goal.loop-cuts-init

@@ -1,7 +1,6 @@
 use Rattle.std.proofs.Common.{◌+◌, ◌-◌, ◌<◌, ℕ, List, [], ◌∷◌, ◌++◌, take, length, arith, ap, ◌∙◌, length-append}
-use Rattle.interval_cut.proofs.FaceLemmas.{face_room, face_skip, face_write, part_moved}
+use Rattle.interval_cut.proofs.{FaceLemmas.{face_room, face_skip, face_write, part_moved}, faces.write_face.Goals.{then-value-k, else-value-k}}
 use Rattle.interval_cut.proofs.faces.write_face.Goals as goal
-use Rattle.interval_cut.proofs.faces.write_face.Goals.{then-value-k, else-value-k}
 
 pub write_numbers-requires-clause-room : goal.write_numbers-requires-clause-room
 write_numbers-requires-clause-room c =

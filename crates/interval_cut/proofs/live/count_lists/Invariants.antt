@@ -1,5 +1,4 @@
-use Rattle.std.proofs.Common.{◌≡◌, ◌+◌, length}
-use Rattle.std.specs.List.{filter}
+use Rattle.std.{proofs.Common.{◌≡◌, ◌+◌, length}, specs.List.filter}
 use Rattle.interval_cut_law.specs.Names.{rising_lists}
 use Rattle.interval_cut.specs.Names.{IsListFor, IsReadyFor, is_live_list, lists_left}
 use Rattle.interval_cut.proofs.live.count_lists.Given as goal

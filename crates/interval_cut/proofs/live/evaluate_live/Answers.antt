@@ -1,9 +1,6 @@
-use Rattle.std.proofs.Common.{◌∙◌, List, ℕ, ap, length, subst, suc, sym, ℤ, pos}
-use Rattle.std.proofs.lemmas.Bool.{false≢true}
+use Rattle.std.proofs.{Common.{◌∙◌, List, ℕ, ap, length, subst, suc, sym, ℤ, pos}, lemmas.Bool.false≢true}
 use Rattle.surjection_law.specs.Names.{arity}
-use Rattle.interval_cut.specs.Names.{IsPartOfSum, LiveWalk, live_top, signed_product, CutWalk, finish_of}
-use Rattle.interval_cut.proofs.EvaluationLemmas.{part_end, part_step, whole_sum}
-use Rattle.interval_cut.proofs.LiveValueLemmas.{live_part-start}
+use Rattle.interval_cut.{specs.Names.{IsPartOfSum, LiveWalk, live_top, signed_product, CutWalk, finish_of}, proofs.EvaluationLemmas.{part_end, part_step, whole_sum}, proofs.LiveValueLemmas.live_part-start}
 use Rattle.interval_cut.proofs.live.evaluate_live.Goals as goal
 
 pub loop-cuts-init : goal.loop-cuts-init

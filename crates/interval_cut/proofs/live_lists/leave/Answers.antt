@@ -1,7 +1,6 @@
 use Rattle.std.proofs.Common.{◌∙◌}
-use Rattle.interval_cut.proofs.LiveListLemmas.{leave-cut, leave-cut_last, leave-last, leave-passed}
+use Rattle.interval_cut.proofs.{LiveListLemmas.{leave-cut, leave-cut_last, leave-last, leave-passed}, live_lists.leave.Goals.{then-dead-inner, else-dead-inner}}
 use Rattle.interval_cut.proofs.live_lists.leave.Goals as goal
-use Rattle.interval_cut.proofs.live_lists.leave.Goals.{then-dead-inner, else-dead-inner}
 
 pub returns-clause-lists : goal.returns-clause-lists
 returns-clause-lists c q u l d =

@@ -1,6 +1,5 @@
 use Rattle.std.proofs.Common.{◌+◌, ◌-◌, ℕ, [], ◌∷◌, ◌++◌, get_or, set, length, length-append, arith, sym, ap, ◌∙◌, refl, subst}
-use Rattle.interval_cut.specs.Names.{IsFitting, IsTaken, IsUnfit}
-use Rattle.interval_cut.proofs.LiveFaceLemmas.{end-below, later-at, later-few, length-later, taken-end, taken-more, taken-short, taken-start, taken-unfit, value-room}
+use Rattle.interval_cut.{specs.Names.{IsFitting, IsTaken, IsUnfit}, proofs.LiveFaceLemmas.{end-below, later-at, later-few, length-later, taken-end, taken-more, taken-short, taken-start, taken-unfit, value-room}}
 use Rattle.interval_cut.proofs.live_search.dead_end.Goals as goal
 
 pub loop-i-init : goal.loop-i-init

@@ -1,10 +1,6 @@
-use Rattle.std.proofs.Common.{◌≡◌, List, ℕ, Vec, Global, [], ◌∷◌, ◌++◌, ◌∙◌, ap, refl, sym, length, replicate, subst}
-use Rattle.std.proofs.lemmas.List.{with_items_is}
-use Rattle.std.specs.Vec.{with_items}
+use Rattle.std.{proofs.Common.{◌≡◌, List, ℕ, Vec, Global, [], ◌∷◌, ◌++◌, ◌∙◌, ap, refl, sym, length, replicate, subst}, proofs.lemmas.List.with_items_is, specs.Vec.with_items}
 use Rattle.interval_cut_law.specs.Names.{IsCutFrom}
-use Rattle.interval_cut.specs.Names.{lists_after}
-use Rattle.interval_cut.proofs.ListLemmas.{length-next}
-use Rattle.interval_cut.proofs.WalkLemmas.{walk-first, walk-next, walk-last, cut-first, cut-next}
+use Rattle.interval_cut.{specs.Names.lists_after, proofs.ListLemmas.length-next, proofs.WalkLemmas.{walk-first, walk-next, walk-last, cut-first, cut-next}}
 use Rattle.interval_cut.proofs.stage.step.Goals as goal
 
 moved : (top : ℕ) (v : Vec ℕ Global) (p q : List ℕ) → p ≡ v.items → length p ≡ v.len → lists_after top p ≡ q ∷ lists_after top q → lists_after top v.items ≡ (with_items v q).items ∷ lists_after top (with_items v q).items

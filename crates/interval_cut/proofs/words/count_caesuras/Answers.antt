@@ -1,5 +1,6 @@
 use Rattle.std.proofs.Common.{◌+◌, arith, drop, slice_index}
-use Rattle.interval_cut.proofs.GapLemmas.{caesuras_step, occurs_once}
+use Rattle.signed_sum.proofs.Names.{occurs_once}
+use Rattle.interval_cut.proofs.GapLemmas.{caesuras_step}
 use Rattle.interval_cut.proofs.words.count_caesuras.Goals as goal
 
 pub overflow_add-count : goal.overflow_add-count

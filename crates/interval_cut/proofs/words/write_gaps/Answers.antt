@@ -1,10 +1,7 @@
 use Rattle.std.proofs.Common.{◌+◌, ◌-◌, ◌<◌, ℕ, List, [], ◌∷◌, ◌++◌, take, length, arith, ap, ◌∙◌}
 use Rattle.signed_sum.specs.Names.{numbers_from}
-use Rattle.interval_cut.proofs.ExponentLemmas.{interval}
-use Rattle.interval_cut.proofs.GapLemmas.{gaps_order, gaps_room, gaps_skip, gaps_write, part_of_gaps_moved}
-use Rattle.interval_cut.proofs.WalkLemmas.{length-cut}
+use Rattle.interval_cut.proofs.{ExponentLemmas.interval, GapLemmas.{gaps_order, gaps_room, gaps_skip, gaps_write, part_of_gaps_moved}, WalkLemmas.length-cut, words.write_gaps.Goals.{then-value-k, else-value-k}}
 use Rattle.interval_cut.proofs.words.write_gaps.Goals as goal
-use Rattle.interval_cut.proofs.words.write_gaps.Goals.{then-value-k, else-value-k}
 
 pub end_of-end-requires : goal.end_of-end-requires
 end_of-end-requires c = (interval c.args.values.now c.args.inner.now c.args.top c.loop-i.i c.requires.cut c.loop-i-test.true).inside

@@ -1,7 +1,5 @@
-use Rattle.std.proofs.Common.{ap, ◌∙◌}
-use Rattle.std.proofs.lemmas.List.{with_items_is}
-use Rattle.interval_cut.specs.Names.{stage_after}
-use Rattle.interval_cut.proofs.LiveWalkLemmas.{live-done, live-moved}
+use Rattle.std.proofs.{Common.{ap, ◌∙◌}, lemmas.List.with_items_is}
+use Rattle.interval_cut.{specs.Names.stage_after, proofs.LiveWalkLemmas.{live-done, live-moved}}
 use Rattle.interval_cut.proofs.cuts.Cuts.advance_live.Goals as goal
 
 pub returns-then-moved-clause-walk : goal.returns-then-moved-clause-walk

@@ -1,7 +1,6 @@
 use Rattle.std.proofs.Common.{◌+◌, ◌≤◌, ◌∙◌, ap, sym, arith}
 use Rattle.surjection_law.specs.Names.{arity}
-use Rattle.interval_cut.specs.Names.{cut_of}
-use Rattle.interval_cut.proofs.NeighbourLemmas.{live_step}
+use Rattle.interval_cut.{specs.Names.cut_of, proofs.NeighbourLemmas.live_step}
 use Rattle.interval_cut.proofs.cuts.Cuts.live.Goals as goal
 
 pub loop-k-preserved : goal.loop-k-preserved

@@ -1,5 +1,4 @@
-use Rattle.std.proofs.Common.{◌≡◌, ◌-◌, ℕ, List, [], ◌∷◌, ◌++◌, length, replicate, arith, sym, ap, ◌∙◌, subst}
-use Rattle.std.proofs.lemmas.List.{length-replicate}
+use Rattle.std.proofs.{Common.{◌≡◌, ◌-◌, ℕ, List, [], ◌∷◌, ◌++◌, length, replicate, arith, sym, ap, ◌∙◌, subst}, lemmas.List.length-replicate}
 use Rattle.surjection_law.specs.Names.{IsSurjection, arity}
 use Rattle.interval_cut_law.specs.Names.{IsCutFrom}
 use Rattle.interval_cut.proofs.WalkLemmas.{cut-start}

@@ -1,9 +1,7 @@
 use Rattle.std.proofs.Common.{◌≡◌, ◌∙◌, ℕ, [], ◌∷◌, ◌++◌, arith, ap, ap₂, length, pos}
 use Rattle.signed_sum.specs.Names.{signed}
 use Rattle.interval_cut_law.specs.Names.{sign_exponent}
-use Rattle.interval_cut.proofs.EvaluationLemmas.{shown_term}
-use Rattle.interval_cut.proofs.ProductLemmas.{signed_term, small_sign, zero_term}
-use Rattle.interval_cut.proofs.WalkLemmas.{has_faces, is_at, on_at}
+use Rattle.interval_cut.proofs.{EvaluationLemmas.shown_term, ProductLemmas.{signed_term, small_sign, zero_term}, WalkLemmas.{has_faces, is_at, on_at}}
 use Rattle.interval_cut.proofs.cuts.Cuts.term.Goals as goal
 
 pub product-product-requires : goal.product-product-requires

@@ -2,10 +2,7 @@ use Rattle.std.proofs.Common.{◌≡◌, ◌∙◌, ap, ap₂, List, ℕ, [], �
 use Rattle.signed_sum.specs.Names.{inversion_count, rearrangement_sign, less, numbers_from, signed}
 use Rattle.surjection_law.specs.Names.{arity}
 use Rattle.interval_cut_law.specs.Names.{gap_word, sign_exponent, starting_word}
-use Rattle.interval_cut.specs.Names.{cut_of}
-use Rattle.interval_cut.proofs.GapLemmas.{signs_agree, word_rearranged}
-use Rattle.interval_cut.proofs.ProductLemmas.{small_sign}
-use Rattle.interval_cut.proofs.WalkLemmas.{is_at, on_walk}
+use Rattle.interval_cut.{specs.Names.cut_of, proofs.GapLemmas.{signs_agree, word_rearranged}, proofs.ProductLemmas.small_sign, proofs.WalkLemmas.{is_at, on_walk}}
 use Rattle.interval_cut.proofs.cuts.Cuts.word_sign.Goals as goal
 
 pub returns-clause-same : goal.returns-clause-same

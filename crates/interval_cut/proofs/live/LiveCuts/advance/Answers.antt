@@ -1,6 +1,5 @@
 use Rattle.std.proofs.Common.{ap, ap₂, sym, ◌∙◌}
-use Rattle.interval_cut.specs.Names.{LiveWalk, live_top}
-use Rattle.interval_cut.proofs.LiveWalkLemmas.{step-same}
+use Rattle.interval_cut.{specs.Names.{LiveWalk, live_top}, proofs.LiveWalkLemmas.step-same}
 use Rattle.interval_cut.proofs.live.LiveCuts.advance.Goals as goal
 
 pub invariant_of-self : goal.invariant_of-self

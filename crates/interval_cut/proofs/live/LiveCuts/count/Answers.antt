@@ -1,8 +1,6 @@
-use Rattle.std.proofs.Common.{◌≡◌, ℕ, ◌-◌, ◌^◌, ◌∙◌, ap, arith, length, min, replicate, take}
-use Rattle.std.specs.List.{filter}
+use Rattle.std.{proofs.Common.{◌≡◌, ℕ, ◌-◌, ◌^◌, ◌∙◌, ap, arith, length, min, replicate, take}, specs.List.filter}
 use Rattle.interval_cut_law.specs.Names.{rising_lists}
-use Rattle.interval_cut.specs.Names.{is_live_list, LiveWalk, capped_count, Inside}
-use Rattle.interval_cut.proofs.LiveWalkLemmas.{length-zeros, listed-count, zeros-list}
+use Rattle.interval_cut.{specs.Names.{is_live_list, LiveWalk, capped_count, Inside}, proofs.LiveWalkLemmas.{length-zeros, listed-count, zeros-list}}
 use Rattle.interval_cut.proofs.live.LiveCuts.count.Goals as goal
 
 pub count_lists-requires-clause-list : goal.count_lists-requires-clause-list

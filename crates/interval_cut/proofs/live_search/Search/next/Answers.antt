@@ -1,6 +1,5 @@
 use Rattle.std.proofs.Common.{[], ◌∷◌, ◌++◌, ◌∙◌, arith, subst}
-use Rattle.interval_cut.specs.Names.{IsDeadEnd, is_live_list}
-use Rattle.interval_cut.proofs.LiveListLemmas.{dead_end-here, search-more}
+use Rattle.interval_cut.{specs.Names.{IsDeadEnd, is_live_list}, proofs.LiveListLemmas.{dead_end-here, search-more}}
 use Rattle.interval_cut.proofs.live_search.Search.next.Goals as goal
 
 pub loop-more-preserved : goal.loop-more-preserved
