@@ -1,22 +1,10 @@
 -- Lifts, and the laws of the Bockstein on classes.
-use Rattle.std.proofs.Common.{◌≡◌, ℕ, ◌+◌, ◌*◌, ◌%◌, List, map, sym, ◌∙◌, ap, arith, ℤ, pos, ◌+ℤ◌, ◌*ℤ◌, ◌-ℤ◌}
-use Rattle.std.specs.Int.{int_div_euclid}
-use Rattle.std.proofs.Math.IntN.{pos-*ℤ-pos, *ℤ-zero}
-use Rattle.std.proofs.lemmas.Int.{ints}
-use Rattle.linear_law.proofs.Names.{IsLinearOnClasses, class_matrix, on_classes, Congruent_mod, Congruent_of, Congruent_sym}
-use Rattle.linear_law.specs.Names.{CarriesCoordinates, IsField, negated, Each, combination}
+use Rattle.std.{proofs.Common.{◌≡◌, ℕ, ◌+◌, ◌*◌, ◌%◌, List, map, sym, ◌∙◌, ap, arith, ℤ, pos, ◌+ℤ◌, ◌*ℤ◌, ◌-ℤ◌}, specs.Int.int_div_euclid, proofs.Math.IntN.{pos-*ℤ-pos, *ℤ-zero}, proofs.lemmas.Int.ints}
+use Rattle.linear_law.{proofs.Names.{IsLinearOnClasses, class_matrix, on_classes, Congruent_mod, Congruent_of, Congruent_sym}, specs.Names.{CarriesCoordinates, IsField, negated, Each, combination}}
 use Rattle.signed_sum.proofs.Names.{mul-add}
-use Rattle.simplicial_law.proofs.Names.{bounds_close, coboundaries, cocycles, integral_coboundary_law, integral_congruence_law, CongruentInt-scale, CongruentInt-sum, CongruentInt_from, CongruentInt_of, CongruentInt_refl, CongruentInt_sym, CongruentInt_trans}
-use Rattle.simplicial_law.specs.Names.{Cochain, HasCoordinates, IsCoboundary, IsCocycle, coboundary, CongruentInt, integral_coboundary, IsSimplex}
-use Rattle.steenrod_law.proofs.AdditiveMaps.{adds-scale, coboundary-sum}
-use Rattle.steenrod_law.proofs.Complexes.{coboundary-residues, difference-same, residue-same, residue_cochain-empty}
-use Rattle.steenrod_law.proofs.OperationLaws.{above_one, positive_here, to_residues}
-use Rattle.steenrod_law.proofs.WordCochains.{coboundary-twice}
-use Rattle.steenrod_law.specs.Names.{residue, residue_cochain}
-use Rattle.bockstein_law.specs.Bockstein.{bockstein, lift}
-use Rattle.bockstein_law.specs.Laws.{ClassLaw}
-use Rattle.bockstein_law.proofs.Quotients.{cancelled, divided, mul_swap, quotient}
-use Rattle.bockstein_law.proofs.SimplexFaces.{on_simplices}
+use Rattle.simplicial_law.{proofs.Names.{bounds_close, coboundaries, cocycles, integral_coboundary_law, integral_congruence_law, CongruentInt-scale, CongruentInt-sum, CongruentInt_from, CongruentInt_of, CongruentInt_refl, CongruentInt_sym, CongruentInt_trans}, specs.Names.{Cochain, HasCoordinates, IsCoboundary, IsCocycle, coboundary, CongruentInt, integral_coboundary, IsSimplex}}
+use Rattle.steenrod_law.{proofs.AdditiveMaps.{adds-scale, coboundary-sum}, proofs.Complexes.{coboundary-residues, difference-same, residue-same, residue_cochain-empty}, proofs.OperationLaws.{above_one, positive_here, to_residues}, proofs.WordCochains.coboundary-twice, specs.Names.{residue, residue_cochain}}
+use Rattle.bockstein_law.{specs.Bockstein.{bockstein, lift}, specs.Laws.ClassLaw, proofs.Quotients.{cancelled, divided, mul_swap, quotient}, proofs.SimplexFaces.on_simplices}
 
 -- the coboundary of a multiple
 pub coboundary-scale : (c : ℤ) (a : List ℕ → ℤ) (s : List ℕ) → integral_coboundary (λ t. c *ℤ a t) s ≡ c *ℤ integral_coboundary a s

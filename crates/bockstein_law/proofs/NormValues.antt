@@ -1,20 +1,9 @@
 -- The sum over the turns of a word of cocycles: in even degrees its value is a coboundary, modulo p.
-use Rattle.std.proofs.Common.{◌≡◌, ℕ, zero, suc, ◌%◌, ◌≤◌, true, false, Bool, cond, List, map, length, refl, sym, ap, arith, ℤ, pos, ◌+ℤ◌, ◌*ℤ◌, neg_ℤ}
-use Rattle.std.proofs.Math.IntN.{suc_ℤ-*ℤ, zero-*ℤ}
-use Rattle.std.proofs.lemmas.Int.{ints}
+use Rattle.std.proofs.{Common.{◌≡◌, ℕ, zero, suc, ◌%◌, ◌≤◌, true, false, Bool, cond, List, map, length, refl, sym, ap, arith, ℤ, pos, ◌+ℤ◌, ◌*ℤ◌, neg_ℤ}, Math.IntN.{suc_ℤ-*ℤ, zero-*ℤ}, lemmas.Int.ints}
 use Rattle.interval_cut_law.specs.Names.{one_coboundary, operation_value}
-use Rattle.signed_sum.proofs.Names.{mul_comm, signed-parity}
-use Rattle.signed_sum.specs.Names.{signed}
-use Rattle.simplicial_law.proofs.Names.{CongruentInt-sum, CongruentInt_from, CongruentInt_multiple, CongruentInt_of, CongruentInt_refl, CongruentInt_sym, CongruentInt_trans}
-use Rattle.simplicial_law.specs.Names.{CongruentInt, integral_coboundary}
-use Rattle.steenrod_law.proofs.AdditiveMaps.{adds-coboundary, adds-zero}
-use Rattle.steenrod_law.proofs.Forms.{IsFaceClosed, IsIntegralCocycle, IsMayFamily, SurjectionTerm, boundary_over, value_over}
-use Rattle.steenrod_law.proofs.Staircase.{Alike, norm-alike}
-use Rattle.steenrod_law.proofs.ValuesOnFaces.{value-none-at}
-use Rattle.steenrod_law.proofs.WordBoundary.{letters-normalized, relation, some, sum-law}
-use Rattle.steenrod_law.proofs.WordCochains.{degrees-letters, over-same, over-sum, word-closed}
-use Rattle.steenrod_law.proofs.WordLemmas.{norm-minus, norm-sum}
-use Rattle.steenrod_law.specs.Names.{sum_value, word_cochains, choice, norm, turn_back_less_one}
+use Rattle.signed_sum.{proofs.Names.{mul_comm, signed-parity}, specs.Names.signed}
+use Rattle.simplicial_law.{proofs.Names.{CongruentInt-sum, CongruentInt_from, CongruentInt_multiple, CongruentInt_of, CongruentInt_refl, CongruentInt_sym, CongruentInt_trans}, specs.Names.{CongruentInt, integral_coboundary}}
+use Rattle.steenrod_law.{proofs.AdditiveMaps.{adds-coboundary, adds-zero}, proofs.Forms.{IsFaceClosed, IsIntegralCocycle, IsMayFamily, SurjectionTerm, boundary_over, value_over}, proofs.Staircase.{Alike, norm-alike}, proofs.ValuesOnFaces.value-none-at, proofs.WordBoundary.{letters-normalized, relation, some, sum-law}, proofs.WordCochains.{degrees-letters, over-same, over-sum, word-closed}, proofs.WordLemmas.{norm-minus, norm-sum}, specs.Names.{sum_value, word_cochains, choice, norm, turn_back_less_one}}
 
 -- the sum of the sums of the first 0, 1, .., k - 1 inverse turns
 abbrev pub norms : (Bool → ℕ) → ℕ → (List Bool → ℤ) → List Bool → ℤ

@@ -1,32 +1,11 @@
 -- The Bockstein of a power.
-use Rattle.std.proofs.Common.{◌≡◌, ℕ, zero, suc, ◌+◌, ◌*◌, ◌-◌, ◌%◌, ◌≤◌, false, List, [], length, refl, sym, ◌∙◌, ap, arith, ℤ, pos, ◌+ℤ◌, ◌*ℤ◌, neg_ℤ}
-use Rattle.std.specs.Int.{int_div_euclid}
-use Rattle.std.specs.List.{AllZip}
-use Rattle.std.proofs.Math.IntN.{pos-*ℤ-pos, *ℤ-zero}
-use Rattle.std.proofs.Math.Nat.{zero-div}
-use Rattle.std.proofs.lemmas.Int.{ints}
-use Rattle.linear_law.proofs.Names.{multiple_in, Congruent_of, Congruent_trans, coordinates-apart, length-copies}
-use Rattle.linear_law.specs.Names.{Congruent, IsField, negated, Each, copies, matrix_times}
+use Rattle.std.{proofs.Common.{◌≡◌, ℕ, zero, suc, ◌+◌, ◌*◌, ◌-◌, ◌%◌, ◌≤◌, false, List, [], length, refl, sym, ◌∙◌, ap, arith, ℤ, pos, ◌+ℤ◌, ◌*ℤ◌, neg_ℤ}, specs.Int.int_div_euclid, specs.List.AllZip, proofs.Math.IntN.{pos-*ℤ-pos, *ℤ-zero}, proofs.Math.Nat.zero-div, proofs.lemmas.Int.ints}
+use Rattle.linear_law.{proofs.Names.{multiple_in, Congruent_of, Congruent_trans, coordinates-apart, length-copies}, specs.Names.{Congruent, IsField, negated, Each, copies, matrix_times}}
 use Rattle.signed_sum.proofs.Names.{mul-add, mul-neg, mul_comm}
-use Rattle.simplicial_law.proofs.Names.{coboundaries, cocycles, integral_congruence_law, negated_whole, CongruentInt-neg, CongruentInt-scale, CongruentInt-sum, CongruentInt_from, CongruentInt_multiple, CongruentInt_of, CongruentInt_sym, CongruentInt_trans}
-use Rattle.simplicial_law.specs.Names.{AgreesOnSimplices, Cochain, HasCoordinates, IsCoboundary, IsCocycle, IsCohomologyBasis, CongruentInt, integral_coboundary, IsSimplex}
-use Rattle.steenrod_law.proofs.AdditiveMaps.{adds-neg, coboundary-sum}
-use Rattle.steenrod_law.proofs.Complexes.{extended-cochain, extended-cocycle, weak-closed, weak_of_simplex}
-use Rattle.steenrod_law.proofs.Forms.{IsCochain, IsIntegralCocycle}
-use Rattle.steenrod_law.proofs.OperationLaws.{above_one, family_here, may_operation-closed, positive_here, value-same, vertices, whole_operation}
-use Rattle.steenrod_law.proofs.PowerLaws.{bockstein-as}
-use Rattle.steenrod_law.proofs.Staircase.{even-times}
-use Rattle.steenrod_law.proofs.WordCochains.{coboundary-cochain, coboundary-twice}
-use Rattle.steenrod_law.specs.Names.{IsBocksteinPower, IsPower, IsWeakSimplex, extended, may_operation, power_degree, scaled_operation, sum_value, word_cochains, boundary_value, letter_degree}
+use Rattle.simplicial_law.{proofs.Names.{coboundaries, cocycles, integral_congruence_law, negated_whole, CongruentInt-neg, CongruentInt-scale, CongruentInt-sum, CongruentInt_from, CongruentInt_multiple, CongruentInt_of, CongruentInt_sym, CongruentInt_trans}, specs.Names.{AgreesOnSimplices, Cochain, HasCoordinates, IsCoboundary, IsCocycle, IsCohomologyBasis, CongruentInt, integral_coboundary, IsSimplex}}
+use Rattle.steenrod_law.{proofs.AdditiveMaps.{adds-neg, coboundary-sum}, proofs.Complexes.{extended-cochain, extended-cocycle, weak-closed, weak_of_simplex}, proofs.Forms.{IsCochain, IsIntegralCocycle}, proofs.OperationLaws.{above_one, family_here, may_operation-closed, positive_here, value-same, vertices, whole_operation}, proofs.PowerLaws.bockstein-as, proofs.Staircase.even-times, proofs.WordCochains.{coboundary-cochain, coboundary-twice}, specs.Names.{IsBocksteinPower, IsPower, IsWeakSimplex, extended, may_operation, power_degree, scaled_operation, sum_value, word_cochains, boundary_value, letter_degree}}
 use Rattle.table_reduction_law.specs.Names.{may_element}
-use Rattle.bockstein_law.specs.Bockstein.{bockstein}
-use Rattle.bockstein_law.specs.Laws.{BocksteinRows, PowerLaw}
-use Rattle.bockstein_law.proofs.Lifts.{closed, coboundary-scale, each-lift, matrix}
-use Rattle.bockstein_law.proofs.NormValues.{norm-above, norms}
-use Rattle.bockstein_law.proofs.Quotients.{cancelled, divided, mul_swap}
-use Rattle.bockstein_law.proofs.SimplexFaces.{on_faces}
-use Rattle.bockstein_law.proofs.WholeValues.{whole-coboundary}
-use Rattle.bockstein_law.proofs.WordPlaces.{boundary-norm, one_true}
+use Rattle.bockstein_law.{specs.Bockstein.bockstein, specs.Laws.{BocksteinRows, PowerLaw}, proofs.Lifts.{closed, coboundary-scale, each-lift, matrix}, proofs.NormValues.{norm-above, norms}, proofs.Quotients.{cancelled, divided, mul_swap}, proofs.SimplexFaces.on_faces, proofs.WholeValues.whole-coboundary, proofs.WordPlaces.{boundary-norm, one_true}}
 
 module _ (k : ℕ) (field : IsField (suc k)) (even : k % 2 ≡ 0) (facets : List (List ℕ)) (q e : ℕ) (odd : e % 2 ≡ 1) (z : Cochain) (cocycle : IsCocycle facets q (suc k) z) where
   abbrev p : ℕ

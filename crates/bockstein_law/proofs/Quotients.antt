@@ -1,10 +1,5 @@
 -- Quotients of whole numbers by p.
-use Rattle.std.proofs.Common.{◌≡◌, ℕ, zero, suc, ◌+◌, ◌*◌, ◌<◌, sym, ◌∙◌, ap, arith, ℤ, pos, negsuc, ◌+ℤ◌, ◌*ℤ◌, neg_ℤ}
-use Rattle.std.specs.Int.{int_div_euclid}
-use Rattle.std.proofs.Math.IntN.{pos-*ℤ-pos}
-use Rattle.std.proofs.Math.Nat.{mul-div_cancel}
-use Rattle.std.proofs.lemmas.Nat.{div-mul-add}
-use Rattle.std.proofs.lemmas.Int.{ints}
+use Rattle.std.{proofs.Common.{◌≡◌, ℕ, zero, suc, ◌+◌, ◌*◌, ◌<◌, sym, ◌∙◌, ap, arith, ℤ, pos, negsuc, ◌+ℤ◌, ◌*ℤ◌, neg_ℤ}, specs.Int.int_div_euclid, proofs.Math.IntN.pos-*ℤ-pos, proofs.Math.Nat.mul-div_cancel, proofs.lemmas.Nat.div-mul-add, proofs.lemmas.Int.ints}
 use Rattle.signed_sum.proofs.Names.{mul_assoc, mul_comm, neg-mul}
 use Rattle.simplicial_law.specs.Names.{CongruentInt}
 

@@ -1,10 +1,8 @@
 -- A coboundary sees the values on the faces alone.
 use Rattle.std.proofs.Common.{◌≡◌, ℕ, ◌+◌, List, [], ◌∷◌, refl, ap, ℤ, ◌+ℤ◌, neg_ℤ}
-use Rattle.linear_law.proofs.Names.{each_map, each_of_map, each_unmap}
-use Rattle.linear_law.specs.Names.{Each}
+use Rattle.linear_law.{proofs.Names.{each_map, each_of_map, each_unmap}, specs.Names.Each}
 use Rattle.signed_sum.specs.Names.{unless_empty, without_one}
-use Rattle.simplicial_law.proofs.Names.{face_simplex}
-use Rattle.simplicial_law.specs.Names.{faces, integral_coboundary, IsSimplex}
+use Rattle.simplicial_law.{proofs.Names.face_simplex, specs.Names.{faces, integral_coboundary, IsSimplex}}
 use Rattle.steenrod_law.proofs.Forms.{IsFaceClosed, IsWeakFace, drop, none, take}
 
 agree : (s : List ℕ) (h g : List ℕ → ℤ) → Each (λ t. h t ≡ g t) (faces s) → without_one s h ≡ without_one s g

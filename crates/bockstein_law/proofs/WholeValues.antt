@@ -1,22 +1,10 @@
 -- The coboundary of the value of a May element on p times one cochain, with whole values.
-use Rattle.std.proofs.Common.{◌≡◌, ℕ, zero, suc, ◌*◌, ◌%◌, ◌≤◌, false, Bool, List, [], ◌∷◌, ◌++◌, map, length, refl, sym, ◌∙◌, ap, arith, ℤ, pos, ◌+ℤ◌, ◌*ℤ◌, neg_ℤ}
-use Rattle.std.proofs.Math.IntN.{*ℤ-zero, suc_ℤ-*ℤ, zero-*ℤ}
-use Rattle.std.proofs.lemmas.Int.{ints}
-use Rattle.interval_cut_law.proofs.CochainLaws.{cut_sum-sum}
-use Rattle.interval_cut_law.specs.Names.{cut_sum, one_coboundary, operation_value, value_product}
-use Rattle.signed_sum.proofs.Names.{mul-add, mul-neg, mul_assoc, signed-mul, signed-parity, bound-false, value_at-sum}
-use Rattle.signed_sum.specs.Names.{signed, word_boundary, cycle, turned}
+use Rattle.std.proofs.{Common.{◌≡◌, ℕ, zero, suc, ◌*◌, ◌%◌, ◌≤◌, false, Bool, List, [], ◌∷◌, ◌++◌, map, length, refl, sym, ◌∙◌, ap, arith, ℤ, pos, ◌+ℤ◌, ◌*ℤ◌, neg_ℤ}, Math.IntN.{*ℤ-zero, suc_ℤ-*ℤ, zero-*ℤ}, lemmas.Int.ints}
+use Rattle.interval_cut_law.{proofs.CochainLaws.cut_sum-sum, specs.Names.{cut_sum, one_coboundary, operation_value, value_product}}
+use Rattle.signed_sum.{proofs.Names.{mul-add, mul-neg, mul_assoc, signed-mul, signed-parity, bound-false, value_at-sum}, specs.Names.{signed, word_boundary, cycle, turned}}
 use Rattle.linear_law.proofs.Names.{length-copies}
-use Rattle.simplicial_law.proofs.Names.{CongruentInt_of}
-use Rattle.simplicial_law.specs.Names.{CongruentInt, integral_coboundary}
-use Rattle.steenrod_law.proofs.AdditiveMaps.{adds-over, adds-scale}
-use Rattle.steenrod_law.proofs.CycleFaces.{onto-cycle}
-use Rattle.steenrod_law.proofs.Forms.{IsCochain, IsFaceClosed, IsMayFamily, IsWeakFace, SurjectionTerm, boundary_over, operation_of, turned_total, value_over}
-use Rattle.steenrod_law.proofs.Staircase.{copies-end, degree-copies, even-times}
-use Rattle.steenrod_law.proofs.ValuesOnFaces.{at-mid, value-at}
-use Rattle.steenrod_law.proofs.WordBoundary.{letters-first, letters-normalized, some, sum-law}
-use Rattle.steenrod_law.proofs.WordCochains.{degrees-letters, over-equal, over-sum, word-cycle}
-use Rattle.steenrod_law.specs.Names.{sum_value, word_cochains, copies, letter_degree, boundary_value}
+use Rattle.simplicial_law.{proofs.Names.CongruentInt_of, specs.Names.{CongruentInt, integral_coboundary}}
+use Rattle.steenrod_law.{proofs.AdditiveMaps.{adds-over, adds-scale}, proofs.CycleFaces.onto-cycle, proofs.Forms.{IsCochain, IsFaceClosed, IsMayFamily, IsWeakFace, SurjectionTerm, boundary_over, operation_of, turned_total, value_over}, proofs.Staircase.{copies-end, degree-copies, even-times}, proofs.ValuesOnFaces.{at-mid, value-at}, proofs.WordBoundary.{letters-first, letters-normalized, some, sum-law}, proofs.WordCochains.{degrees-letters, over-equal, over-sum, word-cycle}, specs.Names.{sum_value, word_cochains, copies, letter_degree, boundary_value}}
 use Rattle.bockstein_law.proofs.Quotients.{mul_swap}
 use Rattle.surjection_law.specs.Names.{IsOnto}
 

@@ -1,10 +1,7 @@
 -- The words with one letter `true`: the boundary of `false .. false` is the sum of all turns of `true false .. false`.
-use Rattle.std.proofs.Common.{◌≡◌, ℕ, zero, suc, ◌+◌, ◌*◌, ◌%◌, ◌≤◌, true, false, Bool, List, [], ◌∷◌, ◌++◌, refl, sym, ◌∙◌, ap, arith, ℤ, ◌+ℤ◌}
-use Rattle.std.proofs.lemmas.Int.{ints}
-use Rattle.signed_sum.proofs.Names.{signed-+, signed-parity, signed-signed, signed-zero, bound-false, degree-append}
-use Rattle.signed_sum.specs.Names.{signed}
-use Rattle.steenrod_law.proofs.Staircase.{copies-end, degree-copies, even-times}
-use Rattle.steenrod_law.specs.Names.{copies, letter_degree, norm, boundary_value, turn_back, turn_back_power, word_degree}
+use Rattle.std.proofs.{Common.{◌≡◌, ℕ, zero, suc, ◌+◌, ◌*◌, ◌%◌, ◌≤◌, true, false, Bool, List, [], ◌∷◌, ◌++◌, refl, sym, ◌∙◌, ap, arith, ℤ, ◌+ℤ◌}, lemmas.Int.ints}
+use Rattle.signed_sum.{proofs.Names.{signed-+, signed-parity, signed-signed, signed-zero, bound-false, degree-append}, specs.Names.signed}
+use Rattle.steenrod_law.{proofs.Staircase.{copies-end, degree-copies, even-times}, specs.Names.{copies, letter_degree, norm, boundary_value, turn_back, turn_back_power, word_degree}}
 
 -- j letters `false`, one letter `true` and r letters `false`
 abbrev pub one_true : ℕ → ℕ → List Bool

@@ -1,6 +1,5 @@
 -- The Bockstein of a cocycle.
-use Rattle.std.specs.Prelude.{ℕ, ◌%◌, List, ℤ, pos}
-use Rattle.std.specs.Int.{int_div_euclid}
+use Rattle.std.specs.{Prelude.{ℕ, ◌%◌, List, ℤ, pos}, Int.int_div_euclid}
 use Rattle.simplicial_law.specs.Names.{Cochain, integral_coboundary}
 use Rattle.steenrod_law.specs.Names.{residue}
 

@@ -1,12 +1,8 @@
 -- Functionals that take sums to sums.
-use Rattle.std.proofs.Common.{◌≡◌, ℕ, zero, suc, List, [], ◌∷◌, refl, sym, ◌∙◌, ap, arith, ℤ, pos, negsuc, ◌+ℤ◌, ◌*ℤ◌, ◌-ℤ◌, neg_ℤ}
-use Rattle.std.proofs.Math.IntN.{zero-*ℤ, suc_ℤ-*ℤ, pred_ℤ-*ℤ, +ℤ_invr}
-use Rattle.std.proofs.lemmas.Int.{ints}
-use Rattle.signed_sum.proofs.Names.{without_one-sum}
-use Rattle.signed_sum.specs.Names.{unless_empty, signed, without_one}
+use Rattle.std.proofs.{Common.{◌≡◌, ℕ, zero, suc, List, [], ◌∷◌, refl, sym, ◌∙◌, ap, arith, ℤ, pos, negsuc, ◌+ℤ◌, ◌*ℤ◌, ◌-ℤ◌, neg_ℤ}, Math.IntN.{zero-*ℤ, suc_ℤ-*ℤ, pred_ℤ-*ℤ, +ℤ_invr}, lemmas.Int.ints}
+use Rattle.signed_sum.{proofs.Names.without_one-sum, specs.Names.{unless_empty, signed, without_one}}
 use Rattle.simplicial_law.specs.Names.{integral_coboundary}
-use Rattle.steenrod_law.proofs.Forms.{SurjectionTerm, value_over}
-use Rattle.steenrod_law.specs.Names.{sum_to}
+use Rattle.steenrod_law.{proofs.Forms.{SurjectionTerm, value_over}, specs.Names.sum_to}
 
 module _ {A : Type 0} (F : (A → ℤ) → ℤ) (adds : (h g : A → ℤ) → F (λ a. h a +ℤ g a) ≡ F h +ℤ F g) where
   pub adds-zero : F (λ a. pos 0) ≡ pos 0

@@ -1,22 +1,9 @@
 -- D is additive up to the coboundary of a sum over orbits.
-use Rattle.std.proofs.Common.{◌≡◌, ℕ, zero, suc, ◌-◌, ◌*◌, ◌%◌, ◌≤◌, true, false, Bool, List, [], ◌∷◌, ◌++◌, map, length, refl, sym, ◌∙◌, ap, arith, ◌⊎◌, ℤ, pos, ◌+ℤ◌, ◌*ℤ◌, neg_ℤ}
-use Rattle.std.proofs.lemmas.Int.{ints}
-use Rattle.interval_cut_law.proofs.CochainLaws.{cut_sum-sum}
-use Rattle.interval_cut_law.specs.Names.{cut_sum, operation_value, value_product}
-use Rattle.signed_sum.proofs.Names.{add-mul, neg-mul}
-use Rattle.signed_sum.specs.Names.{unless_empty, signed, without_one}
-use Rattle.simplicial_law.proofs.Names.{CongruentInt-neg, CongruentInt-signed, CongruentInt-sum, CongruentInt_from, CongruentInt_of, CongruentInt_refl, CongruentInt_sym, CongruentInt_trans}
-use Rattle.simplicial_law.specs.Names.{CongruentInt, HasDegree, integral_coboundary}
-use Rattle.steenrod_law.proofs.AdditiveMaps.{adds-coboundary, adds-neg, adds-over, adds-scale, adds-signed, adds-zero}
-use Rattle.steenrod_law.proofs.Binomials.{difference, difference-prime}
-use Rattle.steenrod_law.proofs.ClosedValues.{closed-law}
-use Rattle.steenrod_law.proofs.Degrees.{degree-even, of-power}
-use Rattle.steenrod_law.proofs.Forms.{AreTerms, IsFaceClosed, IsIntegralCocycle, IsMayFamily, IsPrime, IsWeakFace, SurjectionTerm, boundary_over, drop, none, operation_of, take, value_over, word_sum}
-use Rattle.steenrod_law.proofs.Staircase.{Alike, back-alike, minus-alike, norms-alike, sign-turn}
-use Rattle.steenrod_law.proofs.WordBoundary.{letters-copies, letters-first, relation}
-use Rattle.steenrod_law.proofs.WordCochains.{over-same, over-sum, word-cycle}
-use Rattle.steenrod_law.proofs.WordLemmas.{back-sum, minus-sum, norm-sum_below, power-back}
-use Rattle.steenrod_law.specs.Names.{cycle_less_one_power, opposite_sum, orbit_sum, sum_above, sum_value, turned_sum, word_cochains, HaveLength, IsOrbitTable, all_words, choice, copies, norm, step, turn_back, turn_back_less_one, turn_back_power, word_degree}
+use Rattle.std.proofs.{Common.{◌≡◌, ℕ, zero, suc, ◌-◌, ◌*◌, ◌%◌, ◌≤◌, true, false, Bool, List, [], ◌∷◌, ◌++◌, map, length, refl, sym, ◌∙◌, ap, arith, ◌⊎◌, ℤ, pos, ◌+ℤ◌, ◌*ℤ◌, neg_ℤ}, lemmas.Int.ints}
+use Rattle.interval_cut_law.{proofs.CochainLaws.cut_sum-sum, specs.Names.{cut_sum, operation_value, value_product}}
+use Rattle.signed_sum.{proofs.Names.{add-mul, neg-mul}, specs.Names.{unless_empty, signed, without_one}}
+use Rattle.simplicial_law.{proofs.Names.{CongruentInt-neg, CongruentInt-signed, CongruentInt-sum, CongruentInt_from, CongruentInt_of, CongruentInt_refl, CongruentInt_sym, CongruentInt_trans}, specs.Names.{CongruentInt, HasDegree, integral_coboundary}}
+use Rattle.steenrod_law.{proofs.AdditiveMaps.{adds-coboundary, adds-neg, adds-over, adds-scale, adds-signed, adds-zero}, proofs.Binomials.{difference, difference-prime}, proofs.ClosedValues.closed-law, proofs.Degrees.{degree-even, of-power}, proofs.Forms.{AreTerms, IsFaceClosed, IsIntegralCocycle, IsMayFamily, IsPrime, IsWeakFace, SurjectionTerm, boundary_over, drop, none, operation_of, take, value_over, word_sum}, proofs.Staircase.{Alike, back-alike, minus-alike, norms-alike, sign-turn}, proofs.WordBoundary.{letters-copies, letters-first, relation}, proofs.WordCochains.{over-same, over-sum, word-cycle}, proofs.WordLemmas.{back-sum, minus-sum, norm-sum_below, power-back}, specs.Names.{cycle_less_one_power, opposite_sum, orbit_sum, sum_above, sum_value, turned_sum, word_cochains, HaveLength, IsOrbitTable, all_words, choice, copies, norm, step, turn_back, turn_back_less_one, turn_back_power, word_degree}}
 use Rattle.table_reduction_law.specs.Names.{cycle}
 
 -- powers of T on words

@@ -1,13 +1,9 @@
 -- Differences and binomial coefficients modulo a prime.
-use Rattle.std.proofs.Common.{◌≡◌, ℕ, zero, suc, ◌+◌, ◌-◌, ◌<◌, refl, sym, ◌∙◌, ap, arith, ℤ, pos, ◌+ℤ◌, ◌*ℤ◌, neg_ℤ}
-use Rattle.std.proofs.Math.IntN.{zero-*ℤ, suc_ℤ-*ℤ, *ℤ_comm}
-use Rattle.std.proofs.lemmas.Int.{ints}
+use Rattle.std.proofs.{Common.{◌≡◌, ℕ, zero, suc, ◌+◌, ◌-◌, ◌<◌, refl, sym, ◌∙◌, ap, arith, ℤ, pos, ◌+ℤ◌, ◌*ℤ◌, neg_ℤ}, Math.IntN.{zero-*ℤ, suc_ℤ-*ℤ, *ℤ_comm}, lemmas.Int.ints}
 use Rattle.signed_sum.proofs.Names.{add-mul, mul-add, mul-neg, neg-mul, one-mul}
-use Rattle.simplicial_law.proofs.Names.{CongruentInt-neg, CongruentInt-sum, CongruentInt-times, CongruentInt_from, CongruentInt_multiple, CongruentInt_of, CongruentInt_refl, CongruentInt_trans}
-use Rattle.simplicial_law.specs.Names.{CongruentInt}
+use Rattle.simplicial_law.{proofs.Names.{CongruentInt-neg, CongruentInt-sum, CongruentInt-times, CongruentInt_from, CongruentInt_multiple, CongruentInt_of, CongruentInt_refl, CongruentInt_trans}, specs.Names.CongruentInt}
 use Rattle.steenrod_law.proofs.Forms.{IsPrime}
-use Rattle.table_reduction_law.proofs.FormalSums.{sum_below-first}
-use Rattle.table_reduction_law.proofs.PowerPairs.{sum_below}
+use Rattle.table_reduction_law.proofs.{FormalSums.sum_below-first, PowerPairs.sum_below}
 
 -- the n-th difference of a at 0
 abbrev pub difference : ℕ → (ℕ → ℤ) → ℤ

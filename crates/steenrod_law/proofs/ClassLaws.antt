@@ -1,26 +1,12 @@
 -- The laws of operations and products on classes of cochains of residues.
-use Rattle.std.proofs.Common.{◌≡◌, ℕ, zero, suc, ◌+◌, ◌*◌, ◌≤◌, ◌-◌, Bool, List, [], ◌∷◌, ◌++◌, map, length, refl, sym, ◌∙◌, ap, arith, ℤ, pos, ◌+ℤ◌, ◌*ℤ◌, length-append}
-use Rattle.std.specs.List.{AllZip}
-use Rattle.std.proofs.Math.IntN.{pos-*ℤ-pos}
-use Rattle.std.proofs.lemmas.Int.{ints}
-use Rattle.std.proofs.lemmas.List.{length-map}
+use Rattle.std.{proofs.Common.{◌≡◌, ℕ, zero, suc, ◌+◌, ◌*◌, ◌≤◌, ◌-◌, Bool, List, [], ◌∷◌, ◌++◌, map, length, refl, sym, ◌∙◌, ap, arith, ℤ, pos, ◌+ℤ◌, ◌*ℤ◌, length-append}, specs.List.AllZip, proofs.Math.IntN.pos-*ℤ-pos, proofs.lemmas.Int.ints, proofs.lemmas.List.length-map}
 use Rattle.interval_cut_law.proofs.CochainLaws.{naturality_law}
-use Rattle.linear_law.proofs.Names.{IsLinearOnClasses, IsSameClass, class_combination, class_matrix, class_of, class_trans, member_of, multiple_in, nothing, on_classes, Congruent_add, Congruent_from, Congruent_of, Congruent_refl, Congruent_scale, Congruent_trans, add-negated, each_map, from_columns}
-use Rattle.linear_law.specs.Names.{AgreesOn, Congruent, IsField, negated, Each, matrix_times, IsSubspace, combination}
+use Rattle.linear_law.{proofs.Names.{IsLinearOnClasses, IsSameClass, class_combination, class_matrix, class_of, class_trans, member_of, multiple_in, nothing, on_classes, Congruent_add, Congruent_from, Congruent_of, Congruent_refl, Congruent_scale, Congruent_trans, add-negated, each_map, from_columns}, specs.Names.{AgreesOn, Congruent, IsField, negated, Each, matrix_times, IsSubspace, combination}}
 use Rattle.fp_field.specs.Element.{sign_power}
-use Rattle.signed_sum.proofs.Names.{fun_ext}
-use Rattle.signed_sum.specs.Names.{signed}
+use Rattle.signed_sum.{proofs.Names.fun_ext, specs.Names.signed}
 pub use Rattle.simplicial_law.proofs.Names.{coboundary-vertex}
-use Rattle.simplicial_law.proofs.Names.{bounds_close, coboundaries, cocycles, CongruentInt-scale, CongruentInt-sum, CongruentInt_of, CongruentInt_refl, CongruentInt_sym, CongruentInt_trans}
-use Rattle.simplicial_law.specs.Names.{AgreesOnSimplices, Cochain, HasCoordinates, IsCoboundary, IsCocycle, coboundary, CongruentInt, integral_coboundary, IsSimplex}
-use Rattle.steenrod_law.proofs.AdditiveMaps.{adds-scale}
-use Rattle.steenrod_law.proofs.Complexes.{coboundary-residues, extended-coboundary, extended-cochain, extended-cocycle, extended-same, residue_cochain-empty, residue_cochain-same, weak-closed, weak_of_simplex}
-use Rattle.steenrod_law.proofs.Forms.{IsWeakFace, cup}
-use Rattle.steenrod_law.proofs.OperationLaws.{above_one, additivity-law, extended-add, extended-scale, family_here, positive_here, prime_here, pulled, pulled-value, residue-none, scaling-law, to_residues, value-same, vertices, whole_operation}
-use Rattle.steenrod_law.proofs.Products.{cup-closed, cup-degree, cup-left, cup-mod, cup-right, left-bound, right-bound}
-use Rattle.steenrod_law.proofs.Representatives.{representatives}
-use Rattle.steenrod_law.proofs.ValuesOnFaces.{operation-mod}
-use Rattle.steenrod_law.specs.Names.{IsWeakSimplex, cochain_products, coefficient_products, cup_product, extended, may_operation, orbit_primitive, orbit_sum, pull_back, residue_cochain, scaled_operation, staircase_sum, IsOrbitTable}
+use Rattle.simplicial_law.{proofs.Names.{bounds_close, coboundaries, cocycles, CongruentInt-scale, CongruentInt-sum, CongruentInt_of, CongruentInt_refl, CongruentInt_sym, CongruentInt_trans}, specs.Names.{AgreesOnSimplices, Cochain, HasCoordinates, IsCoboundary, IsCocycle, coboundary, CongruentInt, integral_coboundary, IsSimplex}}
+use Rattle.steenrod_law.{proofs.AdditiveMaps.adds-scale, proofs.Complexes.{coboundary-residues, extended-coboundary, extended-cochain, extended-cocycle, extended-same, residue_cochain-empty, residue_cochain-same, weak-closed, weak_of_simplex}, proofs.Forms.{IsWeakFace, cup}, proofs.OperationLaws.{above_one, additivity-law, extended-add, extended-scale, family_here, positive_here, prime_here, pulled, pulled-value, residue-none, scaling-law, to_residues, value-same, vertices, whole_operation}, proofs.Products.{cup-closed, cup-degree, cup-left, cup-mod, cup-right, left-bound, right-bound}, proofs.Representatives.representatives, proofs.ValuesOnFaces.operation-mod, specs.Names.{IsWeakSimplex, cochain_products, coefficient_products, cup_product, extended, may_operation, orbit_primitive, orbit_sum, pull_back, residue_cochain, scaled_operation, staircase_sum, IsOrbitTable}}
 use Rattle.table_reduction_law.specs.Names.{may_element}
 
 -- combinations of products

@@ -1,19 +1,10 @@
 -- Words of cocycles.
-use Rattle.std.proofs.Common.{◌≡◌, ℕ, zero, suc, ◌+◌, ◌-◌, ◌≤◌, true, false, Bool, cond, List, map, length, sym, ◌∙◌, ap, arith, ℤ, pos, ◌+ℤ◌}
-use Rattle.std.proofs.lemmas.Int.{ints}
+use Rattle.std.proofs.{Common.{◌≡◌, ℕ, zero, suc, ◌+◌, ◌-◌, ◌≤◌, true, false, Bool, cond, List, map, length, sym, ◌∙◌, ap, arith, ℤ, pos, ◌+ℤ◌}, lemmas.Int.ints}
 use Rattle.interval_cut_law.specs.Names.{one_coboundary, operation_value}
-use Rattle.signed_sum.proofs.Names.{signed-parity, signed-signed, signed-zero}
-use Rattle.signed_sum.specs.Names.{signed}
-use Rattle.simplicial_law.proofs.Names.{CongruentInt-signed, CongruentInt-sum, CongruentInt_of, CongruentInt_refl, CongruentInt_sym, CongruentInt_trans}
-use Rattle.simplicial_law.specs.Names.{CongruentInt, integral_coboundary}
+use Rattle.signed_sum.{proofs.Names.{signed-parity, signed-signed, signed-zero}, specs.Names.signed}
+use Rattle.simplicial_law.{proofs.Names.{CongruentInt-signed, CongruentInt-sum, CongruentInt_of, CongruentInt_refl, CongruentInt_sym, CongruentInt_trans}, specs.Names.{CongruentInt, integral_coboundary}}
 use Rattle.linear_law.proofs.Names.{length-copies}
-use Rattle.steenrod_law.proofs.AdditiveMaps.{adds-zero}
-use Rattle.steenrod_law.proofs.Forms.{AreTerms, IsCochain, IsFaceClosed, IsIntegralCocycle, IsMayFamily, IsPrime, SurjectionTerm, boundary_over, operation_of, value_over}
-use Rattle.steenrod_law.proofs.Staircase.{top-step}
-use Rattle.steenrod_law.proofs.ValuesOnFaces.{value-none-at}
-use Rattle.steenrod_law.proofs.WordBoundary.{letters-copies, letters-normalized, relation, relation-first, some, sum-law}
-use Rattle.steenrod_law.proofs.WordCochains.{degrees-letters, over-same, over-sum, word-closed}
-use Rattle.steenrod_law.specs.Names.{sum_value, word_cochains, copies, step}
+use Rattle.steenrod_law.{proofs.AdditiveMaps.adds-zero, proofs.Forms.{AreTerms, IsCochain, IsFaceClosed, IsIntegralCocycle, IsMayFamily, IsPrime, SurjectionTerm, boundary_over, operation_of, value_over}, proofs.Staircase.top-step, proofs.ValuesOnFaces.value-none-at, proofs.WordBoundary.{letters-copies, letters-normalized, relation, relation-first, some, sum-law}, proofs.WordCochains.{degrees-letters, over-same, over-sum, word-closed}, specs.Names.{sum_value, word_cochains, copies, step}}
 
 pub same-unsigned : (p n : ℕ) (z : ℤ) → CongruentInt p (signed n z) (pos 0) → CongruentInt p z (pos 0)
 same-unsigned p n z h =

@@ -1,18 +1,10 @@
 -- Cochains of residues on the simplices of a complex, as cochains with whole values.
-use Rattle.std.proofs.Common.{◌≡◌, ℕ, suc, ◌+◌, ◌<◌, ◌≤◌, ◌⊎◌, inl, inr, Bool, true, false, not, cond, ◌==◌, eqb, eq-eqb, ◌%◌, ◌&&◌, ◌||◌, List, [], ◌∷◌, length, refl, sym, ◌∙◌, ap, arith, subst, ℤ, pos, negsuc, ◌+ℤ◌, neg_ℤ, ne_eqb}
-use Rattle.std.proofs.Math.Nat.{zero-mod}
-use Rattle.std.proofs.lemmas.Int.{ints}
-use Rattle.std.proofs.lemmas.Bool.{cases_Bool, cases_eq}
+use Rattle.std.proofs.{Common.{◌≡◌, ℕ, suc, ◌+◌, ◌<◌, ◌≤◌, ◌⊎◌, inl, inr, Bool, true, false, not, cond, ◌==◌, eqb, eq-eqb, ◌%◌, ◌&&◌, ◌||◌, List, [], ◌∷◌, length, refl, sym, ◌∙◌, ap, arith, subst, ℤ, pos, negsuc, ◌+ℤ◌, neg_ℤ, ne_eqb}, Math.Nat.zero-mod, lemmas.Int.ints, lemmas.Bool.{cases_Bool, cases_eq}}
 use native.Mathlib.Decide.{ℕ_discrete}
-use Rattle.linear_law.proofs.Names.{Congruent_mod, each_map}
-use Rattle.linear_law.specs.Names.{negated, Among, Each, IsAscending}
-use Rattle.signed_sum.proofs.Names.{fun_ext}
-use Rattle.signed_sum.specs.Names.{is_degenerate, unless_empty, without_one}
-use Rattle.simplicial_law.proofs.Names.{integral_coboundary_law, integral_congruence_law, negated_whole, CongruentInt-neg, CongruentInt-sum, CongruentInt_of, CongruentInt_refl, CongruentInt_sym, CongruentInt_trans}
-use Rattle.simplicial_law.specs.Names.{AgreesOnSimplices, Cochain, IsCocycle, coboundary, CongruentInt, integral_coboundary, IsSimplex}
-use Rattle.steenrod_law.proofs.Forms.{IsCochain, IsFaceClosed, IsIntegralCocycle, IsWeakFace, drop, none, take}
-use Rattle.steenrod_law.proofs.WordCochains.{coboundary-cochain}
-use Rattle.steenrod_law.specs.Names.{IsNondecreasing, IsWeakSimplex, extended, residue, residue_cochain}
+use Rattle.linear_law.{proofs.Names.{Congruent_mod, each_map}, specs.Names.{negated, Among, Each, IsAscending}}
+use Rattle.signed_sum.{proofs.Names.fun_ext, specs.Names.{is_degenerate, unless_empty, without_one}}
+use Rattle.simplicial_law.{proofs.Names.{integral_coboundary_law, integral_congruence_law, negated_whole, CongruentInt-neg, CongruentInt-sum, CongruentInt_of, CongruentInt_refl, CongruentInt_sym, CongruentInt_trans}, specs.Names.{AgreesOnSimplices, Cochain, IsCocycle, coboundary, CongruentInt, integral_coboundary, IsSimplex}}
+use Rattle.steenrod_law.{proofs.Forms.{IsCochain, IsFaceClosed, IsIntegralCocycle, IsWeakFace, drop, none, take}, proofs.WordCochains.coboundary-cochain, specs.Names.{IsNondecreasing, IsWeakSimplex, extended, residue, residue_cochain}}
 
 Each-weak : (P : ℕ → Type 0) (f s : List ℕ) → IsWeakFace f s → Each P s → Each P f
 Each-weak P _ s none h = tt

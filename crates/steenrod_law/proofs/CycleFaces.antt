@@ -1,17 +1,11 @@
 -- The permutation law at the cycle: the last face goes to the front.
-use Rattle.std.proofs.Common.{◌≡◌, ℕ, zero, suc, ◌+◌, ◌*◌, ◌≤◌, cond, List, [], ◌∷◌, ◌++◌, map, length, refl, sym, ◌∙◌, ap, arith, append_assoc, length-append, ◌⊎◌, inl, inr, eq-eqb, ℤ, pos, ◌*ℤ◌, ne_eqb, pred}
+use Rattle.std.proofs.{Common.{◌≡◌, ℕ, zero, suc, ◌+◌, ◌*◌, ◌≤◌, cond, List, [], ◌∷◌, ◌++◌, map, length, refl, sym, ◌∙◌, ap, arith, append_assoc, length-append, ◌⊎◌, inl, inr, eq-eqb, ℤ, pos, ◌*ℤ◌, ne_eqb, pred}, Math.IntN.{zero-*ℤ, *ℤ-zero, *ℤ_comm}, lemmas.List.length-map}
 use native.Mathlib.Decide.{ℕ_discrete}
-use Rattle.std.proofs.Math.IntN.{zero-*ℤ, *ℤ-zero, *ℤ_comm}
-use Rattle.std.proofs.lemmas.List.{length-map}
-use Rattle.interval_cut_law.proofs.CochainLaws.{cut_sum-signed}
-use Rattle.interval_cut_law.proofs.Relabellings.{relabelling_law}
-use Rattle.interval_cut_law.specs.Names.{cut_faces, cut_sum, cuts, sign_exponent, vertex_at, operation_value, value_product, degrees_passed, exchange_exponent, face_at, relabelled_faces}
-use Rattle.signed_sum.proofs.Names.{less-no, occurs-01, mul_assoc, signed-zero, less-yes, length-numbers_from}
-use Rattle.signed_sum.specs.Names.{less, numbers_from, occurs, signed, total}
+use Rattle.interval_cut_law.{proofs.CochainLaws.cut_sum-signed, proofs.Relabellings.relabelling_law, specs.Names.{cut_faces, cut_sum, cuts, sign_exponent, vertex_at, operation_value, value_product, degrees_passed, exchange_exponent, face_at, relabelled_faces}}
+use Rattle.signed_sum.{proofs.Names.{less-no, occurs-01, mul_assoc, signed-zero, less-yes, length-numbers_from}, specs.Names.{less, numbers_from, occurs, signed, total}}
 use Rattle.simplicial_law.specs.Names.{HasDegree, HaveDegrees, degree}
 use Rattle.surjection_law.specs.Names.{IsOnto, IsRelabelling}
-use Rattle.table_reduction_law.proofs.Permutations.{map-in, map-within, moves-cycle, uncycle}
-use Rattle.table_reduction_law.specs.Names.{cycle}
+use Rattle.table_reduction_law.{proofs.Permutations.{moves-cycle, onto-moved, uncycle}, specs.Names.cycle}
 
 cycle-last : (p : ℕ) → cycle p p ≡ 1
 cycle-last p = ap (λ t. cond t 1 (suc p)) (eq-eqb p p refl)
@@ -27,22 +21,7 @@ uncycle-other p v n = ap (λ t. cond t p (pred v)) (ne_eqb v 1 n)
 
 -- a turned surjection takes the same values
 pub onto-cycle : (p : ℕ) (u : List ℕ) → 1 ≤ p → IsOnto p u → IsOnto p (map (cycle p) u)
-onto-cycle p u le onto v = go (occurs-01 v (map (cycle p) u)) (occurs-01 v (numbers_from 1 p))
-  where
-    mv : IsRelabelling p (cycle p) (uncycle p)
-    mv = moves-cycle p
-
-    up : occurs v (map (cycle p) u) ≡ 1 → occurs v (numbers_from 1 p) ≡ 1
-    up h = map-within p (cycle p) (uncycle p) v u mv (λ w y. sym (onto w) ∙ y) h
-
-    down : occurs v (numbers_from 1 p) ≡ 1 → occurs v (map (cycle p) u) ≡ 1
-    down h = ap (λ j. occurs j (map (cycle p) u)) (sym (mv.back_there v h)) ∙ map-in (cycle p) (uncycle p v) u (onto (uncycle p v) ∙ mv.back v h)
-
-    go : (occurs v (map (cycle p) u) ≡ 0) ⊎ (occurs v (map (cycle p) u) ≡ 1) → (occurs v (numbers_from 1 p) ≡ 0) ⊎ (occurs v (numbers_from 1 p) ≡ 1) → occurs v (map (cycle p) u) ≡ occurs v (numbers_from 1 p)
-    go (inl a) (inl b) = a ∙ sym b
-    go (inl a) (inr b) = absurd (let d = down b in omega arith)
-    go (inr a) (inl b) = absurd (let d = up a in omega arith)
-    go (inr a) (inr b) = a ∙ sym b
+onto-cycle p u le onto = onto-moved p (cycle p) (uncycle p) u (moves-cycle p) onto
 
 -- the last face goes to the front
 nth-mid : (pre : List (List ℕ)) (g : List ℕ) (gs : List (List ℕ)) → face_at (pre ++ (g ∷ gs)) (suc (length pre)) ≡ g

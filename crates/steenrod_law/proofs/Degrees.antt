@@ -1,31 +1,11 @@
 -- The degrees of D and of the primitives.
-use Rattle.std.proofs.Common.{◌≡◌, ℕ, zero, suc, ◌+◌, ◌-◌, ◌*◌, ◌%◌, ◌≤◌, true, false, Bool, cond, ◌==◌, List, [], ◌∷◌, ◌++◌, map, length, refl, sym, ◌∙◌, ap, arith, inl, inr, length-append, eq-eqb, ℤ, pos, ne_eqb}
-use Rattle.std.proofs.Math.IntN.{*ℤ-zero}
-use Rattle.std.proofs.lemmas.Int.{ints}
-use Rattle.std.proofs.lemmas.Bool.Decides.{eqb_tells}
-use Rattle.std.proofs.lemmas.List.{length-map}
-use Rattle.interval_cut_law.proofs.BoundaryLaws.{degeneracy_law, product_normalized}
-use Rattle.interval_cut_law.proofs.CutsAsWalks.{cut_sum-walk_sum}
-use Rattle.interval_cut_law.proofs.FaceBoundary.{more}
-use Rattle.interval_cut_law.proofs.WalkBoundary.{occurs-cell_values}
-use Rattle.interval_cut_law.proofs.WalkSums.{IsWalk}
-use Rattle.interval_cut_law.proofs.Walks.{Cell, cell_value, cell_values, cell_vertex, edge, edge_count, ends, next, walk_exponent, walk_face, walk_faces, walk_sum, walk_term}
-use Rattle.interval_cut_law.specs.Names.{operation_value, value_product}
-use Rattle.signed_sum.proofs.Names.{numbers_from-distinct, occurs-later, occurs-mid, occurs-self, one_if, signed-zero, degree-append}
-use Rattle.signed_sum.specs.Names.{IsDistinct, is_degenerate, numbers_from, occurs, signed}
-use Rattle.simplicial_law.proofs.Names.{CongruentInt-signed, CongruentInt_of}
-use Rattle.simplicial_law.specs.Names.{HaveDegrees, integral_coboundary}
+use Rattle.std.proofs.{Common.{◌≡◌, ℕ, zero, suc, ◌+◌, ◌-◌, ◌*◌, ◌%◌, ◌≤◌, true, false, Bool, cond, ◌==◌, List, [], ◌∷◌, ◌++◌, map, length, refl, sym, ◌∙◌, ap, arith, inl, inr, length-append, eq-eqb, ℤ, pos, ne_eqb}, Math.IntN.*ℤ-zero, lemmas.Int.ints, lemmas.Bool.Decides.eqb_tells, lemmas.List.length-map}
+use Rattle.interval_cut_law.{proofs.BoundaryLaws.{degeneracy_law, product_normalized}, proofs.CutsAsWalks.cut_sum-walk_sum, proofs.FaceBoundary.more, proofs.WalkBoundary.occurs-cell_values, proofs.WalkSums.IsWalk, proofs.Walks.{Cell, cell_value, cell_values, cell_vertex, edge, edge_count, ends, next, walk_exponent, walk_face, walk_faces, walk_sum, walk_term}, specs.Names.{operation_value, value_product}}
+use Rattle.signed_sum.{proofs.Names.{numbers_from-distinct, occurs-later, occurs-mid, occurs-self, one_if, signed-zero, degree-append}, specs.Names.{IsDistinct, is_degenerate, numbers_from, occurs, signed}}
+use Rattle.simplicial_law.{proofs.Names.{CongruentInt-signed, CongruentInt_of}, specs.Names.{HaveDegrees, integral_coboundary}}
 use Rattle.linear_law.proofs.Names.{length-copies}
-use Rattle.steenrod_law.proofs.AdditiveMaps.{adds-zero}
-use Rattle.steenrod_law.proofs.CycleFaces.{counts, degrees-or-zero, onto-cycle, sum_of}
-use Rattle.steenrod_law.proofs.Forms.{AreTerms, HasDegreeBelow, IsCochain, IsMayFamily, IsPrime, SurjectionTerm, operation_of, value_over, word_sum}
-use Rattle.steenrod_law.proofs.Staircase.{AlikeOn, degree-copies, steps-alike}
-use Rattle.steenrod_law.proofs.WordBoundary.{letters-copies, letters-normalized, some}
-use Rattle.steenrod_law.proofs.WordCochains.{coboundary-cochain, degree-sum, degrees-letters, over-equal, over-sum}
-use Rattle.steenrod_law.proofs.WordLemmas.{step-sum}
-use Rattle.steenrod_law.specs.Names.{cycle_less_one_power, opposite_sum, orbit_sum, staircase_sum, sum_above, sum_to, sum_value, turned_sum, word_cochains, HaveLength, IsOrbitTable, choice, contraction, copies, letter_degree, staircase, step, turn_back, word_degree}
-use Rattle.surjection_law.proofs.Caesuras.{caesura_law}
-use Rattle.surjection_law.specs.Names.{caesura_count, IsOnto}
+use Rattle.steenrod_law.{proofs.AdditiveMaps.adds-zero, proofs.CycleFaces.{counts, degrees-or-zero, onto-cycle, sum_of}, proofs.Forms.{AreTerms, HasDegreeBelow, IsCochain, IsMayFamily, IsPrime, SurjectionTerm, operation_of, value_over, word_sum}, proofs.Staircase.{AlikeOn, degree-copies, steps-alike}, proofs.WordBoundary.{letters-copies, letters-normalized, some}, proofs.WordCochains.{coboundary-cochain, degree-sum, degrees-letters, over-equal, over-sum}, proofs.WordLemmas.step-sum, specs.Names.{cycle_less_one_power, opposite_sum, orbit_sum, staircase_sum, sum_above, sum_to, sum_value, turned_sum, word_cochains, HaveLength, IsOrbitTable, choice, contraction, copies, letter_degree, staircase, step, turn_back, word_degree}}
+use Rattle.surjection_law.{proofs.Caesuras.caesura_law, specs.Names.{caesura_count, IsOnto}}
 use Rattle.table_reduction_law.specs.Names.{cycle}
 
 -- the places of faces, counted

@@ -1,11 +1,7 @@
 -- Operations go with maps of vertices.
 use Rattle.std.proofs.Common.{◌≡◌, ℕ, zero, suc, ◌≤◌, List, ◌∷◌, map, length, refl, ◌∙◌, ap, arith, ℤ}
-use Rattle.interval_cut_law.proofs.CochainLaws.{naturality_law}
-use Rattle.interval_cut_law.specs.Names.{operation_value}
-use Rattle.steenrod_law.proofs.Forms.{IsMayFamily, IsPrime, SurjectionTerm, operation_of}
-use Rattle.steenrod_law.proofs.WordBoundary.{some}
-use Rattle.steenrod_law.proofs.WordCochains.{over-equal}
-use Rattle.steenrod_law.specs.Names.{copies}
+use Rattle.interval_cut_law.{proofs.CochainLaws.naturality_law, specs.Names.operation_value}
+use Rattle.steenrod_law.{proofs.Forms.{IsMayFamily, IsPrime, SurjectionTerm, operation_of}, proofs.WordBoundary.some, proofs.WordCochains.over-equal, specs.Names.copies}
 
 map-copies : (f : (List ℕ → ℤ) → List ℕ → ℤ) (k : ℕ) (a : List ℕ → ℤ) → map f (copies k a) ≡ copies k (f a)
 map-copies f zero a = refl

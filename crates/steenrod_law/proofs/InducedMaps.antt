@@ -1,20 +1,9 @@
 -- Pull-backs along order-preserving simplicial maps.
-use Rattle.std.proofs.Common.{Bool, ◌≡◌, ℕ, suc, ◌+◌, ◌*◌, inl, inr, cond, List, [], ◌∷◌, map, length, refl, sym, ◌∙◌, ap, arith, subst, true, false, ℤ, pos}
-use Rattle.std.specs.List.{AllZip}
-use Rattle.std.proofs.lemmas.Int.{ints}
-use Rattle.std.proofs.lemmas.Bool.{cases_Bool}
-use Rattle.std.proofs.lemmas.List.{length-map}
-use Rattle.linear_law.proofs.Names.{IsLinearOnClasses, class_of, multiple_in, on_classes, Congruent_of, Congruent_scale, Congruent_sym, Congruent_trans, coordinates-alike, from_columns}
-use Rattle.linear_law.specs.Names.{Congruent, IsField, Each, IsSubspace, matrix_times}
-use Rattle.signed_sum.proofs.Names.{fun_ext}
-use Rattle.signed_sum.specs.Names.{is_degenerate, unless_empty, without_one}
-use Rattle.simplicial_law.proofs.Names.{coboundaries, cocycles, CongruentInt_of, CongruentInt_sym, CongruentInt_trans}
-use Rattle.simplicial_law.specs.Names.{AgreesOnSimplices, Cochain, HasCoordinates, IsCoboundary, IsCocycle, IsCohomologyBasis, coboundary, CongruentInt, integral_coboundary, IsSimplex}
-use Rattle.steenrod_law.proofs.ClassLaws.{bound-cases, matrix-law}
-use Rattle.steenrod_law.proofs.Complexes.{coboundary-extended, extended-cochain, simplex_of_weak}
-use Rattle.steenrod_law.proofs.OperationLaws.{above_one, may_operation-closed, pull_back-operation, pulled, pulled-value, vertices}
-use Rattle.steenrod_law.proofs.WordCochains.{coboundary-cochain}
-use Rattle.steenrod_law.specs.Names.{IsSimplicial, extended, may_operation, pull_back, scaled_operation, IsOrbitTable}
+use Rattle.std.{proofs.Common.{Bool, ◌≡◌, ℕ, suc, ◌+◌, ◌*◌, inl, inr, cond, List, [], ◌∷◌, map, length, refl, sym, ◌∙◌, ap, arith, subst, true, false, ℤ, pos}, specs.List.AllZip, proofs.lemmas.Int.ints, proofs.lemmas.Bool.cases_Bool, proofs.lemmas.List.length-map}
+use Rattle.linear_law.{proofs.Names.{IsLinearOnClasses, class_of, multiple_in, on_classes, Congruent_of, Congruent_scale, Congruent_sym, Congruent_trans, coordinates-alike, from_columns}, specs.Names.{Congruent, IsField, Each, IsSubspace, matrix_times}}
+use Rattle.signed_sum.{proofs.Names.fun_ext, specs.Names.{is_degenerate, unless_empty, without_one}}
+use Rattle.simplicial_law.{proofs.Names.{coboundaries, cocycles, CongruentInt_of, CongruentInt_sym, CongruentInt_trans}, specs.Names.{AgreesOnSimplices, Cochain, HasCoordinates, IsCoboundary, IsCocycle, IsCohomologyBasis, coboundary, CongruentInt, integral_coboundary, IsSimplex}}
+use Rattle.steenrod_law.{proofs.ClassLaws.{bound-cases, matrix-law}, proofs.Complexes.{coboundary-extended, extended-cochain, simplex_of_weak}, proofs.OperationLaws.{above_one, may_operation-closed, pull_back-operation, pulled, pulled-value, vertices}, proofs.WordCochains.coboundary-cochain, specs.Names.{IsSimplicial, extended, may_operation, pull_back, scaled_operation, IsOrbitTable}}
 
 -- the coboundary at an image
 without_one-under : (f : ℕ → ℕ) (s : List ℕ) (h : List ℕ → ℤ) → without_one (map f s) h ≡ without_one s (λ g. h (map f g))

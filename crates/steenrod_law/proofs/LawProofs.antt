@@ -1,13 +1,8 @@
 -- The laws of this crate.
 use Rattle.std.proofs.Common.{◌≡◌, ℕ, zero, suc, ◌+◌, ◌-◌, ◌*◌, ◌≤◌, ◌<◌, sym, ◌∙◌, ap, ap₂, arith}
-use Rattle.fp_field.proofs.ServedLemmas.{served_field}
-use Rattle.fp_field.specs.Orbits.{orbit_words}
+use Rattle.fp_field.{proofs.ServedLemmas.served_field, specs.Orbits.orbit_words}
 use Rattle.linear_law.proofs.Names.{two_field}
-use Rattle.steenrod_law.proofs.ClassLaws.{bilinear-law, linearity-law, matrix-law, product-closed, product-degree, product-matrix, pull_back-product}
-use Rattle.steenrod_law.proofs.InducedMaps.{matrices-commute, pull_back-coboundary, pull_back-cocycle, pull_back-matrix}
-use Rattle.steenrod_law.proofs.OperationLaws.{additivity-law, may_operation-closed, operation-degree, orbit-degree, orbit-subcomplex, pull_back-operation, representative-law, scaling-law, staircase-degree, staircase-subcomplex}
-use Rattle.steenrod_law.proofs.OrbitTables.{orbit_words_law}
-use Rattle.steenrod_law.specs.Names.{power_degree, AdditivityLaw, ClosedLaw, DegreeLaw, InducedMapLaw, InducedMatrixLaw, LinearityLaw, OperationMatrixLaw, ProductLaw, PullBackLaw, RepresentativeLaw, ScalingLaw, SubcomplexLaw, TargetLaw}
+use Rattle.steenrod_law.{proofs.ClassLaws.{bilinear-law, linearity-law, matrix-law, product-closed, product-degree, product-matrix, pull_back-product}, proofs.InducedMaps.{matrices-commute, pull_back-coboundary, pull_back-cocycle, pull_back-matrix}, proofs.OperationLaws.{additivity-law, may_operation-closed, operation-degree, orbit-degree, orbit-subcomplex, pull_back-operation, representative-law, scaling-law, staircase-degree, staircase-subcomplex}, proofs.OrbitTables.orbit_words_law, specs.Names.{power_degree, AdditivityLaw, ClosedLaw, DegreeLaw, InducedMapLaw, InducedMatrixLaw, LinearityLaw, OperationMatrixLaw, ProductLaw, PullBackLaw, RepresentativeLaw, ScalingLaw, SubcomplexLaw, TargetLaw}}
 
 pub closed_law : ClosedLaw
 closed_law facets p d q n a field = may_operation-closed p field facets d q n a

@@ -1,17 +1,9 @@
 -- The May elements have the relations that the laws of words need.
-use Rattle.std.proofs.Common.{◌≡◌, ℕ, zero, suc, ◌+◌, ◌≤◌, false, List, [], ◌∷◌, map, sym, ◌∙◌, ap, arith, ℤ, ◌+ℤ◌, neg_ℤ, All, length}
-use Rattle.std.proofs.lemmas.List.Elements.{All-head, All-tail}
-use Rattle.signed_sum.proofs.Names.{fun_ext}
-use Rattle.signed_sum.specs.Names.{is_degenerate, value_at}
-use Rattle.steenrod_law.proofs.AdditiveMaps.{adds-neg, adds-zero}
-use Rattle.table_reduction_law.proofs.PowerPairs.{sum_below}
-use Rattle.steenrod_law.proofs.Forms.{AreTerms, IsMayFamily, SurjectionTerm, boundary_over, turned_total, value_over}
-use Rattle.steenrod_law.proofs.WordCochains.{over-sum}
-use Rattle.surjection_law.proofs.Caesuras.{caesura_law}
-use Rattle.surjection_law.specs.Names.{IsOnto}
-use Rattle.table_reduction_law.proofs.CandidateCounts.{may_terms_law}
-use Rattle.table_reduction_law.proofs.FormalSums.{may_relations, total-numbers_from}
-use Rattle.table_reduction_law.specs.Names.{cycle, may_element, turned}
+use Rattle.std.proofs.{Common.{◌≡◌, ℕ, zero, suc, ◌+◌, ◌≤◌, false, List, [], ◌∷◌, map, sym, ◌∙◌, ap, arith, ℤ, ◌+ℤ◌, neg_ℤ, All, length}, lemmas.List.Elements.{All-head, All-tail}}
+use Rattle.signed_sum.{proofs.Names.fun_ext, specs.Names.{is_degenerate, value_at}}
+use Rattle.steenrod_law.proofs.{AdditiveMaps.{adds-neg, adds-zero}, Forms.{AreTerms, IsMayFamily, SurjectionTerm, boundary_over, turned_total, value_over}, WordCochains.over-sum}
+use Rattle.table_reduction_law.{proofs.PowerPairs.sum_below, proofs.CandidateCounts.may_terms_law, proofs.FormalSums.{may_relations, total-numbers_from}, specs.Names.{cycle, may_element, turned}}
+use Rattle.surjection_law.{proofs.Caesuras.caesura_law, specs.Names.IsOnto}
 
 terms-of : (p d : ℕ) (x : List SurjectionTerm) → All (λ (t : SurjectionTerm). IsOnto p t.0 × (length t.0 ≡ p + d) × (is_degenerate t.0 ≡ false)) x → AreTerms p d x
 terms-of p d [] h = tt

@@ -1,33 +1,11 @@
 -- The laws of the May operations on cochains of residues.
-use Rattle.std.proofs.Common.{◌≡◌, ℕ, zero, suc, ◌+◌, ◌*◌, ◌<◌, ◌≤◌, ◌-◌, inl, inr, ◌==◌, ◌&&◌, not, eqb, eq-eqb, Bool, true, false, cond, List, [], ◌∷◌, map, length, refl, sym, ◌∙◌, ap, arith, ℤ, pos, ◌+ℤ◌, ◌*ℤ◌, eqb-true}
-use Rattle.std.proofs.Math.IntN.{pos-*ℤ-pos, *ℤ-zero}
-use Rattle.std.proofs.Math.Nat.{pow-succ', pow-zero, zero-mod}
-use Rattle.std.proofs.lemmas.Int.{ints}
-use Rattle.std.proofs.lemmas.Bool.{false≢true, or_cases, or_left, or_right}
-use Rattle.std.proofs.lemmas.List.{length-map}
+use Rattle.std.proofs.{Common.{◌≡◌, ℕ, zero, suc, ◌+◌, ◌*◌, ◌<◌, ◌≤◌, ◌-◌, inl, inr, ◌==◌, ◌&&◌, not, eqb, eq-eqb, Bool, true, false, cond, List, [], ◌∷◌, map, length, refl, sym, ◌∙◌, ap, arith, ℤ, pos, ◌+ℤ◌, ◌*ℤ◌, eqb-true}, Math.IntN.{pos-*ℤ-pos, *ℤ-zero}, Math.Nat.{pow-succ', pow-zero, zero-mod}, lemmas.Int.ints, lemmas.Bool.{false≢true, or_cases, or_left, or_right}, lemmas.List.length-map}
 use Rattle.fp_field.specs.Element.{sign_power}
 use Rattle.interval_cut_law.specs.Names.{operation_value}
 use Rattle.linear_law.specs.Names.{Congruent, IsField, negated}
-use Rattle.signed_sum.proofs.Names.{signed-zero, fun_ext}
-use Rattle.signed_sum.specs.Names.{is_degenerate, signed}
-use Rattle.simplicial_law.proofs.Names.{integral_congruence_law, negated_whole, CongruentInt-neg, CongruentInt-scale, CongruentInt-signed, CongruentInt-sum, CongruentInt_of, CongruentInt_sym, CongruentInt_trans}
-use Rattle.simplicial_law.specs.Names.{AgreesOnSimplices, Cochain, IsCocycle, coboundary, CongruentInt, integral_coboundary, no_cochain, IsSimplex}
-use Rattle.steenrod_law.proofs.AdditiveMaps.{adds-zero, coboundary-sum}
-use Rattle.steenrod_law.proofs.Additivity.{additive, coboundary-faces, word_sum-same, word_sum-sum}
-use Rattle.steenrod_law.proofs.ClosedValues.{closed}
-use Rattle.steenrod_law.proofs.Complexes.{coboundary-residues, extended-coboundary, extended-cochain, extended-cocycle, extended-same, residue_cochain-same, weak-closed, weak_of_simplex}
-use Rattle.steenrod_law.proofs.Degrees.{of-upper, operation-size, orbit_sum-size, staircase_sum-size}
-use Rattle.steenrod_law.proofs.Faces.{operation-map}
-use Rattle.steenrod_law.proofs.Forms.{AreTerms, IsMayFamily, IsPrime, SurjectionTerm, operation_of, value_over, word_sum}
-use Rattle.steenrod_law.proofs.MayFamily.{may_family}
-use Rattle.steenrod_law.proofs.Primes.{prime_of_field}
-use Rattle.steenrod_law.proofs.Representatives.{representatives}
-use Rattle.steenrod_law.proofs.Scaling.{scales}
-use Rattle.steenrod_law.proofs.Staircase.{stair-alike, stair-sum}
-use Rattle.steenrod_law.proofs.ValuesOnFaces.{operation-mod, value-none-at}
-use Rattle.steenrod_law.proofs.WordBoundary.{some}
-use Rattle.steenrod_law.proofs.WordCochains.{over-same, over-sum}
-use Rattle.steenrod_law.specs.Names.{IsWeakSimplex, extended, may_operation, orbit_primitive, pull_back, residue, residue_cochain, staircase_primitive, orbit_sum, staircase_sum, sum_above, sum_to, sum_value, word_cochains, IsOrbitTable, staircase}
+use Rattle.signed_sum.{proofs.Names.{is_degenerate-under, signed-zero, fun_ext}, specs.Names.{is_degenerate, signed}}
+use Rattle.simplicial_law.{proofs.Names.{integral_congruence_law, negated_whole, CongruentInt-neg, CongruentInt-scale, CongruentInt-signed, CongruentInt-sum, CongruentInt_of, CongruentInt_sym, CongruentInt_trans}, specs.Names.{AgreesOnSimplices, Cochain, IsCocycle, coboundary, CongruentInt, integral_coboundary, no_cochain, IsSimplex}}
+use Rattle.steenrod_law.{proofs.AdditiveMaps.{adds-zero, coboundary-sum}, proofs.Additivity.{additive, coboundary-faces, word_sum-same, word_sum-sum}, proofs.ClosedValues.closed, proofs.Complexes.{coboundary-residues, extended-coboundary, extended-cochain, extended-cocycle, extended-same, residue_cochain-same, weak-closed, weak_of_simplex}, proofs.Degrees.{of-upper, operation-size, orbit_sum-size, staircase_sum-size}, proofs.Faces.operation-map, proofs.Forms.{AreTerms, IsMayFamily, IsPrime, SurjectionTerm, operation_of, value_over, word_sum}, proofs.MayFamily.may_family, proofs.Primes.prime_of_field, proofs.Representatives.representatives, proofs.Scaling.scales, proofs.Staircase.{stair-alike, stair-sum}, proofs.ValuesOnFaces.{operation-mod, value-none-at}, proofs.WordBoundary.some, proofs.WordCochains.{over-same, over-sum}, specs.Names.{IsWeakSimplex, extended, may_operation, orbit_primitive, pull_back, residue, residue_cochain, staircase_primitive, orbit_sum, staircase_sum, sum_above, sum_to, sum_value, word_cochains, IsOrbitTable, staircase}}
 use Rattle.table_reduction_law.specs.Names.{may_element}
 
 -- the operation on cochains with whole values
@@ -212,15 +190,6 @@ module _ (p : ℕ) (field : IsField p) where
       (CongruentInt_of (signed-zero (d - j))))))
 
 -- pull-backs
-
--- a degenerate list has a degenerate image
-is_degenerate-under : (f : ℕ → ℕ) (g : List ℕ) → is_degenerate g ≡ true → is_degenerate (map f g) ≡ true
-is_degenerate-under f [] d = d
-is_degenerate-under f (x ∷ []) d = d
-is_degenerate-under f (x ∷ y ∷ g) d = elim (or_cases (eqb x y) (is_degenerate (y ∷ g)) d) [
-  | inl e ↦ or_left (eqb (f x) (f y)) (is_degenerate (f y ∷ map f g)) (eq-eqb (f x) (f y) (ap f (eqb-true x y e)))
-  | inr e ↦ or_right (eqb (f x) (f y)) (is_degenerate (f y ∷ map f g)) (is_degenerate-under f (y ∷ g) e)
-]
 
 pub pulled : (f : ℕ → ℕ) (q : ℕ) (a : Cochain) (g : List ℕ) → extended q a (map f g) ≡ extended q (pull_back f a) g
 pulled f q a g =

@@ -1,14 +1,8 @@
 -- The words of the listed masks are an orbit table: the words of p letters are, up to their order, the two
 -- constant words and the turns of the words of the masks.
-use Rattle.std.proofs.Common.{◌≡◌, ℕ, zero, suc, ◌*◌, ◌/◌, ◌&&◌, Bool, true, false, cond, List, [], ◌∷◌, ◌++◌, map, length, refl, sym, ◌∙◌, ap, arith, ℤ, ◌+ℤ◌, IsTrue}
-use Rattle.std.specs.List.{flat_map}
-use Rattle.std.proofs.lemmas.Bool.{and_parts, false≢true}
-use Rattle.std.proofs.lemmas.Int.{ints}
-use Rattle.fp_field.proofs.ServedLemmas.{for_served}
-use Rattle.signed_sum.specs.Names.{letters, signed, total}
-use Rattle.fp_field.specs.Orbits.{orbit_masks, orbit_words}
-use Rattle.fp_field.specs.Served.{served}
-use Rattle.signed_sum.proofs.Names.{total-append, total-map}
+use Rattle.std.{proofs.Common.{◌≡◌, ℕ, zero, suc, ◌*◌, ◌/◌, ◌&&◌, Bool, true, false, cond, List, [], ◌∷◌, ◌++◌, map, length, refl, sym, ◌∙◌, ap, arith, ℤ, ◌+ℤ◌, IsTrue}, specs.List.flat_map, proofs.lemmas.Bool.{and_parts, false≢true}, proofs.lemmas.Int.ints}
+use Rattle.fp_field.{proofs.ServedLemmas.for_served, specs.Orbits.{orbit_masks, orbit_words}, specs.Served.served}
+use Rattle.signed_sum.{specs.Names.{letters, signed, total}, proofs.Names.{total-append, total-map}}
 use Rattle.steenrod_law.specs.Names.{OrbitWordsLaw, HaveLength, all_words, copies, norm, turn_back_power, word_degree}
 
 -- equal words, and lists of words that are equal up to their order

@@ -1,21 +1,10 @@
 -- Matrices of squares, powers and Bockstein powers.
-use Rattle.std.proofs.Common.{◌≡◌, ℕ, zero, suc, ◌+◌, ◌-◌, ◌*◌, ◌^◌, ◌<◌, Bool, List, [], ◌∷◌, length, refl, sym, ◌∙◌, ap, arith, ℤ, pos, ◌+ℤ◌, ◌*ℤ◌, neg_ℤ}
-use Rattle.std.proofs.Math.IntN.{pos-*ℤ-pos}
-use Rattle.std.proofs.Math.Nat.{pow-succ', pow-zero}
-use Rattle.std.proofs.lemmas.Int.{ints}
-use Rattle.fp_field.proofs.ServedLemmas.{served_field}
-use Rattle.fp_field.specs.Orbits.{orbit_words}
-use Rattle.fp_field.specs.Element.{IsScale, factorial, half}
-use Rattle.linear_law.proofs.Names.{Congruent_mul, Congruent_of, Congruent_refl, Congruent_scale, Congruent_sym, Congruent_trans, two_field, related_matrix}
-use Rattle.linear_law.specs.Names.{CarriesRelated, Congruent, IsField, negated}
+use Rattle.std.proofs.{Common.{◌≡◌, ℕ, zero, suc, ◌+◌, ◌-◌, ◌*◌, ◌^◌, ◌<◌, Bool, List, [], ◌∷◌, refl, sym, ◌∙◌, ap, arith, ℤ, pos, ◌+ℤ◌, ◌*ℤ◌, neg_ℤ}, Math.IntN.pos-*ℤ-pos, Math.Nat.{pow-succ', pow-zero}, lemmas.Int.ints}
+use Rattle.fp_field.{proofs.ServedLemmas.served_field, specs.Orbits.orbit_words, specs.Element.{IsScale, factorial, half}}
+use Rattle.linear_law.{proofs.Names.{Congruent_mul, Congruent_of, Congruent_refl, Congruent_scale, Congruent_sym, Congruent_trans, two_field, related_matrix}, specs.Names.{CarriesRelated, Congruent, IsField, negated}}
 use Rattle.signed_sum.proofs.Names.{mul-add, mul-neg, mul_assoc, one-mul}
-use Rattle.simplicial_law.proofs.Names.{bounds_close, coboundaries, cocycles, integral_congruence_law, CongruentInt_from, CongruentInt_of, CongruentInt_trans}
-use Rattle.simplicial_law.specs.Names.{AgreesOnSimplices, Cochain, IsCoboundary, IsCocycle, CongruentInt}
-use Rattle.steenrod_law.proofs.ClassLaws.{operation-linear}
-use Rattle.steenrod_law.proofs.OperationLaws.{to_residues}
-use Rattle.steenrod_law.proofs.OrbitTables.{orbit_words_law}
-use Rattle.steenrod_law.proofs.Primes.{prime_of_field}
-use Rattle.steenrod_law.specs.Names.{SteenrodMatrixLaw, IsBocksteinPower, IsPower, IsSquare, may_operation, power_degree, scaled_operation, IsOrbitTable}
+use Rattle.simplicial_law.{proofs.Names.{bounds_close, coboundaries, cocycles, integral_congruence_law, CongruentInt_from, CongruentInt_of, CongruentInt_trans}, specs.Names.{AgreesOnSimplices, Cochain, IsCoboundary, IsCocycle, CongruentInt}}
+use Rattle.steenrod_law.{proofs.ClassLaws.operation-linear, proofs.OperationLaws.to_residues, proofs.OrbitTables.orbit_words_law, proofs.Primes.prime_of_field, specs.Names.{SteenrodMatrixLaw, IsBocksteinPower, IsPower, IsSquare, may_operation, power_degree, scaled_operation, IsOrbitTable}}
 
 module _ (p : ℕ) (field : IsField p) where
   -- products are cancelled factor by factor

@@ -1,12 +1,10 @@
 -- What the proofs use of a prime, from inverses modulo p.
-use Rattle.std.proofs.Common.{◌≡◌, ℕ, ◌+◌, ◌*◌, ◌/◌, ◌%◌, ◌<◌, ◌≤◌, ◌⊎◌, inl, inr, sym, ◌∙◌, ap, arith, ℤ, pos, ◌*ℤ◌}
-use Rattle.std.proofs.Math.IntN.{*ℤ-zero, *ℤ_comm, pos-*ℤ-pos}
+use Rattle.std.proofs.{Common.{◌≡◌, ℕ, ◌+◌, ◌*◌, ◌/◌, ◌%◌, ◌<◌, ◌≤◌, ◌⊎◌, inl, inr, sym, ◌∙◌, ap, arith, ℤ, pos, ◌*ℤ◌}, Math.IntN.{*ℤ-zero, *ℤ_comm, pos-*ℤ-pos}}
 use native.Mathlib.Decide.{ℕ_discrete}
 use native.Mathlib.Nat.{mod-eq_of_lt}
 use Rattle.linear_law.specs.Names.{IsField}
 use Rattle.signed_sum.proofs.Names.{mul_assoc, one-mul}
-use Rattle.simplicial_law.proofs.Names.{integral_congruence_law, CongruentInt-scale, CongruentInt-times, CongruentInt_of, CongruentInt_refl, CongruentInt_sym, CongruentInt_trans}
-use Rattle.simplicial_law.specs.Names.{CongruentInt}
+use Rattle.simplicial_law.{proofs.Names.{integral_congruence_law, CongruentInt-scale, CongruentInt-times, CongruentInt_of, CongruentInt_refl, CongruentInt_sym, CongruentInt_trans}, specs.Names.CongruentInt}
 use Rattle.steenrod_law.proofs.Forms.{IsPrime}
 
 pub prime_of_field : (p : ℕ) → IsField p → IsPrime p

@@ -1,19 +1,9 @@
 -- The cup product on cohomology.
-use Rattle.std.proofs.Common.{◌≤◌, length, ◌≡◌, ℕ, suc, ◌+◌, List, [], ◌∷◌, refl, ◌∙◌, ap, arith, ℤ, pos, ◌+ℤ◌, ◌*ℤ◌}
-use Rattle.std.proofs.Math.IntN.{*ℤ-zero}
-use Rattle.std.proofs.lemmas.Int.{ints}
-use Rattle.interval_cut_law.proofs.BoundaryLaws.{degeneracy_law, product_normalized}
-use Rattle.interval_cut_law.proofs.CochainLaws.{cut_sum-sum}
-use Rattle.interval_cut_law.proofs.Degeneracy.{product_rule}
-use Rattle.interval_cut_law.specs.Names.{cut_sum, value_product}
-use Rattle.signed_sum.proofs.Names.{add-mul, mul-add, signed-parity, signed-signed, signed-zero}
-use Rattle.signed_sum.specs.Names.{signed}
-use Rattle.simplicial_law.proofs.Names.{CongruentInt-signed, CongruentInt-sum, CongruentInt_from, CongruentInt_of, CongruentInt_refl, CongruentInt_sym, CongruentInt_trans}
-use Rattle.simplicial_law.specs.Names.{CongruentInt, integral_coboundary}
-use Rattle.steenrod_law.proofs.AdditiveMaps.{adds-signed, coboundary-sum}
-use Rattle.steenrod_law.proofs.Degrees.{value-size}
-use Rattle.steenrod_law.proofs.Forms.{HasDegreeBelow, IsCochain, IsFaceClosed, IsIntegralCocycle, IsWeakFace, cup}
-use Rattle.steenrod_law.proofs.ValuesOnFaces.{value-at, value-none-at}
+use Rattle.std.proofs.{Common.{◌≤◌, length, ◌≡◌, ℕ, suc, ◌+◌, List, [], ◌∷◌, refl, ◌∙◌, ap, arith, ℤ, pos, ◌+ℤ◌, ◌*ℤ◌}, Math.IntN.*ℤ-zero, lemmas.Int.ints}
+use Rattle.interval_cut_law.{proofs.BoundaryLaws.{degeneracy_law, product_normalized}, proofs.CochainLaws.cut_sum-sum, proofs.Degeneracy.product_rule, specs.Names.{cut_sum, value_product}}
+use Rattle.signed_sum.{proofs.Names.{add-mul, mul-add, signed-parity, signed-signed, signed-zero}, specs.Names.signed}
+use Rattle.simplicial_law.{proofs.Names.{CongruentInt-signed, CongruentInt-sum, CongruentInt_from, CongruentInt_of, CongruentInt_refl, CongruentInt_sym, CongruentInt_trans}, specs.Names.{CongruentInt, integral_coboundary}}
+use Rattle.steenrod_law.proofs.{AdditiveMaps.{adds-signed, coboundary-sum}, Degrees.value-size, Forms.{HasDegreeBelow, IsCochain, IsFaceClosed, IsIntegralCocycle, IsWeakFace, cup}, ValuesOnFaces.{value-at, value-none-at}}
 use Rattle.surjection_law.specs.Names.{IsOnto}
 
 onto : IsOnto 2 (1 ∷ 2 ∷ [])

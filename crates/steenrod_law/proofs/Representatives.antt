@@ -1,17 +1,9 @@
 -- D of a coboundary is a coboundary.
 use Rattle.std.proofs.Common.{◌≡◌, ℕ, suc, ◌-◌, ◌≤◌, Bool, List, map, length, sym, ◌∙◌, ap, arith, ℤ, ◌+ℤ◌}
 use Rattle.interval_cut_law.specs.Names.{one_coboundary, operation_value}
-use Rattle.signed_sum.specs.Names.{signed, word_boundary}
-use Rattle.simplicial_law.proofs.Names.{CongruentInt_of, CongruentInt_sym, CongruentInt_trans}
-use Rattle.simplicial_law.specs.Names.{CongruentInt, integral_coboundary}
-use Rattle.steenrod_law.proofs.AdditiveMaps.{adds-coboundary, adds-over, adds-signed, adds-sum_to, coboundary-sum}
-use Rattle.steenrod_law.proofs.Forms.{IsCochain, IsMayFamily, IsPrime, SurjectionTerm, boundary_over, operation_of}
-use Rattle.steenrod_law.proofs.Staircase.{stair-sum, whole-stair}
-use Rattle.steenrod_law.proofs.ValuesOnFaces.{value-none-at}
-use Rattle.steenrod_law.proofs.WordBoundary.{letters-copies, letters-normalized, relation, relation-first, some, sum-law}
-use Rattle.steenrod_law.proofs.WordCochains.{coboundary-cochain, coboundary-twice, degrees-letters, over-same, word-bound}
-use Rattle.steenrod_law.specs.Names.{staircase_sum, sum_to, sum_value, word_cochains, letter_degree, staircase, boundary_value}
-use Rattle.signed_sum.proofs.Names.{value_at-sum}
+use Rattle.signed_sum.{specs.Names.{signed, word_boundary}, proofs.Names.value_at-sum}
+use Rattle.simplicial_law.{proofs.Names.{CongruentInt_of, CongruentInt_sym, CongruentInt_trans}, specs.Names.{CongruentInt, integral_coboundary}}
+use Rattle.steenrod_law.{proofs.AdditiveMaps.{adds-coboundary, adds-over, adds-signed, adds-sum_to, coboundary-sum}, proofs.Forms.{IsCochain, IsMayFamily, IsPrime, SurjectionTerm, boundary_over, operation_of}, proofs.Staircase.{stair-sum, whole-stair}, proofs.ValuesOnFaces.value-none-at, proofs.WordBoundary.{letters-copies, letters-normalized, relation, relation-first, some, sum-law}, proofs.WordCochains.{coboundary-cochain, coboundary-twice, degrees-letters, over-same, word-bound}, specs.Names.{staircase_sum, sum_to, sum_value, word_cochains, letter_degree, staircase, boundary_value}}
 
 pub representatives : (p d n : ℕ) (x : ℕ → List SurjectionTerm) (y : List ℕ → ℤ) (s : List ℕ) → IsPrime p → IsMayFamily p x → IsCochain n y → 1 ≤ length s →
     CongruentInt p (operation_of p (x d) (integral_coboundary y) s) (integral_coboundary (staircase_sum p n d x y) s)

@@ -1,17 +1,9 @@
 -- D of c a is c times D of a.
-use Rattle.std.proofs.Common.{◌≡◌, ℕ, zero, suc, ◌≤◌, List, [], ◌∷◌, refl, sym, ◌∙◌, ap, arith, ℤ, pos, ◌+ℤ◌, ◌*ℤ◌}
-use Rattle.std.proofs.Math.IntN.{zero-*ℤ, *ℤ-zero, *ℤ_comm}
-use Rattle.std.proofs.lemmas.Int.{ints}
-use Rattle.interval_cut_law.proofs.CochainLaws.{cut_sum-sum}
-use Rattle.interval_cut_law.specs.Names.{cut_sum, operation_value, value_product}
+use Rattle.std.proofs.{Common.{◌≡◌, ℕ, zero, suc, ◌≤◌, List, [], ◌∷◌, refl, sym, ◌∙◌, ap, arith, ℤ, pos, ◌+ℤ◌, ◌*ℤ◌}, Math.IntN.{zero-*ℤ, *ℤ-zero, *ℤ_comm}, lemmas.Int.ints}
+use Rattle.interval_cut_law.{proofs.CochainLaws.cut_sum-sum, specs.Names.{cut_sum, operation_value, value_product}}
 use Rattle.signed_sum.proofs.Names.{add-mul, mul_assoc, one-mul}
-use Rattle.simplicial_law.proofs.Names.{CongruentInt-sum, CongruentInt-times, CongruentInt_from, CongruentInt_of, CongruentInt_refl, CongruentInt_sym, CongruentInt_trans}
-use Rattle.simplicial_law.specs.Names.{CongruentInt}
-use Rattle.steenrod_law.proofs.AdditiveMaps.{adds-scale}
-use Rattle.steenrod_law.proofs.Binomials.{difference, difference-sum, difference-whole}
-use Rattle.steenrod_law.proofs.Forms.{IsPrime, SurjectionTerm, operation_of, value_over}
-use Rattle.steenrod_law.proofs.WordCochains.{over-sum}
-use Rattle.steenrod_law.specs.Names.{copies}
+use Rattle.simplicial_law.{proofs.Names.{CongruentInt-sum, CongruentInt-times, CongruentInt_from, CongruentInt_of, CongruentInt_refl, CongruentInt_sym, CongruentInt_trans}, specs.Names.CongruentInt}
+use Rattle.steenrod_law.{proofs.AdditiveMaps.adds-scale, proofs.Binomials.{difference, difference-sum, difference-whole}, proofs.Forms.{IsPrime, SurjectionTerm, operation_of, value_over}, proofs.WordCochains.over-sum, specs.Names.copies}
 
 pub pow : ℤ → ℕ → ℤ
 pow c zero = pos 1

@@ -1,16 +1,9 @@
 -- The staircase of words.
-use Rattle.std.proofs.Common.{◌≡◌, ℕ, zero, suc, ◌-◌, ◌*◌, ◌%◌, ◌≤◌, true, false, Bool, List, [], ◌∷◌, ◌++◌, length, refl, sym, ◌∙◌, ap, arith, length-append, ◌⊎◌, inl, inr, subst, ℤ, pos, ◌+ℤ◌, ◌*ℤ◌}
-use Rattle.std.proofs.Math.IntN.{zero-*ℤ, suc_ℤ-*ℤ, *ℤ_comm}
-use Rattle.std.proofs.lemmas.Int.{ints}
-use Rattle.signed_sum.proofs.Names.{signed-parity, signed-zero, bound-false, bound-true}
-use Rattle.signed_sum.specs.Names.{signed}
-use Rattle.simplicial_law.proofs.Names.{CongruentInt-neg, CongruentInt-signed, CongruentInt-sum, CongruentInt_from, CongruentInt_multiple, CongruentInt_of, CongruentInt_refl, CongruentInt_sym, CongruentInt_trans, sign-two}
-use Rattle.simplicial_law.specs.Names.{CongruentInt}
+use Rattle.std.proofs.{Common.{◌≡◌, ℕ, zero, suc, ◌-◌, ◌*◌, ◌%◌, ◌≤◌, true, false, Bool, List, [], ◌∷◌, ◌++◌, length, refl, sym, ◌∙◌, ap, arith, length-append, ◌⊎◌, inl, inr, subst, ℤ, pos, ◌+ℤ◌, ◌*ℤ◌}, Math.IntN.{zero-*ℤ, suc_ℤ-*ℤ, *ℤ_comm}, lemmas.Int.ints}
+use Rattle.signed_sum.{proofs.Names.{signed-parity, signed-zero, bound-false, bound-true}, specs.Names.signed}
+use Rattle.simplicial_law.{proofs.Names.{CongruentInt-neg, CongruentInt-signed, CongruentInt-sum, CongruentInt_from, CongruentInt_multiple, CongruentInt_of, CongruentInt_refl, CongruentInt_sym, CongruentInt_trans, sign-two}, specs.Names.CongruentInt}
 use Rattle.linear_law.proofs.Names.{length-copies}
-use Rattle.steenrod_law.proofs.AdditiveMaps.{adds-signed, adds-zero}
-use Rattle.steenrod_law.proofs.Primes.{prime_of_field}
-use Rattle.steenrod_law.proofs.WordLemmas.{bound-step, homotopy, step-step, step-sum}
-use Rattle.steenrod_law.specs.Names.{StaircaseLaw, sum_to, choice, contraction, copies, letter_degree, norm, staircase, step, turn_back, turn_back_less_one, turn_back_power, boundary_value, word_degree}
+use Rattle.steenrod_law.{proofs.AdditiveMaps.{adds-signed, adds-zero}, proofs.Primes.prime_of_field, proofs.WordLemmas.{bound-step, homotopy, step-step, step-sum}, specs.Names.{StaircaseLaw, sum_to, choice, contraction, copies, letter_degree, norm, staircase, step, turn_back, turn_back_less_one, turn_back_power, boundary_value, word_degree}}
 
 -- h and g agree modulo p on the words that are On
 abbrev pub AlikeOn : (List Bool → Type 0) → ℕ → (List Bool → ℤ) → (List Bool → ℤ) → Type 0

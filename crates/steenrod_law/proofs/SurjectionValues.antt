@@ -1,23 +1,12 @@
 -- The value of one surjection: on cocycles, and turned.
-use Rattle.std.proofs.Common.{◌≡◌, ℕ, suc, ◌+◌, ◌*◌, ◌≤◌, ◌<◌, List, [], ◌∷◌, ◌++◌, map, length, sum, refl, sym, ◌∙◌, ap, arith, ℤ, pos, ◌+ℤ◌}
-use Rattle.std.specs.List.{AllZip}
-use Rattle.std.proofs.lemmas.Int.{ints}
-use Rattle.std.proofs.lemmas.List.Sums.{sum_by-cons}
-use Rattle.interval_cut_law.proofs.BoundaryLaws.{cochain_boundary_law}
-use Rattle.interval_cut_law.specs.Names.{AreNormalized, one_coboundary, operation_value}
+use Rattle.std.{proofs.Common.{◌≡◌, ℕ, suc, ◌+◌, ◌*◌, ◌≤◌, ◌<◌, List, [], ◌∷◌, ◌++◌, map, length, sum, refl, sym, ◌∙◌, ap, arith, ℤ, pos, ◌+ℤ◌}, specs.List.AllZip, proofs.lemmas.Int.ints, proofs.lemmas.List.Sums.sum_by-cons}
+use Rattle.interval_cut_law.{proofs.BoundaryLaws.cochain_boundary_law, specs.Names.{AreNormalized, one_coboundary, operation_value}}
 use Rattle.fp_field.specs.Element.{sign_power}
 use Rattle.linear_law.proofs.Names.{length_alike}
-use Rattle.signed_sum.proofs.Names.{one-mul, signed-+, signed-parity, signed-signed, signed-zero}
-use Rattle.signed_sum.specs.Names.{cycle, signed, unit_terms, value_at}
-use Rattle.simplicial_law.proofs.Names.{CongruentInt-signed, CongruentInt-sum, CongruentInt_of, CongruentInt_refl, CongruentInt_sym, CongruentInt_trans}
-use Rattle.simplicial_law.specs.Names.{Cochain, IsCocycle, coboundary, CongruentInt, HaveDegrees, integral_coboundary}
+use Rattle.signed_sum.{proofs.Names.{one-mul, signed-+, signed-parity, signed-signed, signed-zero}, specs.Names.{cycle, signed, unit_terms, value_at}}
+use Rattle.simplicial_law.{proofs.Names.{CongruentInt-signed, CongruentInt-sum, CongruentInt_of, CongruentInt_refl, CongruentInt_sym, CongruentInt_trans}, specs.Names.{Cochain, IsCocycle, coboundary, CongruentInt, HaveDegrees, integral_coboundary}}
 use Rattle.surjection_law.specs.Names.{caesura_count, surjection_boundary}
-use Rattle.steenrod_law.proofs.Complexes.{coboundary-residues, extended-cochain, extended-cocycle, residue_cochain-same, weak-closed, weak_of_simplex}
-use Rattle.steenrod_law.proofs.CycleFaces.{sum_of, value-cycle}
-use Rattle.steenrod_law.proofs.Forms.{IsWeakFace}
-use Rattle.steenrod_law.proofs.OperationLaws.{above_one, sign-same, to_residues, vertices}
-use Rattle.steenrod_law.proofs.ValuesOnFaces.{value-none-at}
-use Rattle.steenrod_law.specs.Names.{CocycleValueLaw, TurnedValueLaw, IsWeakSimplex, all_extended, extended, value_on, sum_value}
+use Rattle.steenrod_law.{proofs.Complexes.{coboundary-residues, extended-cochain, extended-cocycle, residue_cochain-same, weak-closed, weak_of_simplex}, proofs.CycleFaces.{sum_of, value-cycle}, proofs.Forms.IsWeakFace, proofs.OperationLaws.{above_one, sign-same, to_residues, vertices}, proofs.ValuesOnFaces.value-none-at, specs.Names.{CocycleValueLaw, TurnedValueLaw, IsWeakSimplex, all_extended, extended, value_on, sum_value}}
 
 -- the value of a sum of one surjection
 one-value : (r : ℕ) (u : List ℕ) (cs : List (List ℕ → ℤ)) (s : List ℕ) → sum_value r (unit_terms (u ∷ [])) cs s ≡ operation_value r u cs s

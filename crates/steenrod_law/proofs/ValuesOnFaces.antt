@@ -1,16 +1,9 @@
 -- A value depends on the values of the cochains on the faces of the simplex alone.
 use Rattle.std.proofs.Common.{ℕ, zero, suc, ◌≤◌, true, false, Bool, cond, ◌==◌, List, [], ◌∷◌, ◌++◌, length, sym, ◌∙◌, ap, arith, ℤ, pos}
-use Rattle.interval_cut_law.proofs.CochainLaws.{cut_sum-zero}
-use Rattle.interval_cut_law.proofs.CutsAsWalks.{cut_sum-walk_sum}
-use Rattle.interval_cut_law.proofs.Walks.{Cell, edge, next, walk_exponent, walk_face, walk_faces, walk_sum, walk_term}
-use Rattle.interval_cut_law.specs.Names.{cut_sum, operation_value, value_product}
+use Rattle.interval_cut_law.{proofs.CochainLaws.cut_sum-zero, proofs.CutsAsWalks.cut_sum-walk_sum, proofs.Walks.{Cell, edge, next, walk_exponent, walk_face, walk_faces, walk_sum, walk_term}, specs.Names.{cut_sum, operation_value, value_product}}
 use Rattle.signed_sum.specs.Names.{numbers_from}
-use Rattle.simplicial_law.proofs.Names.{CongruentInt-signed, CongruentInt-sum, CongruentInt-times, CongruentInt_of, CongruentInt_refl, CongruentInt_trans}
-use Rattle.simplicial_law.specs.Names.{CongruentInt}
-use Rattle.steenrod_law.proofs.Forms.{AreTerms, IsWeakFace, SurjectionTerm, drop, none, operation_of, take}
-use Rattle.steenrod_law.proofs.WordBoundary.{some}
-use Rattle.steenrod_law.proofs.WordCochains.{over-same, product-none}
-use Rattle.steenrod_law.specs.Names.{copies}
+use Rattle.simplicial_law.{proofs.Names.{CongruentInt-signed, CongruentInt-sum, CongruentInt-times, CongruentInt_of, CongruentInt_refl, CongruentInt_trans}, specs.Names.CongruentInt}
+use Rattle.steenrod_law.{proofs.Forms.{AreTerms, IsWeakFace, SurjectionTerm, drop, none, operation_of, take}, proofs.WordBoundary.some, proofs.WordCochains.{over-same, product-none}, specs.Names.copies}
 
 -- equal modulo p on the faces of s
 abbrev pub AllAt : ℕ → List ℕ → List (List ℕ → ℤ) → List (List ℕ → ℤ) → Type 0

@@ -1,15 +1,9 @@
 -- The boundary law and the relations, on the values of May elements on words.
 use Rattle.std.proofs.Common.{◌≡◌, ℕ, zero, suc, ◌+◌, ◌%◌, ◌≤◌, true, false, Bool, List, [], ◌∷◌, length, refl, sym, ◌∙◌, ap, arith, ℤ, pos, ◌+ℤ◌, neg_ℤ}
-use Rattle.interval_cut_law.proofs.BoundaryLaws.{cochain_boundary_law}
-use Rattle.interval_cut_law.specs.Names.{AreNormalized, one_coboundary, operation_value}
+use Rattle.interval_cut_law.{proofs.BoundaryLaws.cochain_boundary_law, specs.Names.{AreNormalized, one_coboundary, operation_value}}
 use Rattle.signed_sum.specs.Names.{signed, IsNormalized, value_at}
-use Rattle.simplicial_law.proofs.Names.{CongruentInt_of, CongruentInt_trans}
-use Rattle.simplicial_law.specs.Names.{CongruentInt, HaveDegrees, integral_coboundary}
-use Rattle.steenrod_law.proofs.AdditiveMaps.{adds-coboundary, adds-over, adds-signed}
-use Rattle.steenrod_law.proofs.Forms.{AreTerms, IsCochain, IsMayFamily, SurjectionTerm, boundary_over, turn_less, turned_total, value_over}
-use Rattle.steenrod_law.proofs.WordCochains.{over-equal, over-same, over-sum, word-cycle, word-turn_sum}
-use Rattle.steenrod_law.proofs.WordLemmas.{minus-sum, norm-sum}
-use Rattle.steenrod_law.specs.Names.{sum_value, word_cochains, choice, copies, norm, step, turn_back_less_one}
+use Rattle.simplicial_law.{proofs.Names.{CongruentInt_of, CongruentInt_trans}, specs.Names.{CongruentInt, HaveDegrees, integral_coboundary}}
+use Rattle.steenrod_law.{proofs.AdditiveMaps.{adds-coboundary, adds-over, adds-signed}, proofs.Forms.{AreTerms, IsCochain, IsMayFamily, SurjectionTerm, boundary_over, turn_less, turned_total, value_over}, proofs.WordCochains.{over-equal, over-same, over-sum, word-cycle, word-turn_sum}, proofs.WordLemmas.{minus-sum, norm-sum}, specs.Names.{sum_value, word_cochains, choice, copies, norm, step, turn_back_less_one}}
 use Rattle.surjection_law.specs.Names.{surjection_boundary, IsOnto}
 
 pub some : (p : ℕ) (u : List ℕ) → 1 ≤ p → IsOnto p u → 1 ≤ length u

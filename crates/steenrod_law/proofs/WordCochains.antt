@@ -1,19 +1,9 @@
 -- Words of cochains.
-use Rattle.std.proofs.Common.{◌≡◌, ℕ, zero, suc, ◌+◌, ◌*◌, ◌≤◌, true, false, Bool, cond, List, [], ◌∷◌, ◌++◌, map, length, refl, sym, ◌∙◌, ap, arith, subst, ℤ, pos, ◌+ℤ◌, ◌*ℤ◌, pred}
-use Rattle.std.proofs.Math.IntN.{zero-*ℤ, *ℤ-zero}
-use Rattle.std.proofs.lemmas.Int.{ints}
-use Rattle.std.proofs.lemmas.Bool.{or_left}
-use Rattle.std.proofs.lemmas.List.{map-append}
-use Rattle.interval_cut_law.proofs.BoundaryLaws.{degeneracy_law, product_normalized}
-use Rattle.interval_cut_law.specs.Names.{one_coboundary, operation_value, value_product}
-use Rattle.signed_sum.proofs.Names.{without_one-without_one, mul-add, mul_comm, one-mul, signed-zero, bound-false, bound-true}
-use Rattle.signed_sum.specs.Names.{is_degenerate, unless_empty, signed, without_one}
-use Rattle.simplicial_law.proofs.Names.{CongruentInt-signed, CongruentInt-sum, CongruentInt-times, CongruentInt_of, CongruentInt_refl, CongruentInt_trans}
-use Rattle.simplicial_law.specs.Names.{CongruentInt, HasDegree, HaveDegrees, integral_coboundary, tensor_boundary}
-use Rattle.steenrod_law.proofs.CycleFaces.{onto-cycle, sum_of, value-cycle}
-use Rattle.steenrod_law.proofs.Forms.{AreTerms, IsCochain, SurjectionTerm, turned_total, value_over}
-use Rattle.steenrod_law.proofs.Staircase.{Alike, back-alike}
-use Rattle.steenrod_law.specs.Names.{word_cochains, letter_degree, norm, turn_back, turn_back_power, boundary_value, word_degree}
+use Rattle.std.proofs.{Common.{◌≡◌, ℕ, zero, suc, ◌+◌, ◌*◌, ◌≤◌, true, false, Bool, cond, List, [], ◌∷◌, ◌++◌, map, length, refl, sym, ◌∙◌, ap, arith, subst, ℤ, pos, ◌+ℤ◌, ◌*ℤ◌, pred}, Math.IntN.{zero-*ℤ, *ℤ-zero}, lemmas.Int.ints, lemmas.Bool.or_left, lemmas.List.map-append}
+use Rattle.interval_cut_law.{proofs.BoundaryLaws.{degeneracy_law, product_normalized}, specs.Names.{one_coboundary, operation_value, value_product}}
+use Rattle.signed_sum.{proofs.Names.{without_one-without_one, mul-add, mul_comm, one-mul, signed-zero, bound-false, bound-true}, specs.Names.{is_degenerate, unless_empty, signed, without_one}}
+use Rattle.simplicial_law.{proofs.Names.{CongruentInt-signed, CongruentInt-sum, CongruentInt-times, CongruentInt_of, CongruentInt_refl, CongruentInt_trans}, specs.Names.{CongruentInt, HasDegree, HaveDegrees, integral_coboundary, tensor_boundary}}
+use Rattle.steenrod_law.{proofs.CycleFaces.{onto-cycle, sum_of, value-cycle}, proofs.Forms.{AreTerms, IsCochain, SurjectionTerm, turned_total, value_over}, proofs.Staircase.{Alike, back-alike}, specs.Names.{word_cochains, letter_degree, norm, turn_back, turn_back_power, boundary_value, word_degree}}
 use Rattle.surjection_law.specs.Names.{caesura_count, IsOnto}
 use Rattle.table_reduction_law.specs.Names.{cycle, turned}
 

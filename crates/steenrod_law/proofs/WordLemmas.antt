@@ -1,10 +1,7 @@
 -- Words: turns, steps, boundaries and the contraction.
-use Rattle.std.proofs.Common.{◌≡◌, ℕ, zero, suc, ◌+◌, ◌*◌, ◌%◌, true, false, Bool, List, [], ◌∷◌, ◌++◌, length, take, drop, refl, sym, ◌∙◌, ap, arith, append_assoc, append-nil, length-drop, ℤ, pos, ◌+ℤ◌, ◌-ℤ◌, ◌*ℤ◌, neg_ℤ, length-take-le, take-append-drop}
-use Rattle.std.proofs.lemmas.Int.{ints}
-use Rattle.signed_sum.proofs.Names.{one-mul, signed-+, signed-parity, signed-signed, signed-zero, value_at-nothing, value_at-sub, value_at-sum, at_turn, at_turned, at_turned-end, bound-false, bound-true, bound-turn, bound-twice, degree-append, times-signed, turned-round as turned-whole, turns-through, two-even, whole-word}
-use Rattle.signed_sum.specs.Names.{signed, value_at, power_sum, last_letter, letters_before_last, word_boundary, word_turn}
-use Rattle.steenrod_law.proofs.AdditiveMaps.{adds-neg, adds-zero}
-use Rattle.steenrod_law.specs.Names.{WordLaws, boundary_value, choice, contraction, letter_degree, norm, step, turn_back, turn_back_less_one, turn_back_power, word_degree}
+use Rattle.std.proofs.{Common.{◌≡◌, ℕ, zero, suc, ◌+◌, ◌*◌, ◌%◌, true, false, Bool, List, [], ◌∷◌, ◌++◌, length, take, drop, refl, sym, ◌∙◌, ap, arith, append_assoc, append-nil, length-drop, ℤ, pos, ◌+ℤ◌, ◌-ℤ◌, ◌*ℤ◌, neg_ℤ, length-take-le, take-append-drop}, lemmas.Int.ints}
+use Rattle.signed_sum.{proofs.Names.{one-mul, signed-+, signed-parity, signed-signed, signed-zero, value_at-nothing, value_at-sub, value_at-sum, at_turn, at_turned, at_turned-end, bound-false, bound-true, bound-turn, bound-twice, degree-append, times-signed, turned-round as turned-whole, turns-through, two-even, whole-word}, specs.Names.{signed, value_at, power_sum, last_letter, letters_before_last, word_boundary, word_turn}}
+use Rattle.steenrod_law.{proofs.AdditiveMaps.{adds-neg, adds-zero}, specs.Names.{WordLaws, boundary_value, choice, contraction, letter_degree, norm, step, turn_back, turn_back_less_one, turn_back_power, word_degree}}
 use Rattle.table_reduction_law.proofs.PowerPairs.{sum_below}
 
 module _ (deg : Bool → ℕ) where

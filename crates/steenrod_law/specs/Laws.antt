@@ -1,15 +1,11 @@
 -- The laws of the Steenrod operations.
-use Rattle.std.specs.Prelude.{◌≡◌, ℕ, ◌+◌, ◌*◌, ◌-◌, ◌≤◌, Bool, List, [], ◌∷◌, ◌++◌, length, map, sum, ℤ, pos, ◌+ℤ◌, ◌*ℤ◌, suc, IsTrue}
-use Rattle.std.specs.List.{AllZip}
-use Rattle.fp_field.specs.Element.{sign_power}
-use Rattle.fp_field.specs.Orbits.{orbit_words}
-use Rattle.fp_field.specs.Served.{served}
+use Rattle.std.specs.{Prelude.{◌≡◌, ℕ, ◌+◌, ◌*◌, ◌-◌, ◌≤◌, Bool, List, [], ◌∷◌, ◌++◌, length, map, sum, ℤ, pos, ◌+ℤ◌, ◌*ℤ◌, suc, IsTrue}, List.AllZip}
+use Rattle.fp_field.specs.{Element.sign_power, Orbits.orbit_words, Served.served}
 use Rattle.linear_law.specs.Names.{Congruent, IsField, negated, Each, matrix_times, combination}
 use Rattle.simplicial_law.specs.Names.{IsSimplex, no_cochain, AgreesOnSimplices, Cochain, HasCoordinates, IsCoboundary, IsCocycle, IsCohomologyBasis, coboundary, CongruentInt}
-use Rattle.steenrod_law.specs.Operations.{IsBocksteinPower, IsPower, IsSimplicial, IsSquare, cochain_products, coefficient_products, cup_product, may_operation, orbit_primitive, power_degree, pull_back, scaled_operation, staircase_primitive, value_on}
+use Rattle.steenrod_law.specs.{Operations.{IsBocksteinPower, IsPower, IsSimplicial, IsSquare, cochain_products, coefficient_products, cup_product, may_operation, orbit_primitive, power_degree, pull_back, scaled_operation, staircase_primitive, value_on}, Words.{IsOrbitTable, boundary_value, contraction, letter_degree, norm, staircase, step, turn_back}}
 use Rattle.signed_sum.specs.Names.{cycle, unit_terms, value_at, after_turns, power_sum, word_turn}
 use Rattle.surjection_law.specs.Names.{caesura_count, surjection_boundary, IsOnto}
-use Rattle.steenrod_law.specs.Words.{IsOrbitTable, boundary_value, contraction, letter_degree, norm, staircase, step, turn_back}
 
 -- Words are a cyclic model: `turn_back` undoes the turn, as many turns as there are letters do nothing,
 -- the sum of all turns is that of all inverse turns, the boundary of a boundary is zero, and the

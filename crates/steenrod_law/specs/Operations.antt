@@ -7,8 +7,7 @@ use Rattle.linear_law.specs.Names.{negated, Among, Each}
 use Rattle.simplicial_law.specs.Names.{IsSimplex, AgreesOnSimplices, Cochain}
 use Rattle.interval_cut_law.specs.Names.{operation_value}
 use Rattle.table_reduction_law.specs.Names.{may_element}
-use Rattle.steenrod_law.specs.Words.{copies}
-use Rattle.steenrod_law.specs.Values.{orbit_sum, staircase_sum, sum_value}
+use Rattle.steenrod_law.specs.{Words.copies, Values.{orbit_sum, staircase_sum, sum_value}}
 
 -- a cochain of degree q as a function of all lists of vertices: it is 0 on lists of another length and
 -- on lists in which a vertex repeats
