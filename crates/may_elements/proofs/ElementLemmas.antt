@@ -1,16 +1,10 @@
 -- May elements as sums over pairs, and the number of their candidates.
 use native.Mathlib.Decide.{dec_le}
-use Rattle.std.proofs.Math.Nat.{le-mul_of_pos_right, min-eq_left, min-eq_right, pow-succ'}
-use Rattle.std.proofs.Common.{◌≡◌, ℕ, zero, suc, length, ◌+◌, ◌-◌, ◌*◌, ◌/◌, ◌%◌, ◌^◌, ◌≤◌, min, List, [], ◌∷◌, ◌++◌, refl, sym, ◌∙◌, ap, arith, ℤ}
+use Rattle.std.proofs.{Math.Nat.{le-mul_of_pos_right, min-eq_left, min-eq_right, pow-succ'}, Common.{◌≡◌, ℕ, zero, suc, length, ◌+◌, ◌-◌, ◌*◌, ◌/◌, ◌%◌, ◌^◌, ◌≤◌, min, List, [], ◌∷◌, ◌++◌, refl, sym, ◌∙◌, ap, arith, ℤ, ◌+ℤ◌}, lemmas.Int.ints}
 use Rattle.may_elements.specs.Counted.{cut_off}
-use Rattle.may_elements.specs.Pairs.{IsPairSum, list_count}
-use Rattle.table_reduction_law.specs.Names.{tuple_degree, binomial, candidate_count, in_turn, leading_entries, may_element, pair_count, table_reduction}
+use Rattle.table_reduction_law.{specs.Names.{in_turn, leading_entries, may_element, pair_count}, proofs.FormalSums.value_at-may_element, proofs.MayTwo.may_two_law, proofs.PowerPairs.may_sum}
 use Rattle.operad_law.specs.FormalSums.{IsSameSum}
-use Rattle.signed_sum.proofs.Names.{fun_ext}
-use Rattle.signed_sum.specs.Names.{cycle_power, value_at}
-use Rattle.table_reduction_law.proofs.FormalSums.{value_at-may_element, value_at-table_reduction}
-use Rattle.table_reduction_law.proofs.MayTwo.{may_two_law}
-use Rattle.table_reduction_law.proofs.PowerPairs.{pair_sum}
+use Rattle.signed_sum.specs.Names.{cycle_power, normalized, total, value_at}
 
 pub pair_count-half : (d : ℕ) → pair_count d ≡ d / 2
 pair_count-half zero = refl
@@ -27,16 +21,9 @@ lead-odd p zero h = absurd (let e : 0 % 2 ≡ 0 = refl in omega arith)
 lead-odd p (suc zero) h = refl
 lead-odd p (suc (suc d)) h = lead-odd p d (omega arith)
 
--- the sum over all pairs after the leading entries
-pub element-is : (p d : ℕ) (s : List (List ℕ × ℤ)) → IsPairSum p (d / 2) (leading_entries p d) s → IsSameSum s (may_element p d)
-element-is p d s a = record {
-  at = λ phi.
-      let lead : List (List ℕ) = leading_entries p d in
-      a.at phi
-      ∙ ap (λ k. pair_sum p k (λ t. value_at phi (table_reduction (lead ++ t)))) (sym (pair_count-half d))
-      ∙ ap (pair_sum p (pair_count d)) (fun_ext (λ t. value_at-table_reduction phi (lead ++ t)))
-      ∙ sym (value_at-may_element p d phi);
-}
+-- the sum of the lists that a walk over all tuples adds to none
+pub element-is : (p d : ℕ) (s : List (List ℕ × ℤ)) (old new : List (List ℕ)) → old ≡ [] → ((phi : List ℕ → ℤ) → total phi new ≡ total phi old +ℤ may_sum p d (normalized phi)) → ((phi : List ℕ → ℤ) → value_at phi s ≡ total phi new) → IsSameSum s (may_element p d)
+element-is p d s old new e n a = record { at = λ phi. omega (arith, ints, a phi, n phi, ap (total phi) e, value_at-may_element p d phi) }
 
 pub element-at_two : (p d : ℕ) (s : List (List ℕ × ℤ)) → IsSameSum s (may_element p d) → (h : List ℕ → ℤ) → p ≡ 2 → value_at h s ≡ h (in_turn 1 2 (d + 2))
 element-at_two p d s a h two = a.at h ∙ ap (λ q. value_at h (may_element q d)) two ∙ may_two_law d h
@@ -57,22 +44,3 @@ cut-more p i b count h e =
     let more : p ^ (i + 1) ≡ p * p ^ i = ap (λ k. p ^ k) one ∙ pow-succ' p i in
     let q : p * (p ^ i * b) ≡ p ^ (i + 1) * b = omega (arith, ap (λ v. v * b) more) in
     ap (λ v. min (10 ^ 15) (v * p)) e ∙ cut_times p (p ^ i * b) h ∙ ap cut_off q
-
-pub lead-some : (p d : ℕ) → 1 ≤ length (leading_entries p d)
-lead-some p zero = omega arith
-lead-some p (suc zero) = omega arith
-lead-some p (suc (suc d)) = lead-some p d
-
-lead-degree : (p d : ℕ) → tuple_degree (leading_entries p d) + 2 * (d / 2) ≡ d
-lead-degree p zero = refl
-lead-degree p (suc zero) = refl
-lead-degree p (suc (suc d)) = omega (arith, lead-degree p d)
-
-pub whole-degree : (p d : ℕ) (entries : List (List ℕ)) → entries ≡ leading_entries p d → tuple_degree entries + 2 * (d / 2) ≡ d
-whole-degree p d entries e = ap (λ w. tuple_degree w + 2 * (d / 2)) e ∙ lead-degree p d
-
--- the lists that come from all tuples are the candidates
-pub whole-count : (p d : ℕ) (entries : List (List ℕ)) → entries ≡ leading_entries p d → list_count p (d / 2) (tuple_degree entries + 2 * (d / 2)) ≡ candidate_count p d
-whole-count p d entries e =
-    ap (list_count p (d / 2)) (whole-degree p d entries e)
-    ∙ ap (λ k. p ^ k * binomial (p + d - 1) d) (sym (pair_count-half d))

@@ -1,12 +1,10 @@
 -- Stored May elements, their boundary, and what they cost.
-use Rattle.std.proofs.Common.{◌≡◌, ◌≢◌, ℕ, zero, suc, ◌+◌, ◌%◌, ◌==◌, ◌≤◌, cond, true, false, List, [], ◌∷◌, ◌++◌, refl, sym, ◌∙◌, ap, arith, eq-eqb, inl, inr, ℤ, None, Some, IsSome, is_some}
-use Rattle.std.proofs.lemmas.Bool.Decides.{eqb_tells}
+use Rattle.std.proofs.{Common.{◌≡◌, ◌≢◌, ℕ, zero, suc, ◌+◌, ◌%◌, ◌==◌, ◌≤◌, cond, true, false, List, [], ◌∷◌, ◌++◌, refl, sym, ◌∙◌, ap, arith, eq-eqb, inl, inr, ℤ, None, Some, IsSome, is_some}, lemmas.Bool.Decides.eqb_tells}
 use Rattle.may_elements.specs.Stored.{AreMayElements, boundary_value, stored_at}
 use Rattle.operad_law.specs.FormalSums.{IsSameSum}
 use Rattle.signed_sum.specs.Names.{value_at}
 use Rattle.surjection_law.specs.Names.{surjection_boundary}
-use Rattle.table_reduction_law.proofs.FormalSums.{may_relations}
-use Rattle.table_reduction_law.specs.Names.{may_element}
+use Rattle.table_reduction_law.{proofs.FormalSums.may_relations, specs.Names.may_element}
 
 -- the boundary relation in degree d
 pub relation : (p d : ℕ) (s : List (List ℕ × ℤ)) → 1 ≤ p → IsSameSum s (may_element p d) → (h : List ℕ → ℤ) →

@@ -1,20 +1,30 @@
--- Sums over pairs of powers of the cycle.
-use Rattle.std.specs.Prelude.{◌≡◌, ℕ, suc, ◌+◌, ◌-◌, ◌*◌, ◌^◌, List, ◌∷◌, ◌++◌, ℤ}
-use Rattle.signed_sum.specs.Names.{cycle_power, value_at}
-use Rattle.table_reduction_law.specs.Names.{binomial, table_reduction}
+-- Walks over pairs of powers of the cycle.
+use Rattle.std.specs.Prelude.{◌≡◌, ◌≤◌, ℕ, suc, ◌+◌, ◌*◌, false, length, List, ◌∷◌, ◌++◌, ℤ, ◌+ℤ◌}
+use Rattle.signed_sum.specs.Names.{IsDistinct, cycle_power, is_degenerate, normalized, numbers_from, occurs, total}
+use Rattle.table_reduction.specs.Walks.{ahead}
 use Rattle.table_reduction_law.proofs.PowerPairs.{pair_sum, sum_below}
 
--- how many lists come from the tuples of degree n of which the last entries are k pairs of a power of the
--- cycle of 1 to p and the next
-abbrev pub list_count : ℕ → ℕ → ℕ → ℕ
-list_count p k n = p ^ k * binomial (p + n - 1) n
+-- `new` is `old` and the lists that begin with `values` and go on with unused entries of `left`, the rest of a row, of the
+-- rows `later`, and of k pairs of a power of the cycle of 1 to p and the next, without those that are degenerate
+pub record AddsLists (p k : ℕ) (later : List (List ℕ)) (left used values : List ℕ) (old new : List (List ℕ)) : Type 0 where
+  pub at : (phi : List ℕ → ℤ) → total phi new ≡ total phi old +ℤ pair_sum p k (λ t. ahead (later ++ t) left used values (normalized phi))
 
--- s is the sum of the table reductions of the tuples that begin with `entries` and go on with k pairs
--- of a power of the cycle and the next, where the exponents go from 0 to p - 1
-pub record IsPairSum (p k : ℕ) (entries : List (List ℕ)) (s : List (List ℕ × ℤ)) : Type 0 where
-  pub at : (phi : List ℕ → ℤ) → value_at phi s ≡ pair_sum p k (λ t. value_at phi (table_reduction (entries ++ t)))
-
--- s is the part of the sum over one pair more in which the exponent of the first pair is below n
-pub record IsPartSum (p k : ℕ) (entries : List (List ℕ)) (n : ℕ) (s : List (List ℕ × ℤ)) : Type 0 where
+-- the same, where a row has ended, and the exponent of the pair that comes next is below n
+pub record AddsBelow (p k n : ℕ) (used values : List ℕ) (old new : List (List ℕ)) : Type 0 where
   pub at : (phi : List ℕ → ℤ) →
-      value_at phi s ≡ sum_below n (λ e. pair_sum p k (λ t. value_at phi (table_reduction (entries ++ (cycle_power p e ∷ cycle_power p (suc e) ∷ t)))))
+      total phi new ≡ total phi old +ℤ sum_below n (λ e. pair_sum p k (λ t. ahead (cycle_power p (suc e) ∷ t) (cycle_power p e) used values (normalized phi)))
+
+-- what is written where k pairs follow: used entries, and no others than 1 to p
+pub record IsBegun (p k : ℕ) (used values : List ℕ) : Type 0 where
+  pub plain : is_degenerate values ≡ false
+  pub inside : (v : ℕ) → occurs v values ≤ occurs v (numbers_from 1 p)
+  pub written : (v : ℕ) → occurs v used ≤ occurs v values
+  pub short : length values + k * suc p ≤ 255
+
+-- the same within a row: each number from 1 to p is written or left
+pub record IsAt (p k : ℕ) (left used values : List ℕ) : Type 0 where
+  pub begun : IsBegun p k used values
+  pub row : IsDistinct left
+  pub among : (v : ℕ) → occurs v left ≤ occurs v (numbers_from 1 p)
+  pub covers : (v : ℕ) → occurs v (numbers_from 1 p) ≤ occurs v values + occurs v left
+  pub fits : length values + (length left + k * suc p) ≤ 255

@@ -3,16 +3,14 @@ ghost use Rattle.std.specs.Prelude.{◌≡◌, ◌↔◌, ◌≤◌, ◌<◌, �
 ghost use Rattle.fp_field.specs.Served.{served};
 ghost use Rattle.signed_sum.specs.Names.{value_at};
 ghost use Rattle.operad_law.specs.FormalSums.{IsSameSum};
-ghost use Rattle.table_reduction_law.specs.Names.{candidate_count, in_turn, leading_entries, may_element};
+ghost use Rattle.table_reduction_law.specs.Names.{candidate_count, in_turn, may_element};
 ghost use Rattle.surjection_law.specs.Names.{surjection_boundary};
-ghost use Rattle.may_elements.specs.Counted.{charged, cut_off, over};
-ghost use Rattle.may_elements.specs.Stored.{boundary_value, stored_at};
+ghost use Rattle.may_elements.specs.{Counted.{charged, cut_off, over}, Stored.{boundary_value, stored_at}};
 
-use crate::pairs::sum_over_pairs;
+use crate::pairs::PairWalk;
 use crate::terms::{MOST_COUNT, Over, Terms};
 use counting::binomial_up_to;
 use operad_law::formal_sum::FormalSum;
-use operad_law::perm::Perm;
 use std::alloc::{AllocError, Global};
 use std::marker::Model;
 use surjection::surj::Surj;
@@ -133,21 +131,8 @@ impl<const P: u32> MayTable<P> {
         ensures element { IfOk result (λ s. IsSameSum s (may_element P d)) }
         ensures at_two { IfOk result (λ s. (h : List ℕ → ℤ) → P ≡ 2 → value_at h s ≡ h (in_turn 1 2 (d + 2))) }
     {
-        let mut entries = first_entries(alloc, P as u8, d)?;
-        sum_over_pairs(alloc, P as u8, &mut entries, d / 2)
+        let mut walk = PairWalk::new(alloc);
+        walk.add_tuples(P as u8, d)?;
+        walk.into_sum()
     }
-}
-
-// The entries of the tuples of degree d that stand before the pairs.
-fn first_entries(alloc: Global, p: u8, d: u32) -> Result<Vec<Perm>, AllocError>
-    requires some { 1 ≤ p }
-    requires narrow { p ≤ 32 }
-    ensures { IfOk result (λ entries. entries.items ≡ leading_entries p d) }
-{
-    let mut entries = Vec::new(alloc);
-    entries.push(Perm::cycle(alloc, p, 0)?)?;
-    if d % 2 == 1 {
-        entries.push(Perm::cycle(alloc, p, 1)?)?;
-    }
-    Ok(entries)
 }

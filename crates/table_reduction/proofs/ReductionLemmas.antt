@@ -1,26 +1,12 @@
 -- The walk over all rows of a tuple, and the laws of its sum.
-use Rattle.std.proofs.Common.{◌≡◌, ℕ, zero, suc, ◌+◌, ◌-◌, ◌<◌, ◌≤◌, ◌==◌, ◌||◌, cond, false, List, [], ◌∷◌, ◌++◌, length, Option, None, Some, is_some, nat_lt, refl, sym, ◌∙◌, ap, subst, inl, inr, arith, ℤ, pos, ◌+ℤ◌, All, find, map, le-ltb, ne_eqb}
-use Rattle.std.proofs.lemmas.Bool.{cases_Bool}
-use Rattle.std.proofs.lemmas.Int.{ints}
-use Rattle.std.proofs.lemmas.List.Elements.{All-cons, All-head, All-nil, All-tail, All-weaker}
+use Rattle.std.proofs.{Common.{◌≡◌, ℕ, zero, suc, ◌+◌, ◌-◌, ◌<◌, ◌≤◌, ◌==◌, ◌||◌, cond, false, List, [], ◌∷◌, ◌++◌, length, Option, None, Some, is_some, nat_lt, refl, sym, ◌∙◌, ap, subst, inl, inr, arith, ℤ, pos, ◌+ℤ◌, All, find, map, le-ltb, ne_eqb}, lemmas.Bool.cases_Bool, lemmas.Int.ints, lemmas.List.Elements.{All-cons, All-head, All-nil, All-tail, All-weaker}}
 use Rattle.barratt_eccles.specs.Generators.{IsGenerator}
-use Rattle.table_reduction_law.specs.Names.{tuple_arity, tuple_degree, binomial, reduced_lists, table_reduction, unused, IsPermutationOf, IsTuple, permuted_tuple, tuple_boundary}
-use Rattle.operad_law.proofs.PermLemmas.{numbers_from-has}
+use Rattle.table_reduction_law.{specs.Names.{tuple_arity, tuple_degree, binomial, reduced_lists, table_reduction, unused, IsPermutationOf, IsTuple, permuted_tuple, tuple_boundary}, proofs.FormalSums.{reduction_action_law, reduction_boundary_law, value_at-table_reduction}, proofs.ReducedLists.reduced_lists-onto, proofs.ReductionBoundary.reduced-walked, proofs.ReductionWalks.walk, proofs.RowCounts.reduced_lists-length, proofs.UnusedEntries.unused-none}
 use Rattle.operad_law.specs.FormalSums.{IsSameSum}
-use Rattle.signed_sum.proofs.Names.{numbers_from-least, occurs-01}
-use Rattle.signed_sum.specs.Names.{IsDistinct, is_degenerate, less, numbers_from, occurs, entry_at, normalized, total, value_at}
-use Rattle.surjection.proofs.RefusalLemmas.{degenerate-is}
-use Rattle.surjection.specs.Names.{among, arity-is, equal_neighbours_from, gap_fault, gap_of, neighbours_fault, surjection_fault}
-use Rattle.surjection.specs.declared.surj.NotASurjection.TheVariants.{Empty, TooLong}
+use Rattle.signed_sum.{proofs.Names.{numbers_from-least, occurs-01, range-in}, specs.Names.{IsDistinct, is_degenerate, less, numbers_from, occurs, entry_at, normalized, total, value_at}}
+use Rattle.surjection.{proofs.RefusalLemmas.degenerate-is, specs.Names.{among, arity-is, equal_neighbours_from, gap_fault, gap_of, neighbours_fault, surjection_fault}, specs.declared.surj.NotASurjection.TheVariants.{Empty, TooLong}}
 use Rattle.surjection_law.specs.Names.{surjection_boundary, IsOnto, arity}
-use Rattle.table_reduction.proofs.WalkLemmas.{needed-ahead}
-use Rattle.table_reduction.specs.Walks.{AddsLists, needed, weight_needed}
-use Rattle.table_reduction_law.proofs.FormalSums.{reduction_action_law, reduction_boundary_law, value_at-table_reduction}
-use Rattle.table_reduction_law.proofs.ReducedLists.{reduced_lists-onto}
-use Rattle.table_reduction_law.proofs.ReductionBoundary.{reduced-walked}
-use Rattle.table_reduction_law.proofs.ReductionWalks.{walk}
-use Rattle.table_reduction_law.proofs.RowCounts.{reduced_lists-length}
-use Rattle.table_reduction_law.proofs.UnusedEntries.{unused-none}
+use Rattle.table_reduction.{proofs.WalkLemmas.needed-ahead, specs.Walks.{AddsLists, needed, weight_needed}}
 
 pub rows-distinct : (r : ℕ) (ws : List (List ℕ)) → IsTuple r ws → All IsDistinct ws
 rows-distinct r [] t = All-nil IsDistinct
@@ -35,7 +21,7 @@ not_some : {X : Type 0} (o : Option X) → is_some o ≡ false → o ≡ None
 not_some None e = refl
 not_some (Some x) e = absurd (cc)
 
-faultless : (r : ℕ) (u : List ℕ) → 1 ≤ r → r ≤ 32 → 1 ≤ length u → length u ≤ 255 → IsOnto r u → is_degenerate u ≡ false → surjection_fault u ≡ None
+pub faultless : (r : ℕ) (u : List ℕ) → 1 ≤ r → r ≤ 32 → 1 ≤ length u → length u ≤ 255 → IsOnto r u → is_degenerate u ≡ false → surjection_fault u ≡ None
 faultless r u one narrow some short onto plain =
     let top : arity u ≡ r = arity-is r u (among r u (λ v o. sym (onto v) ∙ o)) onto one in
     let a : (length u == 0) ≡ false = ne_eqb (length u) 0 (λ e. omega (arith, e, some)) in
@@ -44,7 +30,7 @@ faultless r u one narrow some short onto plain =
     let low : occurs 0 u ≡ 0 = elim (occurs-01 0 u) [ inl z ↦ z | inr z ↦ absurd (let l : less 0 1 ≡ 0 = numbers_from-least 1 r 0 (sym (onto 0) ∙ z) in cc) ] in
     let gap : gap_of u ≡ None =
     ap (λ n. cond (n == 1) (Some 0) (find (λ v. occurs v u == 0) (numbers_from 1 (arity u - 1)))) low
-    ∙ find-none u 1 (arity u - 1) (λ v p q. onto v ∙ numbers_from-has 1 r v p (omega (arith, top))) in
+    ∙ find-none u 1 (arity u - 1) (λ v p q. onto v ∙ range-in v 1 r p (omega (arith, top))) in
     let d : equal_neighbours_from 1 u ≡ None = not_some (equal_neighbours_from 1 u) (sym (degenerate-is 1 u) ∙ plain) in
     λ i. cond (a i) (Some Empty) (cond (b i || c i) (Some TooLong) (gap_fault (gap i) (neighbours_fault (d i))))
 

@@ -1,20 +1,10 @@
 -- The steps of a walk over the rows of a tuple.
-use Rattle.std.proofs.Common.{◌≡◌, ℕ, ◌==◌, ◌||◌, false, true, List, [], ◌∷◌, ◌++◌, length, refl, sym, ◌∙◌, ap, subst, arith, append_assoc, suc, ◌+◌, ◌≤◌, ◌^◌, ◌⊎◌, eqb-true, eq-eqb, inl, inr, Ordering, Equal, ℤ, pos, ◌+ℤ◌, ne_eqb, append-nil, Bool, cond, is_some, MatchOption, Option, None, Some}
-use Rattle.std.proofs.lemmas.Int.{ints}
-use Rattle.std.proofs.lemmas.Bool.{eqb-false, or_left, or_right}
-use Rattle.operad_law.proofs.PlusTerm.{value_at-plus_term, weight_of-plus_term}
-use Rattle.operad_law.specs.FormalSums.{plus_term}
-use Rattle.signed_sum.proofs.Names.{Alike, occurs-01, one-mul, fun_ext, restricted-gone, restricted-there}
-use Rattle.signed_sum.specs.Names.{is_degenerate, occurs, normalized, value_at, weight_of}
-use Rattle.std.specs.Borrow.{Bor}
-use Rattle.std.specs.List.{IsFirstAndRest}
-use Rattle.surjection.specs.Names.{surjection_fault}
-use Rattle.surjection.specs.declared.surj.NotASurjection.{NotASurjection}
+use Rattle.std.{proofs.Common.{◌≡◌, ℕ, ◌==◌, ◌||◌, false, true, List, [], ◌∷◌, ◌++◌, length, refl, sym, ◌∙◌, ap, subst, arith, append_assoc, suc, ◌+◌, ◌≤◌, ◌^◌, ◌⊎◌, eqb-true, eq-eqb, inl, inr, Ordering, Equal, ℤ, pos, ◌+ℤ◌, ne_eqb, append-nil, Bool, cond, is_some, MatchOption, Option, None, Some}, proofs.lemmas.Int.ints, proofs.lemmas.Bool.{eqb-false, or_left, or_right}, specs.Borrow.Bor, specs.List.IsFirstAndRest}
+use Rattle.operad_law.{proofs.PlusTerm.{value_at-plus_term, weight_of-plus_term}, specs.FormalSums.plus_term}
+use Rattle.signed_sum.{proofs.Names.{Alike, occurs-01, one-mul, fun_ext, restricted-gone, restricted-there}, specs.Names.{is_degenerate, occurs, normalized, value_at, weight_of}}
+use Rattle.surjection.specs.{Names.surjection_fault, declared.surj.NotASurjection.NotASurjection}
 use Rattle.table_reduction.specs.Walks.{AddsLists, ahead, count_ahead, is_last, needed, weight_needed}
-use Rattle.table_reduction_law.proofs.ReductionWalks.{walk, walk-used, walk-zero}
-use Rattle.table_reduction_law.proofs.RowsAsWalks.{inner}
-use Rattle.table_reduction_law.proofs.UnusedEntries.{unused-absent, unused-cong, unused-cons, unused-out}
-use Rattle.table_reduction_law.specs.Names.{cons_if_zero, unused}
+use Rattle.table_reduction_law.{proofs.ReductionWalks.{walk, walk-used, walk-zero}, proofs.RowsAsWalks.inner, proofs.UnusedEntries.{unused-absent, unused-cong, unused-cons, unused-out}, specs.Names.{cons_if_zero, unused}}
 
 -- the sums over what stands ahead, in whole and in natural numbers
 walk-count : (ws : List (List ℕ)) (xs a : List ℕ) (f : List ℕ → ℕ) → walk ws xs a (λ u. pos (f u)) ≡ pos (count_ahead ws xs a f)
@@ -58,7 +48,7 @@ pub occurs-no : (v : ℕ) (u : List ℕ) → (occurs v u == 1) ≡ false → occ
 occurs-no v u e = elim (occurs-01 v u) [ inl z ↦ z | inr z ↦ absurd (let t = eq-eqb (occurs v u) 1 z in cc) ]
 
 -- an entry that is used is left out
-ahead-used : (later : List (List ℕ)) (x : ℕ) (left used values : List ℕ) (h : List ℕ → ℤ) → occurs x used ≡ 1 → ahead later (x ∷ left) used values h ≡ ahead later left used values h
+pub ahead-used : (later : List (List ℕ)) (x : ℕ) (left used values : List ℕ) (h : List ℕ → ℤ) → occurs x used ≡ 1 → ahead later (x ∷ left) used values h ≡ ahead later left used values h
 ahead-used later x left used values h o = ap (λ n. walk later (cons_if_zero n x (unused used left)) used (λ u. h (values ++ u))) o
 
 needed-used : (later : List (List ℕ)) (x : ℕ) (left used values : List ℕ) → occurs x used ≡ 1 → needed later (x ∷ left) used values ≡ needed later left used values
@@ -97,6 +87,12 @@ plain-more x (y ∷ z ∷ u) d l =
 walk-nothing : (later : List (List ℕ)) (xs used : List ℕ) (h : List ℕ → ℤ) → ((u : List ℕ) → h u ≡ pos 0) → walk later xs used h ≡ pos 0
 walk-nothing later xs used h z = ap (walk later xs used) (fun_ext z) ∙ walk-zero later xs used
 
+-- where nothing goes on with the next entry
+pub walk-from_nothing : (later : List (List ℕ)) (x : ℕ) (xs used : List ℕ) (h : List ℕ → ℤ) → ((u : List ℕ) → h (x ∷ u) ≡ pos 0) → walk later (x ∷ xs) used h ≡ pos 0
+walk-from_nothing [] x xs used h z = z xs
+walk-from_nothing (w ∷ ws) x xs used h z =
+    omega (arith, ints, walk-nothing ws (unused used w) used (λ u. h (x ∷ u)) z, walk-nothing (w ∷ ws) xs (x ∷ used) (λ u. h (x ∷ u)) z)
+
 -- an entry that is the value written last
 pub adds-pruned : (later : List (List ℕ)) (x : ℕ) (left used values : List ℕ) (sum : List (List ℕ × ℤ)) →
     occurs x used ≡ 0 → is_last x values ≡ true → AddsLists later (x ∷ left) used values sum sum
@@ -104,17 +100,12 @@ adds-pruned later x left used values sum o l = record {
   at = λ phi.
       let gone : (u : List ℕ) → normalized phi (values ++ (x ∷ u)) ≡ pos 0 = λ u. restricted-gone is_degenerate phi (values ++ (x ∷ u)) (is_last-degenerate x values u l) in
       let e = ap (λ n. walk later (cons_if_zero n x (unused used left)) used (λ u. normalized phi (values ++ u))) o in
-      omega (arith, ints, e, nothing later (unused used left) (λ u. normalized phi (values ++ u)) gone);
+      omega (arith, ints, e, walk-from_nothing later x (unused used left) used (λ u. normalized phi (values ++ u)) gone);
   within = omega arith;
 }
-  where
-    nothing : (later : List (List ℕ)) (xs : List ℕ) (h : List ℕ → ℤ) → ((u : List ℕ) → h (x ∷ u) ≡ pos 0) → walk later (x ∷ xs) used h ≡ pos 0
-    nothing [] xs h z = z xs
-    nothing (w ∷ ws) xs h z =
-        omega (arith, ints, walk-nothing ws (unused used w) used (λ u. h (x ∷ u)) z, walk-nothing (w ∷ ws) xs (x ∷ used) (λ u. h (x ∷ u)) z)
 
 -- an entry of the last row
-ahead-last : (x : ℕ) (left used values : List ℕ) (h : List ℕ → ℤ) → occurs x used ≡ 0 → ahead [] (x ∷ left) used values h ≡ ahead [] left used (values ++ (x ∷ [])) h
+pub ahead-last : (x : ℕ) (left used values : List ℕ) (h : List ℕ → ℤ) → occurs x used ≡ 0 → ahead [] (x ∷ left) used values h ≡ ahead [] left used (values ++ (x ∷ [])) h
 ahead-last x left used values h o = ap (λ n. h (values ++ cons_if_zero n x (unused used left))) o ∙ ap h (sym (append_assoc values (x ∷ []) (unused used left)))
 
 needed-last : (x : ℕ) (left used values : List ℕ) → occurs x used ≡ 0 → needed [] (x ∷ left) used values ≡ needed [] left used (values ++ (x ∷ []))
@@ -135,7 +126,7 @@ room-last later x left used values values_now weight l v o r =
     omega (arith, r, a, b, needed-last x left used values o)
 
 -- an entry that ends its row, or is used
-ahead-both : (w : List ℕ) (ws : List (List ℕ)) (x : ℕ) (left used values : List ℕ) (h : List ℕ → ℤ) → occurs x used ≡ 0 → occurs x left ≡ 0 →
+pub ahead-both : (w : List ℕ) (ws : List (List ℕ)) (x : ℕ) (left used values : List ℕ) (h : List ℕ → ℤ) → occurs x used ≡ 0 → occurs x left ≡ 0 →
     ahead (w ∷ ws) (x ∷ left) used values h ≡ ahead ws w used (values ++ (x ∷ [])) h +ℤ ahead (w ∷ ws) left (used ++ (x ∷ [])) (values ++ (x ∷ [])) h
 ahead-both w ws x left used values h o n =
     let f : List ℕ → ℤ = λ u. h (values ++ (x ∷ u)) in

@@ -2,8 +2,7 @@
 use Rattle.std.specs.Prelude.{◌≡◌, ℕ, suc, ◌+◌, ◌^◌, ◌≤◌, ◌==◌, length, Bool, false, cond, is_some, List, [], ◌∷◌, ◌++◌, ℤ, ◌+ℤ◌}
 use Rattle.signed_sum.specs.Names.{is_degenerate, normalized, value_at, weight_of}
 use Rattle.surjection.specs.Names.{surjection_fault}
-use Rattle.table_reduction_law.specs.Names.{unused}
-use Rattle.table_reduction_law.proofs.ReductionWalks.{walk}
+use Rattle.table_reduction_law.{specs.Names.unused, proofs.ReductionWalks.walk}
 
 -- whether x is the last entry
 abbrev pub is_last : ℕ → List ℕ → Bool

@@ -2,4 +2,4 @@
 #![tactic(auto)]
 
 pub mod reduction;
-mod walk;
+pub mod walk;

@@ -36,9 +36,9 @@ pub fn reduce(alloc: Global, tuple: &Tuple) -> Result<FormalSum<Surj>, SumEnd>
     }
 }
 
-/// The table reduction of a list of permutations of the same numbers. Neighbours may be equal. The
-/// arity and the degree, the number of entries less 1, sum to at most 255, and there are at most 10^18 lists of row lengths.
-pub fn reduce_entries(alloc: Global, entries: &[Perm]) -> Result<FormalSum<Surj>, AllocError>
+// The table reduction of a list of permutations of the same numbers. Neighbours may be equal. The
+// arity and the degree, the number of entries less 1, sum to at most 255, and there are at most 10^18 lists of row lengths.
+fn reduce_entries(alloc: Global, entries: &[Perm]) -> Result<FormalSum<Surj>, AllocError>
     requires wide { 1 ≤ tuple_arity entries.now }
     requires narrow { tuple_arity entries.now ≤ 32 }
     requires short { tuple_arity entries.now + tuple_degree entries.now ≤ 255 }

@@ -125,15 +125,15 @@ impl Walk {
     }
 }
 
-// Whether a value is in a list.
-fn contains(values: &[u8], value: u8) -> bool
+/// Whether a value is in a list.
+pub fn contains(values: &[u8], value: u8) -> bool
     ensures { result ≡ (occurs value values.now == 1) }
 {
     values.contains(&value)
 }
 
-// Whether a value is the last of a list.
-fn ends_with(values: &[u8], value: u8) -> bool
+/// Whether a value is the last of a list.
+pub fn ends_with(values: &[u8], value: u8) -> bool
     ensures { result ≡ is_last value values.now }
 {
     match values.split_last() {

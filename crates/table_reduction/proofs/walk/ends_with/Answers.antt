@@ -1,6 +1,5 @@
 use Rattle.std.proofs.Common.{◌∙◌, ap, sym}
-use Rattle.table_reduction.specs.Walks.{is_last}
-use Rattle.table_reduction.proofs.WalkLemmas.{is_last-append}
+use Rattle.table_reduction.{specs.Walks.is_last, proofs.WalkLemmas.is_last-append}
 use Rattle.table_reduction.proofs.walk.ends_with.Goals as goal
 
 pub returns-in-Some : goal.returns-in-Some

@@ -1,8 +1,7 @@
 use Rattle.std.proofs.Common.{◌≡◌, ◌+◌, ◌-◌, ◌*◌, ◌^◌, arith, ◌∙◌, ap, min}
 use Rattle.fp_field.proofs.ServedLemmas.{served_large}
 use Rattle.table_reduction_law.specs.Names.{binomial, pair_count}
-use Rattle.may_elements.specs.Counted.{cut_off}
-use Rattle.may_elements.proofs.ElementLemmas.{cut-more, pair_count-half}
+use Rattle.may_elements.{specs.Counted.cut_off, proofs.ElementLemmas.{cut-more, pair_count-half}}
 use Rattle.may_elements.proofs.elements.MayTable.candidates.Goals as goal
 
 pub loop-pair-preserved : goal.loop-pair-preserved

@@ -1,5 +1,4 @@
-use Rattle.std.proofs.Common.{arith, rules}
-use Rattle.std.proofs.lemmas.Grind.{common_steps}
+use Rattle.std.proofs.{Common.{arith, rules}, lemmas.Grind.common_steps}
 use Rattle.fp_field.proofs.ServedLemmas.{served_large}
 use Rattle.may_elements.proofs.StoredLemmas.{relation}
 use Rattle.operad_law.specs.FormalSums.{IsSameSum}

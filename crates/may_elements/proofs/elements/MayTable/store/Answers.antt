@@ -1,6 +1,5 @@
 use Rattle.std.proofs.Common.{subst, sym, ap, ◌∙◌, List, ℕ, ℤ, IsSome}
-use Rattle.may_elements.specs.Stored.{AreMayElements, stored_at}
-use Rattle.may_elements.proofs.StoredLemmas.{stored-more, stored-other, stored-there}
+use Rattle.may_elements.{specs.Stored.{AreMayElements, stored_at}, proofs.StoredLemmas.{stored-more, stored-other, stored-there}}
 use Rattle.may_elements.proofs.elements.MayTable.store.Goals as goal
 
 pub invariant_of-self : goal.invariant_of-self

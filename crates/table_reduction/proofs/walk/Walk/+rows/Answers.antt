@@ -1,10 +1,7 @@
-use Rattle.std.proofs.Common.{◌≡◌, ◌∙◌, ◌+◌, ◌≤◌, ◌^◌, ◌++◌, List, ℕ, [], ◌∷◌, ap, arith, false, length, sym, subst, All, ◌==◌, ℤ}
-use Rattle.std.proofs.lemmas.List.Elements.{All-head, All-tail}
+use Rattle.std.proofs.{Common.{◌≡◌, ◌∙◌, ◌+◌, ◌≤◌, ◌^◌, ◌++◌, List, ℕ, [], ◌∷◌, ap, arith, false, length, sym, subst, All, ◌==◌, ℤ}, lemmas.List.Elements.{All-head, All-tail}}
 use Rattle.signed_sum.specs.Names.{IsDistinct, is_degenerate, occurs, weight_of}
-use Rattle.table_reduction.specs.Walks.{AddsLists, entry_count, is_last, needed}
-use Rattle.table_reduction.proofs.WalkLemmas.{adds-in_last, adds-pruned, adds-steps, no_rows, occurs-no, plain-more, room-ended, room-last, room-used}
+use Rattle.table_reduction.{specs.Walks.{AddsLists, entry_count, is_last, needed}, proofs.WalkLemmas.{adds-in_last, adds-pruned, adds-steps, no_rows, occurs-no, plain-more, room-ended, room-last, room-used}, proofs.walk.Walk.+rows.Goals.{add_value-in-Some+in_ok-add_from+in_ok-push-2+in_ok-add_from-2, add_value-in_default+in_ok-add_from-3}}
 use Rattle.table_reduction.proofs.walk.Walk.+rows.Goals as goal
-use Rattle.table_reduction.proofs.walk.Walk.+rows.Goals.{add_value-in-Some+in_ok-add_from+in_ok-push-2+in_ok-add_from-2, add_value-in_default+in_ok-add_from-3}
 
 pub add_from-returns-then-ends_with-clause-sum : goal.add_from-returns-then-ends_with-clause-sum
 add_from-returns-then-ends_with-clause-sum t c =

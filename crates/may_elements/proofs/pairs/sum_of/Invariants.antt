@@ -1,0 +1,6 @@
+use Rattle.std.proofs.Common.{◌≡◌, List, ℕ, ℤ, ◌+ℤ◌}
+use Rattle.signed_sum.specs.Names.{total, value_at}
+use Rattle.may_elements.proofs.pairs.sum_of.Given as goal
+
+abbrev pub invariant-loop-list : goal.invariant-loop-list
+invariant-loop-list l = (phi : List ℕ → ℤ) → value_at phi l.sum +ℤ total phi l.list-iterator.rest.items ≡ total phi l.fn.lists.items
