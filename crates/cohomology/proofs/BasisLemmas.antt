@@ -1,13 +1,6 @@
 -- Columns and cycles of a complex, from those of the pair with no subcomplex.
 use Rattle.std.proofs.Common.{◌≡◌, ℕ, true, false, List, [], refl, sym, subst, None, Option, Some}
-use Rattle.linear_law.proofs.Names.{each_map}
-use Rattle.simplicial_law.specs.Names.{Cochain, IsCanonicalClass}
-use Rattle.complex_index.specs.declared.indexed.Cochain.{Cochain as PlacedCochain}
-use Rattle.relative_law.proofs.AbsoluteLaws.{absolute_law}
-use Rattle.relative_law.specs.Names.{IsCanonicalRelativeClass}
-use Rattle.cohomology.specs.Names.{DegreeClasses, IsColumnOf, cochain_in, AreRelativeCoordinates, IsClosedIn, IsRelativeIn, AreClassesOf, AreClassesOfPair, IsCanonicalCycle, IsRelativeCycle, classes_in, CohomologyData, IsCohomologyOf, IsCohomologyOfPair, AreRelativeValues, cochains_at}
-use Rattle.cohomology.proofs.CoordinateLemmas.{coordinates_absolute, relative_of}
-use Rattle.cohomology.proofs.WalkLemmas.{pair_with_nothing}
+use Rattle.cohomology.{proofs.Below.{each_map, Cochain, IsCanonicalClass, PlacedCochain, absolute_law, IsCanonicalRelativeClass}, specs.Names.{DegreeClasses, IsColumnOf, cochain_in, AreRelativeCoordinates, IsClosedIn, IsRelativeIn, AreClassesOf, AreClassesOfPair, IsCanonicalCycle, IsRelativeCycle, classes_in, CohomologyData, IsCohomologyOf, IsCohomologyOfPair, AreRelativeValues, cochains_at}, proofs.CoordinateLemmas.{coordinates_absolute, relative_of}, proofs.WalkLemmas.pair_with_nothing}
 
 class_up : (facets : List (List ℕ)) (n p : ℕ) (s : List ℕ) (z : Cochain) → IsCanonicalClass facets n p s z → IsCanonicalRelativeClass facets [] n p s z
 class_up facets n p s z h = record {

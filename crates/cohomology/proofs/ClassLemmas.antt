@@ -1,34 +1,6 @@
 -- One degree: the columns of the table of cycles are dual to the canonical relative classes.
 use Rattle.std.proofs.Common.{Option, None, Some, ◌≡◌, ℕ, zero, suc, ◌+◌, ◌<◌, ◌^◌, List, [], ◌∷◌, ◌++◌, take, map, length, get_or, arith, sym, ap, subst, ◌∙◌, inl, inr, ◌⊎◌, slice_get}
-use Rattle.std.specs.List.{AllZip}
-use Rattle.std.proofs.lemmas.Bool.{cases_eq}
-use Rattle.std.proofs.lemmas.List.{get_or_default, take_more}
-use Rattle.std.proofs.lemmas.Option.{get_or_from_slice_get, slice_get_within}
-use native.Mathlib.Nat.{zero-mod}
-use Rattle.linear_law.specs.Names.{Congruent, IsField, Among, Each, unit_vector, paired, IsPivot, IsSubspace, LeadsAt}
-use Rattle.linear_law.proofs.Names.{Congruent_add, Congruent_from, Congruent_mul, Congruent_of, Congruent_refl, Congruent_sym, Congruent_trans, cycle_bound, cycle_value, each_among, each_from_index, each_get_or, each_map, length_alike, zip_push, one-nonzero, unit_one, unit_other, found}
-use Rattle.simplicial_law.specs.Names.{Cochain, unit_cochain, cochain_at}
-use Rattle.simplicial_law.proofs.Names.{lead_up, unit_away, unit_here}
-use Rattle.complex_index.specs.Names.{level}
-use Rattle.complex_index.specs.declared.indexed.Cochain.{Cochain as PlacedCochain}
-use Rattle.row_reduce.specs.Names.{StoredFits, stored_place, AreTriangular, stored_row}
-use Rattle.row_reduce.specs.declared.Stored.{Stored}
-use Rattle.row_reduce.proofs.SolvedLemmas.{some_or_none, stored_lead}
-use Rattle.row_reduce.proofs.StoredLemmas.{some_none}
-use Rattle.cycle_table.specs.Tables.{AreCycles, AreFree, column}
-use Rattle.relative_law.proofs.RelativeBases.{bound_down, bounds_by_place}
-use Rattle.relative_law.proofs.Spaces.{relative_close}
-use Rattle.relative_law.specs.Names.{IsRelativeCoboundary, IsCanonicalRelativeClass, IsRelativeCoboundaryPivot, IsRelativeCocyclePivot}
-use Rattle.cohomology.specs.Names.{IsPairIndex, IsPairIndexOf, AreRelativeIn, IsPlaced, IsReachedIn, cochain_in, AreDualClasses, IsDualTable, IsLeadOf, at_places}
-use Rattle.cohomology.proofs.RowLemmas.{canonical_at, differ, pivot_of_class, some_at}
-
-pub leads_more : (p : ℕ) (cs : List (PlacedCochain p)) (i : ℕ) (c : PlacedCochain p) (vs ws : List ℕ) (v : ℕ) → c ≡ get_or cs i c → i < length cs → ws ≡ vs ++ (v ∷ [])
-    → AllZip (λ (d : PlacedCochain p) u. IsLeadOf d.row u) (take i cs) vs → IsLeadOf c.row v → AllZip (λ (d : PlacedCochain p) u. IsLeadOf d.row u) (take (i + 1) cs) ws
-leads_more p cs i c vs ws v e l f h k =
-    let R : PlacedCochain p → ℕ → Type 0 = λ d u. IsLeadOf d.row u in
-    subst (λ (us : List ℕ). AllZip R (take (i + 1) cs) us) (sym f)
-    (subst (λ (ds : List (PlacedCochain p)). AllZip R ds (vs ++ (v ∷ []))) (sym (take_more cs i c l ∙ ap (λ (d : PlacedCochain p). take i cs ++ (d ∷ [])) (sym e)))
-    (zip_push R (take i cs) vs c v h k))
+use Rattle.cohomology.{proofs.Below.{AllZip, cases_eq, get_or_default, take_more, get_or_from_slice_get, slice_get_within, zero-mod, Congruent, IsField, Among, Each, unit_vector, paired, IsPivot, IsSubspace, LeadsAt, Congruent_add, Congruent_from, Congruent_mul, Congruent_of, Congruent_refl, Congruent_sym, Congruent_trans, cycle_bound, cycle_value, each_among, each_from_index, each_get_or, each_map, length_alike, zip_push, one-nonzero, unit_one, unit_other, found, Cochain, unit_cochain, cochain_at, lead_up, unit_away, unit_here, level, PlacedCochain, StoredFits, stored_place, AreTriangular, stored_row, Stored, some_or_none, stored_lead, some_none, AreCycles, AreFree, column, bound_down, bounds_by_place, relative_close, IsRelativeCoboundary, IsCanonicalRelativeClass, IsRelativeCoboundaryPivot, IsRelativeCocyclePivot}, specs.Names.{IsPairIndex, IsPairIndexOf, AreRelativeIn, IsPlaced, IsReachedIn, cochain_in, AreDualClasses, IsDualTable, IsLeadOf, at_places}, proofs.RowLemmas.{canonical_at, differ, pivot_of_class, some_at}}
 
 module _ (facets parts : List (List ℕ)) (ls sls : List (List (List ℕ))) (is : IsPairIndexOf facets parts ls sls) (p : ℕ) (field : IsField p) (n : ℕ) where
   -- relative coboundaries by places

@@ -1,26 +1,6 @@
 -- The reduced echelon list of the coboundary rows is the canonical relative coboundaries one degree up, with their primitives.
 use Rattle.std.proofs.Common.{Bool, Option, ◌≡◌, ℕ, ◌+◌, ◌-◌, ◌<◌, ◌≤◌, ◌^◌, List, [], ◌∷◌, ◌++◌, map, length, get_or, arith, lit<, refl, sym, ap, ap₂, subst, ◌∙◌, inl, inr, Vec}
-use Rattle.std.specs.declared.alloc.Global.{Global}
-use Rattle.std.specs.List.{AllZip}
-use Rattle.linear_law.specs.Names.{Congruent, IsField, Among, IsAscending, IsImage, IsLinear, IsCanonical, IsPivot, Walked}
-use Rattle.linear_law.proofs.Names.{Congruent_sym, Congruent_trans, among_map, each_alike, each_among, each_itself, each_map, zip_push, one-nonzero, reduced_apart, reduced_one, found, image_pivot}
-use Rattle.simplicial_law.specs.Names.{AgreesOnSimplices, Cochain, cochain_of, cochain_at, terms_of}
-use Rattle.simplicial_law.proofs.Names.{coboundary_same, pivot_down}
-use Rattle.sparse_rows.specs.Rows.{IsBelow, IsRow, value_in}
-use Rattle.complex_index.specs.Names.{level}
-use Rattle.row_reduce.specs.Names.{combined, IsMarkedIn, IsSolvedStored, IsEchelonRow, IsSolvedWhole, pivot_of, row_of}
-use Rattle.row_reduce.specs.declared.EchelonRow.{EchelonRow}
-use Rattle.row_reduce.specs.declared.Stored.{Stored}
-use Rattle.relative_law.proofs.AbsoluteLaws.{absolute_law}
-use Rattle.relative_law.proofs.RelativeBases.{canonical_bound, canonical_primitive}
-use Rattle.relative_law.proofs.RelativeDegrees.{coboundary_down, coboundary_up, linear}
-use Rattle.relative_law.proofs.Spaces.{relative_coboundaries, restricted}
-use Rattle.relative_law.specs.Names.{IsSubcomplex, IsCanonicalRelativeCoboundary, IsCanonicalRelativePrimitive, IsRelativeCoboundaryPivot}
-use Rattle.cohomology.specs.Names.{Coboundary, IsPairIndex, IsPairIndexOf, IsPivotTable, IsPlaced, AreCoboundaries, AreFewCoboundaries, AreRelativeCoboundaries, CohomologyData, IsCoboundaryFrom, IsCohomologyOf, IsCohomologyOfPair, IsPlacedCoboundary, IsRelativeCoboundaryOf, bounds_in, coboundaries_in, pivot_in, AreRowsOf, TellCoboundaries}
-use Rattle.cohomology.proofs.DegreeLemmas.{by_place, rows_count, skipped_places}
-use Rattle.cohomology.proofs.LoopLemmas.{AreMade, absolute_classes, made_in, no_simplex}
-use Rattle.cohomology.proofs.RowLemmas.{below_of_zero, row_agrees}
-use Rattle.cohomology.proofs.WalkLemmas.{ascending_few, no_bounds, pair_with_nothing, solved_here}
+use Rattle.cohomology.{proofs.Below.{maps_alike, Global, AllZip, Congruent, IsField, Among, IsAscending, IsImage, IsLinear, IsCanonical, IsPivot, Walked, Congruent_sym, Congruent_trans, among_map, each_alike, each_among, each_itself, each_map, zip_push, one-nonzero, reduced_apart, reduced_one, found, image_pivot, AgreesOnSimplices, Cochain, cochain_of, cochain_at, terms_of, coboundary_same, pivot_down, IsBelow, IsRow, value_in, level, combined, IsMarkedIn, IsSolvedStored, IsEchelonRow, IsSolvedWhole, pivot_of, row_of, EchelonRow, Stored, absolute_law, canonical_bound, canonical_primitive, coboundary_down, coboundary_up, linear, relative_coboundaries, restricted, IsSubcomplex, IsCanonicalRelativeCoboundary, IsCanonicalRelativePrimitive, IsRelativeCoboundaryPivot, below_of_zero}, specs.Names.{Coboundary, IsPairIndex, IsPairIndexOf, IsPivotTable, IsPlaced, AreCoboundaries, AreFewCoboundaries, AreRelativeCoboundaries, CohomologyData, IsCoboundaryFrom, IsCohomologyOf, IsCohomologyOfPair, IsPlacedCoboundary, IsRelativeCoboundaryOf, bounds_in, coboundaries_in, pivot_in, AreRowsOf, TellCoboundaries}, proofs.DegreeLemmas.{by_place, rows_count, skipped_places}, proofs.LoopLemmas.{AreMade, absolute_classes, made_in, no_simplex}, proofs.RowLemmas.row_agrees, proofs.WalkLemmas.{ascending_few, no_bounds, pair_with_nothing, solved_here}}
 
 -- ---- cochains that agree
 
@@ -115,12 +95,6 @@ module _ (facets parts : List (List ℕ)) (ls sls : List (List (List ℕ))) (is 
 
 -- ---- all of one degree
 
-zip_among : {X Z A : Type 0} (R : X → Z → Type 0) (f : X → A) (g : Z → A) → ((x : X) (z : Z) → R x z → g z ≡ f x) → (xs : List X) (zs : List Z) → AllZip R xs zs → map g zs ≡ map f xs
-zip_among R f g h [] [] k = refl
-zip_among R f g h [] (z ∷ zs) k = elim k [ ]
-zip_among R f g h (x ∷ xs) [] k = elim k [ ]
-zip_among R f g h (x ∷ xs) (z ∷ zs) k = ap₂ (λ a bs. a ∷ bs) (h x z k.0) (zip_among R f g h xs zs k.1)
-
 pub coboundaries_more : {p : ℕ} (n : ℕ) (rows : List (EchelonRow p)) (made more : List (Coboundary p)) (e : EchelonRow p) (b : Coboundary p) → more ≡ made ++ (b ∷ []) → AllZip (IsCoboundaryFrom n) rows made → IsCoboundaryFrom n e b
     → AllZip (IsCoboundaryFrom n) (rows ++ (e ∷ [])) more
 coboundaries_more {p} n rows made more e b q h k = subst (λ (bs : List (Coboundary p)). AllZip (IsCoboundaryFrom n) (rows ++ (e ∷ [])) bs) (sym q) (zip_push (IsCoboundaryFrom n) rows made e b h k)
@@ -148,7 +122,7 @@ module _ (p : ℕ) (field : IsField p) (full sub : List (List (List ℕ))) (pair
     solved_bounds = record {
       placed = record {
         each = each_alike (IsCoboundaryFrom n) (IsEchelonRow p (length (level full (n + 1))) rows skip whole.solved.kernel) (IsPlacedCoboundary p full (n + 1)) placed_one echelon bounds same whole.reduced.each;
-        ascends = subst IsAscending (sym (zip_among (IsCoboundaryFrom n) pivot_of (λ (b : Coboundary p). b.pivot) (λ r b from. from.pivot) echelon bounds same)) whole.reduced.ascends;
+        ascends = subst IsAscending (maps_alike (IsCoboundaryFrom n) pivot_of (λ (b : Coboundary p). b.pivot) (λ r b from. from.pivot) echelon bounds same) whole.reduced.ascends;
       };
       each = λ facets parts is.
           each_alike (IsCoboundaryFrom n) (λ (r : EchelonRow p). Among r echelon) (IsRelativeCoboundaryOf facets parts p full (n + 1))
@@ -165,7 +139,7 @@ module _ (p : ℕ) (field : IsField p) (full sub : List (List (List ℕ))) (pair
           })
           echelon bounds same (each_itself echelon);
       all = λ facets parts s is q.
-          subst (Among s) (sym (zip_among (IsCoboundaryFrom n) (λ (r : EchelonRow p). get_or (level full (n + 1)) r.pivot []) (pivot_in (level full (n + 1))) (λ r b from. ap (λ x. get_or (level full (n + 1)) x []) from.pivot) echelon bounds same))
+          subst (Among s) (maps_alike (IsCoboundaryFrom n) (λ (r : EchelonRow p). get_or (level full (n + 1)) r.pivot []) (pivot_in (level full (n + 1))) (λ r b from. ap (λ x. get_or (level full (n + 1)) x []) from.pivot) echelon bounds same)
           (bound_all facets parts full sub is p field n pivots table rows skip of solutions owner echelon whole s q);
     }
 

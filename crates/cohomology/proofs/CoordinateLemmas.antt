@@ -1,23 +1,6 @@
 -- What is left of a relative cocycle without the classes, and its canonical primitive.
 use Rattle.std.proofs.Common.{◌≡◌, ℕ, zero, ◌+◌, ◌*◌, ◌-◌, ◌%◌, ◌<◌, ◌≤◌, ◌≢◌, List, [], ◌∷◌, take, map, length, get_or, arith, refl, sym, ap, ap₂, subst, ◌∙◌, mod-eq_of_lt, add_comm, MatchOption, None, Option, ◌==◌, true, eq-eqb, eqb-true}
-use Rattle.std.specs.List.{AllZip, list_all}
-use Rattle.std.proofs.Math.ListN.{length-map}
-use Rattle.std.proofs.lemmas.Bool.{and_from, and_parts}
-use Rattle.linear_law.specs.Names.{Congruent, IsField, negated, sum_over, Each, IsAscending, ListsAll, IsReduced, combination, expansion}
-use native.Mathlib.Nat.{zero-mod}
-use Rattle.linear_law.proofs.Names.{Congruent_add, Congruent_from, Congruent_mod, Congruent_of, Congruent_refl, Congruent_scale, Congruent_sym, Congruent_trans, add-negated, zero_if, each_among, each_map, each_of_map, each_zip, expanded_in, sum_picks, sum_vanishes}
-use Rattle.simplicial_law.specs.Names.{IsSimplex, AgreesOnSimplices, Cochain, HasCoordinates, IsCoboundary, IsCocycle, coboundary, cochain_of, cochain_at}
-use Rattle.simplicial_law.proofs.Names.{bounds_close, coboundary_plus, coboundary_same, coboundary_zero, agree_by_place, cochain_at-value, lead_up, simplex_at}
-use Rattle.sparse_rows.specs.Rows.{IsBelow, IsFirst, IsRow, value_in}
-use Rattle.sparse_rows.proofs.RowLemmas.{sum_take, value_in-none}
-use Rattle.complex_index.specs.Names.{IsCoboundaryOf, IsIndexOf, level}
-use Rattle.complex_index.specs.declared.indexed.Cochain.{Cochain as PlacedCochain}
-use Rattle.relative_law.proofs.AbsoluteLaws.{absolute_law}
-use Rattle.relative_law.proofs.Spaces.{relative_close, relative_coboundaries}
-use Rattle.relative_law.specs.Names.{HasRelativeCoordinates, IsRelativeCoboundary, IsCanonicalRelativeBasis, IsCanonicalRelativeClass, IsCanonicalRelativePrimitive, IsRelativeCoboundaryPivot, IsRelativeCocyclePivot}
-use Rattle.cohomology.specs.Names.{Coboundary, IsPairIndexOf, chains_at, cochain_in, classes_in, AreRelativeValues, cochains_at, AreCoordinates, AreRelativeCoordinates, IsClosedIn, IsNoCoboundary, IsOpenAt, IsPrimitiveOf, IsRelativeIn, IsRelativePrimitiveOf, coboundary_at, primitives_sum, rest_in, AreRelativeCoboundaries, CohomologyData, IsCohomologyOf, IsCohomologyOfPair, IsPlacedCoboundary, IsRelativeCoboundaryOf, coboundaries_in, pivot_in}
-use Rattle.cohomology.proofs.RowLemmas.{below_of_zero, inside_row, row_by_place}
-use Rattle.cohomology.proofs.WalkLemmas.{no_bounds, pair_with_nothing}
+use Rattle.cohomology.{proofs.Below.{AllZip, list_all, length-map, and_from, and_parts, Congruent, IsField, negated, sum_over, Each, IsAscending, ListsAll, IsReduced, combination, expansion, zero-mod, Congruent_add, Congruent_from, Congruent_mod, Congruent_of, Congruent_refl, Congruent_scale, Congruent_sym, Congruent_trans, add-negated, zero_if, each_among, each_map, each_of_map, each_zip, expanded_in, sum_picks, sum_vanishes, IsSimplex, AgreesOnSimplices, Cochain, HasCoordinates, IsCoboundary, IsCocycle, coboundary, cochain_of, cochain_at, bounds_close, coboundary_plus, coboundary_same, coboundary_zero, agree_by_place, cochain_at-value, lead_up, simplex_at, value_by_place, IsBelow, IsFirst, IsRow, value_in, below_of_zero, sum_take, value_in-none, IsCoboundaryOf, IsIndexOf, level, PlacedCochain, absolute_law, relative_close, relative_coboundaries, HasRelativeCoordinates, IsRelativeCoboundary, IsCanonicalRelativeBasis, IsCanonicalRelativeClass, IsCanonicalRelativePrimitive, IsRelativeCoboundaryPivot, IsRelativeCocyclePivot}, specs.Names.{Coboundary, IsPairIndexOf, chains_at, cochain_in, classes_in, AreRelativeValues, cochains_at, AreCoordinates, AreRelativeCoordinates, IsClosedIn, IsNoCoboundary, IsOpenAt, IsPrimitiveOf, IsRelativeIn, IsRelativePrimitiveOf, coboundary_at, primitives_sum, rest_in, AreRelativeCoboundaries, CohomologyData, IsCohomologyOf, IsCohomologyOfPair, IsPlacedCoboundary, IsRelativeCoboundaryOf, coboundaries_in, pivot_in}, proofs.RowLemmas.inside_row, proofs.WalkLemmas.{no_bounds, pair_with_nothing}}
 
 combination_none : (p : ℕ) (s : List ℕ) (cs : List ℕ) (zs : List Cochain) → Each (λ z. Congruent p (z s) 0) zs → Congruent p (combination cs zs s) 0
 combination_none p s [] zs h = Congruent_refl 0
@@ -38,7 +21,7 @@ module _ (facets parts : List (List ℕ)) (ls sls : List (List (List ℕ))) (is 
     (classes : List (PlacedCochain p)) (basis : IsCanonicalRelativeBasis facets parts n p (chains_at (level ls n) classes))
     (bounds : List (Coboundary p)) (are : AreRelativeCoboundaries p ls sls n bounds) where
   value_here : (row : List (ℕ × ℕ)) (x : ℕ) → x < length (level ls n) → cochain_in ls n row (get_or (level ls n) x []) ≡ value_in row x
-  value_here row x b = row_by_place facets n p (level ls n) (is.full_index.lists n) row x b
+  value_here row x b = value_by_place facets n p (level ls n) (is.full_index.lists n) row x b
 
   -- a coboundary that is zero at the pivots of the coboundaries is zero
   zero_at_pivots : (f : Cochain) → IsRelativeCoboundary facets parts n p f → Each (λ (b : Coboundary p). Congruent p (f (pivot_in (level ls n) b)) 0) bounds → AgreesOnSimplices facets n p f (λ s. 0)
@@ -181,12 +164,12 @@ module _ (facets parts : List (List ℕ)) (ls sls : List (List (List ℕ))) (is 
                 → sum_over (λ (b : Coboundary p). cochain_in ls n z (pivot_in (level ls n) b) * cochain_in ls m b.primitive.row (get_or (level ls m) x [])) bs
                 ≡ sum_over (λ (b : Coboundary p). value_in z b.pivot * value_in b.primitive.row x) bs
             go [] h = refl
-            go (b ∷ bs) h = ap₂ ◌+◌ (ap₂ ◌*◌ (value_here z b.pivot h.0.pivot) (row_by_place facets m p (level ls m) (is.full_index.lists m) b.primitive.row x c)) (go bs h.1)
+            go (b ∷ bs) h = ap₂ ◌+◌ (ap₂ ◌*◌ (value_here z b.pivot h.0.pivot) (value_by_place facets m p (level ls m) (is.full_index.lists m) b.primitive.row x c)) (go bs h.1)
 
         low_same : AgreesOnSimplices facets m p (cochain_in ls m y) (low bounds)
         low_same =
             agree_by_place facets m p (level ls m) (is.full_index.lists m) (cochain_in ls m y) (low bounds)
-            (λ x b. Congruent_trans (Congruent_of (row_by_place facets m p (level ls m) (is.full_index.lists m) y x b)) (Congruent_trans (y_is x) (Congruent_of (sym (low_value x b)))))
+            (λ x b. Congruent_trans (Congruent_of (value_by_place facets m p (level ls m) (is.full_index.lists m) y x b)) (Congruent_trans (y_is x) (Congruent_of (sym (low_value x b)))))
 
         -- where all primitives are 0, so is their sum
         low_none : (s : List ℕ) → IsSimplex facets m s → Each (λ (b : Coboundary p). Congruent p (cochain_in ls m b.primitive.row s) 0) bounds → Congruent p (cochain_in ls m y s) 0

@@ -1,18 +1,6 @@
 -- The row of a column of the table of cycles is the canonical cycle of its class.
 use Rattle.std.proofs.Common.{◌≡◌, ℕ, zero, suc, ◌+◌, ◌*◌, ◌%◌, ◌<◌, ◌≢◌, List, [], ◌∷◌, ◌++◌, map, length, get_or, arith, refl, sym, ap, ap₂, subst, ◌∙◌, inl, inr, ◌⊎◌, Some, slice_get}
-use Rattle.std.proofs.lemmas.Bool.{cases_lt}
-use Rattle.linear_law.specs.Names.{Congruent, IsField, negated, sum_over, Among, Each, unit_vector, paired}
-use Rattle.linear_law.proofs.Names.{Congruent_add, Congruent_from, Congruent_mod, Congruent_mul, Congruent_of, Congruent_refl, Congruent_scale, Congruent_sym, Congruent_trans, add-negated, pair_two, each_among, each_append, each_map, unit_one, unit_other}
-use Rattle.simplicial_law.specs.Names.{IsInOrder, Precedes, AgreesOnSimplices, Cochain, pairing, unit_cochain, canonical_cycle, cochain_of, terms_of}
-use Rattle.simplicial_law.proofs.Names.{lists_strict, agree_by_place, unit_away, unit_here}
-use Rattle.sparse_rows.specs.Rows.{IsBelow, IsRow, value_in}
-use Rattle.sparse_rows.proofs.RowLemmas.{value_in-none}
-use Rattle.complex_index.specs.Names.{level}
-use Rattle.complex_index.specs.declared.indexed.Cochain.{Cochain as PlacedCochain}
-use Rattle.cycle_table.specs.Tables.{column}
-use Rattle.relative_law.specs.Names.{IsRelativeCoboundary, IsCanonicalRelativeClass, IsCanonicalRelativeCoboundary, IsRelativeCoboundaryPivot}
-use Rattle.cohomology.specs.Names.{DegreeClasses, IsPairIndexOf, cochain_in, AreClassesOfPair, ArePivots, IsColumnRow, IsDualTable, IsRelativeCycle, at_places, classes_in, table_in}
-use Rattle.cohomology.proofs.RowLemmas.{paired_row, row_by_place}
+use Rattle.cohomology.{proofs.Below.{cases_lt, Congruent, IsField, negated, sum_over, Among, Each, unit_vector, paired, Congruent_add, Congruent_from, Congruent_mod, Congruent_mul, Congruent_of, Congruent_refl, Congruent_scale, Congruent_sym, Congruent_trans, add-negated, pair_two, each_among, each_append, each_map, unit_one, unit_other, IsInOrder, Precedes, AgreesOnSimplices, Cochain, pairing, unit_cochain, canonical_cycle, cochain_of, terms_of, lists_strict, agree_by_place, unit_away, unit_here, value_by_place, IsBelow, IsRow, value_in, put_sum, value_in-none, level, PlacedCochain, column, IsRelativeCoboundary, IsCanonicalRelativeClass, IsCanonicalRelativeCoboundary, IsRelativeCoboundaryPivot}, specs.Names.{DegreeClasses, IsPairIndexOf, cochain_in, AreClassesOfPair, ArePivots, IsColumnRow, IsDualTable, IsRelativeCycle, at_places, classes_in, table_in}, proofs.RowLemmas.paired_row}
 
 paired_right : (p n : ℕ) (v f g : ℕ → ℕ) → ((x : ℕ) → x < n → Congruent p (f x) (g x)) → Congruent p (paired n v f) (paired n v g)
 paired_right p zero v f g h = Congruent_refl 0
@@ -102,7 +90,7 @@ module _ (facets parts : List (List ℕ)) (ls sls : List (List (List ℕ))) (is 
         (λ k b.
         let u = get_or here k [] in
         let c : List ℕ → ℕ = λ t. negated p (bound t s) in
-        let mine : Congruent p (cochain_in ls n y u) (column table i k) = Congruent_trans (Congruent_of (row_by_place facets n p here all y k b)) (y_is k b) in
+        let mine : Congruent p (cochain_in ls n y u) (column table i k) = Congruent_trans (Congruent_of (value_by_place facets n p here all y k b)) (y_is k b) in
         elim (dual.decide k b) [
           | inl q ↦
               let away : unit_cochain s u ≡ 0 = unit_away s u (λ g. canonical.no_bound (subst (IsRelativeCoboundaryPivot facets parts n p) (sym g) q)) in
@@ -130,14 +118,10 @@ pairs_keep table i k v pairs is nil h = record {
   ];
 }
 
-value_push : (pairs : List (ℕ × ℕ)) (k v x : ℕ) → value_in (pairs ++ ((k, v) ∷ [])) x ≡ value_in pairs x + v * unit_vector k x
-value_push [] k v x = omega arith
-value_push (e ∷ es) k v x = omega (arith, value_push es k v x)
-
 pub pairs_more : (table : List (List (ℕ × ℕ))) (i k v : ℕ) (pairs more : List (ℕ × ℕ)) → more ≡ pairs ++ ((k, v) ∷ []) → v ≡ column table i k → IsColumnRow table i k pairs → IsColumnRow table i (k + 1) more
 pairs_more table i k v pairs more e is h = subst (IsColumnRow table i (k + 1)) (sym e) (record {
   inside = each_append (λ (f : ℕ × ℕ). f.0 < k + 1) pairs ((k, v) ∷ []) (each_map (λ e b. omega arith) pairs h.inside) (omega arith, tt);
-  values = λ x b. value_push pairs k v x ∙ elim (cases_lt x k) [
+  values = λ x b. put_sum pairs k v x ∙ elim (cases_lt x k) [
     | inl c ↦ ap₂ (λ a d. a + v * d) (h.values x c) (unit_other k x (λ q. absurd (omega arith))) ∙ omega arith
     | inr c ↦
         let q : x ≡ k = omega arith in

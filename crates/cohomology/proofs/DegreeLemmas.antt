@@ -1,33 +1,10 @@
 -- One degree: the blanked rows are those of relative cochains, and what may be skipped.
 use Rattle.std.proofs.Common.{Bool, Option, None, ◌≡◌, ℕ, zero, suc, ◌+◌, ◌<◌, ◌⊎◌, inl, inr, true, false, cond, List, [], ◌∷◌, map, length, get_or, arith, refl, sym, ap, subst, ◌∙◌, ◌≢◌}
-use Rattle.std.specs.List.{AllZip}
-use Rattle.std.proofs.Math.ListN.{length-map}
-use Rattle.std.proofs.lemmas.Bool.{cases_Bool}
-use Rattle.linear_law.specs.Names.{Congruent, IsField, Each, KernelVector, unit_vector, Walked}
-use Rattle.linear_law.proofs.Names.{length_alike, zip_from_index, Congruent_of, Congruent_trans, each_among, each_map, one-nonzero, row_combination-row, unit_one, unit_other}
-use Rattle.simplicial_law.specs.Names.{IsCoboundaryRow, IsRowOf, terms_of, coboundary, unit_cochain, IsSimplex}
-use Rattle.std.proofs.lemmas.List.{get_or_default}
-use Rattle.simplicial_law.proofs.Names.{simplex_at}
-use Rattle.sparse_rows.specs.Rows.{IsBelow, IsRow, value_in}
-use Rattle.complex_index.specs.Names.{level}
-use Rattle.row_reduce.specs.Names.{IsSolved, SkipsFit, combined, IsLeadIn, IsMarkedIn}
-use Rattle.relative_law.proofs.Covered.{covered_simplex, simplex_covered}
-use Rattle.relative_law.proofs.RelativeBases.{bound_places, canonical_basis}
-use Rattle.relative_law.proofs.RelativeDegrees.{IsOuterByPlace, cocycle_down, rows_by_place}
-use Rattle.relative_law.proofs.Spaces.{relative_close}
-use Rattle.relative_law.specs.Names.{is_covered, IsCanonicalRelativeBasis, AreRelativeBoundPlaces, AreSkippedPlaces, IsRelativeCoboundaryRow}
-use Rattle.cohomology.specs.Names.{IsPairIndexOf, AreRowsOf}
-use Rattle.row_reduce.proofs.SolvedLemmas.{some_or_none}
-use Rattle.row_reduce.proofs.StepLemmas.{not_both}
-use Rattle.row_reduce.proofs.StoredLemmas.{some_none}
-use Rattle.cohomology.proofs.PairLemmas.{among_at}
+use Rattle.cohomology.{proofs.Below.{cases_lt, get_or_past, get_or-map, zip_change, IsVectorRow, AllZip, length-map, cases_Bool, Congruent, IsField, Each, KernelVector, unit_vector, Walked, length_alike, zip_from_index, Congruent_of, Congruent_trans, each_among, each_map, one-nonzero, row_combination-row, unit_one, unit_other, IsCoboundaryRow, IsRowOf, terms_of, coboundary, unit_cochain, IsSimplex, get_or_default, simplex_at, IsBelow, IsRow, value_in, level, IsSolved, SkipsFit, combined, IsLeadIn, IsMarkedIn, covered_simplex, simplex_covered, bound_places, canonical_basis, IsOuterByPlace, cocycle_down, rows_by_place, relative_close, is_covered, IsCanonicalRelativeBasis, AreRelativeBoundPlaces, AreSkippedPlaces, IsRelativeCoboundaryRow, some_or_none, not_both, some_none}, specs.Names.{IsPairIndexOf, AreRowsOf}, proofs.PairLemmas.among_at}
 
 -- a place where the list has another value than d is inside
 pub inside_of : {X : Type 0} (xs : List X) (d : X) (x : ℕ) → get_or xs x d ≢ d → x < length xs
-inside_of [] d zero h = absurd (h refl)
-inside_of [] d (suc x) h = absurd (h refl)
-inside_of (y ∷ ys) d zero h = omega arith
-inside_of (y ∷ ys) d (suc x) h = let b = inside_of ys d x h in omega arith
+inside_of xs d x h = elim (cases_lt x (length xs)) [ inl b ↦ b | inr b ↦ absurd (h (get_or_past xs x d b)) ]
 
 pub marked_inside : (marks : List Bool) (x : ℕ) → IsMarkedIn marks x → x < length marks
 marked_inside marks x h = inside_of marks false x (λ e. not_both (sym e ∙ h))
@@ -41,11 +18,6 @@ marked_or_not marks x = go (get_or marks x false)
 
 pub lead_or_not : (pivots : List (Option ℕ)) (x : ℕ) → IsLeadIn pivots x ⊎ (IsLeadIn pivots x → ⊥)
 lead_or_not pivots x = elim (some_or_none (get_or pivots x None)) [ inl e ↦ inr (λ h. h e) | inr k ↦ inl (λ e. some_none k.0 (sym k.1 ∙ e)) ]
-
-pub get_map : {X Y : Type 0} (f : X → Y) (xs : List X) (k : ℕ) (d : Y) (e : X) → k < length xs → get_or (map f xs) k d ≡ f (get_or xs k e)
-get_map f [] k d e b = absurd (omega arith)
-get_map f (x ∷ xs) zero d e b = refl
-get_map f (x ∷ xs) (suc k) d e b = get_map f xs k d e (omega arith)
 
 zip_at : {X Z : Type 0} (R : X → Z → Type 0) (xs : List X) (zs : List Z) (k : ℕ) (d : X) (e : Z) → AllZip R xs zs → k < length xs → R (get_or xs k d) (get_or zs k e)
 zip_at R [] zs k d e h b = absurd (omega arith)
@@ -81,7 +53,7 @@ module _ (facets parts : List (List ℕ)) (ls sls : List (List (List ℕ))) (is 
           let here = get_or (level ls n) k [] in
           let inside : k < length (level ls n) = (let w = rows_count in omega arith) in
           let same : get_or (level ls n) k e ≡ here = get_or_default (level ls n) k e [] inside in
-          let row = get_map value_in rows k d [] b in
+          let row = get_or-map value_in rows k [] d b in
           let P : List ℕ → Type 0 = λ s. Congruent p (get_or (map value_in rows) k d j) (cond (is_covered parts s) 0 (coboundary p (unit_cochain s) (get_or (level ls (n + 1)) j []))) in
           subst P (sym same) (elim (marked_or_not of.marks k) [
             | inl o ↦
@@ -90,7 +62,7 @@ module _ (facets parts : List (List ℕ)) (ls sls : List (List (List ℕ))) (is 
                 Congruent_of (z ∙ sym (ap (λ b. cond b 0 (coboundary p (unit_cochain here) (get_or (level ls (n + 1)) j []))) t))
             | inr o ↦
                 let z : get_or (map value_in rows) k d j ≡ get_or (map value_in of.given) k d j =
-                ap (λ (f : ℕ → ℕ). f j) (row ∙ ap value_in (of.blank.others k b o) ∙ sym (get_map value_in of.given k d [] (let w = of.blank.whole in omega arith))) in
+                ap (λ (f : ℕ → ℕ). f j) (row ∙ ap value_in (of.blank.others k b o) ∙ sym (get_or-map value_in of.given k [] d (let w = of.blank.whole in omega arith))) in
                 let t : is_covered parts here ≡ false = elim (cases_Bool (is_covered parts here)) [
                   | inl y ↦ absurd (o (simplex_marked k inside (covered_simplex facets parts n here (here_at k inside) y)))
                   | inr y ↦ y
@@ -141,7 +113,7 @@ module _ (facets parts : List (List ℕ)) (ls sls : List (List (List ℕ))) (is 
                   nonzero = one-nonzero p (unit_vector x x) field.large (Congruent_of (unit_one p x));
                   goes = record {
                     at = λ y on. Congruent_of (row_combination-row (map value_in rows) x y (λ j. 0) (let m = length-map rows value_in in omega arith)
-                        ∙ ap (λ (g : ℕ → ℕ). g y) (get_map value_in rows x (λ j. 0) [] d ∙ ap value_in (of.blank.marked x d o)));
+                        ∙ ap (λ (g : ℕ → ℕ). g y) (get_or-map value_in rows x [] (λ j. 0) d ∙ ap value_in (of.blank.marked x d o)));
                   };
                 }
           ];
@@ -161,23 +133,19 @@ module _ (facets parts : List (List ℕ)) (ls sls : List (List (List ℕ))) (is 
             decide = lead_or_not owner;
           }
 
-      rows_of : (ks : List KernelVector) (vs : List (List (ℕ × ℕ))) → AllZip (λ (k : KernelVector) v. (x : ℕ) → Congruent p (value_in v x) (k.vector x)) ks vs
-          → Each (IsRow p) vs → Each (IsBelow (length rows)) vs → AllZip (IsRowOf p (length (level ls n))) ks vs
-      rows_of [] [] h r b = tt
-      rows_of [] (v ∷ vs) h r b = elim h [ ]
-      rows_of (k ∷ ks) [] h r b = elim h [ ]
-      rows_of (k ∷ ks) (v ∷ vs) h r b = (
-        record {
-          ascends = r.0.ascends;
-          inside = each_map (λ e c. let q = rows_count in omega arith) v b.0;
-          values = each_map (λ e c. (grind (arith, c.0), c.1)) v r.0.values;
-          same = λ x c. h.0 x;
-        },
-        rows_of ks vs h.1 r.1 b.1,
-      )
+      rows_of : AllZip (IsRowOf p (length (level ls n))) solved.kernel solutions
+      rows_of =
+          zip_change (IsVectorRow p (length rows)) (IsRowOf p (length (level ls n)))
+          (λ k v h. record {
+            ascends = h.is_row.ascends;
+            inside = each_map (λ e c. let q = rows_count in omega arith) v h.below;
+            values = each_map (λ e c. (grind (arith, c.0), c.1)) v h.is_row.values;
+            same = λ x c. h.same x;
+          })
+          solved.kernel solutions solved.vectors
 
       pub degree_basis : IsCanonicalRelativeBasis facets parts n p (map (terms_of (level ls n)) solutions)
       degree_basis =
           canonical_basis facets parts n p field is.inside (level ls n) (is.full_index.lists n) (is.full_index.in_order n) (level ls (n + 1)) (is.full_index.lists (n + 1)) (combined rows) by_place (IsMarkedIn skip) skipped_places
           solved.kernel solved.images walked_here solutions
-          (rows_of solved.kernel solutions solved.vectors solved.rows_are solved.inside)
+          rows_of

@@ -1,3 +1,4 @@
+pub mod Below
 pub mod PairLemmas
 pub mod DegreeLemmas
 pub mod WalkLemmas

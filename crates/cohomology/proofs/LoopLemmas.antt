@@ -1,14 +1,7 @@
 -- Lists by degree that a loop makes, and what they have of a degree.
-use Rattle.std.proofs.Common.{◌≡◌, ℕ, zero, suc, ◌+◌, ◌<◌, ◌≤◌, ◌^◌, List, [], ◌∷◌, ◌++◌, length, get_or, arith, lit<, refl, sym, ap, subst, ◌∙◌, Vec}
-use Rattle.std.specs.declared.alloc.Global.{Global}
-use Rattle.linear_law.proofs.Names.{length_push}
-use Rattle.simplicial_law.specs.Names.{IsSimplex, AreCanonicalBases, IsCanonicalBasis}
-use Rattle.simplicial_law.proofs.Names.{simplex_at}
-use Rattle.complex_index.specs.Names.{IsIndexOf, level}
+use Rattle.std.proofs.Common.{◌≡◌, ℕ, zero, suc, ◌+◌, ◌<◌, ◌≤◌, ◌^◌, List, [], ◌∷◌, ◌++◌, length, get_or, arith, lit<, refl, sym, ap, subst, ◌∙◌, inl, inr}
+use Rattle.cohomology.{proofs.Below.{cases_lt, get_or_past, length_push, IsSimplex, IsIndexOf, level, absolute_law, no_simplex_law}, specs.Names.{DegreeClasses, AreCanonicalIn, AreRelativeIn, EachFrom, chains_at, in_degree, AreClassesOf, AreClassesOfPair, AreDualClasses, AreFewClasses, classes_in}, proofs.WalkLemmas.pair_with_nothing}
 use Rattle.complex_index.specs.declared.indexed.Cochain.{Cochain}
-use Rattle.relative_law.proofs.AbsoluteLaws.{absolute_law, no_simplex_law}
-use Rattle.cohomology.specs.Names.{DegreeClasses, AreCanonicalIn, ArePlacedFrom, AreRelativeFrom, AreRelativeIn, EachFrom, chains_at, chains_from, chains_of, in_degree, AreClassesOf, AreClassesOfPair, AreDualClasses, AreFewClasses, classes_in}
-use Rattle.cohomology.proofs.WalkLemmas.{pair_with_nothing}
 
 -- ---- lists by degree
 
@@ -61,15 +54,8 @@ module _ {D X : Type 0} (f : D → List X) where
 
 -- ---- past the dimension
 
-pub level_inside : (ls : List (List (List ℕ))) (n k : ℕ) → k < length (level ls n) → n < length ls
-level_inside [] n k b = absurd (omega arith)
-level_inside (l ∷ ls) zero k b = omega arith
-level_inside (l ∷ ls) (suc n) k b = let c = level_inside ls n k b in omega arith
-
-level_past : (ls : List (List (List ℕ))) (n : ℕ) → length ls ≤ n → level ls n ≡ []
-level_past [] n b = refl
-level_past (l ∷ ls) zero b = absurd (omega arith)
-level_past (l ∷ ls) (suc n) b = level_past ls n (omega arith)
+level_inside : (ls : List (List (List ℕ))) (n k : ℕ) → k < length (level ls n) → n < length ls
+level_inside ls n k b = elim (cases_lt n (length ls)) [ inl l ↦ l | inr g ↦ absurd (omega (arith, b, ap length (get_or_past ls n [] g))) ]
 
 pub no_simplex : (facets : List (List ℕ)) (ls : List (List (List ℕ))) (n : ℕ) → length ls ≤ n → IsIndexOf facets ls → (s : List ℕ) → IsSimplex facets n s → ⊥
 no_simplex facets ls n past is s on = let q = (is.lists n).whole s on in let c = level_inside ls n q.0 q.1 in absurd (omega arith)
@@ -86,7 +72,7 @@ duals_past p full sub n past = record {
           basis = no_simplex_law.relative facets parts n p none;
         };
   };
-  whole = ap (λ (l : List (List ℕ)). length l) (sym (level_past full n past));
+  whole = ap (λ (l : List (List ℕ)). length l) (sym (get_or_past full n [] past));
   few = lit< tt;
   cycles = λ facets parts is. record {
     coboundaries = λ i b f h. absurd (omega arith);
@@ -124,34 +110,3 @@ absolute_in p ls n classes h = record {
 
 pub absolute_classes : (p : ℕ) (ls : List (List (List ℕ))) (degrees : List (DegreeClasses p)) → AreClassesOfPair p ls [] degrees → AreClassesOf p ls degrees
 absolute_classes p ls degrees h = record { canonical = λ n. absolute_in p ls n (classes_in degrees n) (h.each n).relative; pair = h }
-
--- ---- classes alone
-
-abbrev pub IsFoundAlone : (p : ℕ) → List (List (List ℕ)) → List (List (List ℕ)) → ℕ → Vec (Cochain p) Global → Type 0
-IsFoundAlone p full sub n v = AreRelativeIn p full sub n v.items
-
-pub placed_from : (p : ℕ) (full sub : List (List (List ℕ))) (n : ℕ) (vs : List (Vec (Cochain p) Global)) → AreRelativeFrom p full sub n vs → ArePlacedFrom p full n vs
-placed_from p full sub n [] h = tt
-placed_from p full sub n (v ∷ vs) h = (h.0.placed, placed_from p full sub (suc n) vs h.1)
-
-chains_length : {p : ℕ} (ls : List (List (List ℕ))) (n : ℕ) (vs : List (Vec (Cochain p) Global)) → length (chains_from ls n vs) ≡ length vs
-chains_length ls n [] = refl
-chains_length ls n (v ∷ vs) = ap suc (chains_length ls (suc n) vs)
-
-bases_at : (p : ℕ) (facets : List (List ℕ)) (ls : List (List (List ℕ))) → IsIndexOf facets ls → (n : ℕ) (vs : List (Vec (Cochain p) Global)) → AreRelativeFrom p ls [] n vs
-    → (k m : ℕ) → n + k ≡ m → k < length vs → IsCanonicalBasis facets m p (get_or (chains_from ls n vs) k [])
-bases_at p facets ls is n [] h k m e b = absurd (omega arith)
-bases_at p facets ls is n (v ∷ vs) h zero m e b =
-    subst (λ i. IsCanonicalBasis facets i p (chains_at (level ls n) v.items)) (let q : n ≡ m = omega arith in q) ((absolute_in p ls n v.items h.0).basis facets is)
-bases_at p facets ls is n (v ∷ vs) h (suc k) m e b = bases_at p facets ls is (suc n) vs h.1 k m (omega arith) (omega arith)
-
-pub bases_all : (p : ℕ) (ls sub : List (List (List ℕ))) (vs : List (Vec (Cochain p) Global)) → sub ≡ [] → length vs ≡ length ls → AreRelativeFrom p ls sub 0 vs
-    → (facets : List (List ℕ)) → IsIndexOf facets ls → AreCanonicalBases facets p (chains_of ls vs)
-bases_all p ls sub vs none e given facets is =
-    let h : AreRelativeFrom p ls [] 0 vs = subst (λ (s : List (List (List ℕ))). AreRelativeFrom p ls s 0 vs) none given in
-    let size : length (chains_of ls vs) ≡ length ls = chains_length ls 0 vs ∙ e in
-    record {
-      each = λ n b. bases_at p facets ls is 0 vs h n n (omega arith) (omega (arith, b, size, e));
-      inhabited = λ n b. (get_or (level ls n) 0 [], simplex_at facets n p (level ls n) (is.lists n) 0 (is.inhabited n (omega (arith, b, size))));
-      whole = λ n s on. let q = (is.lists n).whole s on in let c = level_inside ls n q.0 q.1 in omega (arith, c, size);
-    }

@@ -1,21 +1,6 @@
 -- The cochain of a row, and the least place of a class.
 use Rattle.std.proofs.Common.{◌≡◌, ℕ, zero, suc, ◌+◌, ◌*◌, ◌%◌, ◌<◌, ◌≤◌, ◌≢◌, List, [], ◌∷◌, length, get_or, arith, refl, sym, ap, ap₂, subst, ◌∙◌, inl, inr, mod-eq_of_lt, Some, slice_get}
-use Rattle.std.specs.List.{AllZip}
-use Rattle.std.proofs.lemmas.Bool.{cases_eq, cases_lt}
-use Rattle.std.proofs.lemmas.List.{get_or_default}
-use Rattle.std.proofs.lemmas.Option.{get_or_from_slice_get, slice_get_read, slice_get_within}
-use native.Mathlib.Nat.{zero-mod}
-use Rattle.linear_law.specs.Names.{Congruent, IsField, ListsAll, unit_vector, paired}
-use Rattle.linear_law.proofs.Names.{Congruent_of, Congruent_sym, Congruent_trans, each_from_index, each_get_or, each_map, one-nonzero, same_or_not, unit_one, unit_other}
-use Rattle.simplicial_law.specs.Names.{IsInOrder, IsSimplex, Precedes, AgreesOnSimplices, Cochain, pairing, unit_cochain, cochain_of, cochain_at, terms_of}
-use Rattle.simplicial_law.proofs.Names.{lists_compare, lists_strict, agree_by_place, cochain_at-value, lead_up, simplex_at, unit_away, unit_here}
-use Rattle.sparse_rows.specs.Rows.{IsBelow, IsFirst, IsRow, value_in}
-use Rattle.sparse_rows.proofs.RowLemmas.{value_in-at, value_in-none, value_in-small}
-use Rattle.complex_index.specs.Names.{level}
-use Rattle.complex_index.specs.declared.indexed.Cochain.{Cochain as PlacedCochain}
-use Rattle.relative_law.proofs.Spaces.{relative_cocycles}
-use Rattle.relative_law.specs.Names.{IsCanonicalRelativeClass, IsRelativeCocyclePivot}
-use Rattle.cohomology.specs.Names.{IsPairIndexOf, chains_at, cochain_in, IsLeadOf, at_places}
+use Rattle.cohomology.{proofs.Below.{AllZip, cases_eq, cases_lt, get_or_default, get_or_from_slice_get, slice_get_read, slice_get_within, zero-mod, Congruent, IsField, ListsAll, unit_vector, paired, Congruent_of, Congruent_sym, Congruent_trans, each_from_index, each_get_or, each_map, one-nonzero, same_or_not, unit_one, unit_other, IsInOrder, IsSimplex, Precedes, AgreesOnSimplices, Cochain, pairing, unit_cochain, cochain_of, cochain_at, terms_of, value_by_place, lists_compare, lists_strict, agree_by_place, cochain_at-value, lead_up, simplex_at, unit_away, unit_here, IsBelow, IsFirst, IsRow, value_in, value_in-at, value_in-none, value_in-small, level, PlacedCochain, relative_cocycles, IsCanonicalRelativeClass, IsRelativeCocyclePivot}, specs.Names.{IsPairIndexOf, chains_at, cochain_in, IsLeadOf, at_places}}
 
 -- ---- lists
 
@@ -28,45 +13,11 @@ some_at (x ∷ xs) i b =
 -- ---- the cochain of a row
 
 module _ (facets : List (List ℕ)) (n p : ℕ) (here : List (List ℕ)) (all_here : ListsAll (IsSimplex facets n) here) where
-  pub unit_by_place : (x y : ℕ) → y < length here → unit_cochain (get_or here x []) (get_or here y []) ≡ unit_vector x y
-  unit_by_place x y c =
-      elim (cases_eq x y) [
-        | inl e ↦ subst (λ z. unit_cochain (get_or here x []) (get_or here z []) ≡ unit_vector x z) e (unit_here (get_or here x []) ∙ sym (unit_one x x))
-        | inr m ↦ unit_away (get_or here x []) (get_or here y []) (apart x y c m) ∙ sym (unit_other x y (λ e. m (sym e)))
-      ]
-    where
-      past : (ss : List (List ℕ)) (i : ℕ) → length ss ≤ i → get_or ss i [] ≡ []
-      past [] i h = refl
-      past (s ∷ ss) zero h = absurd (omega arith)
-      past (s ∷ ss) (suc i) h = past ss i (omega arith)
-
-      apart : (x y : ℕ) → y < length here → x ≢ y → get_or here x [] ≢ get_or here y []
-      apart x y c m f =
-          elim (cases_lt x (length here)) [
-            | inl b ↦ m (all_here.once x y [] b c f)
-            | inr b ↦ absurd (let on = simplex_at facets n p here all_here y c in omega (arith, on.size, ap (λ (s : List ℕ). length s) (sym (past here x b) ∙ f)))
-          ]
-
-  pub row_by_place : (row : List (ℕ × ℕ)) (x : ℕ) → x < length here → cochain_of (terms_of here row) (get_or here x []) ≡ value_in row x
-  row_by_place [] x b = refl
-  row_by_place (e ∷ es) x b = ap₂ (λ m n. e.1 * m + n) (unit_by_place e.0 x b) (row_by_place es x b)
-
   -- the cochain of a row and the cochain with the values of the row agree
   pub row_agrees : (row : List (ℕ × ℕ)) → AgreesOnSimplices facets n p (cochain_of (terms_of here row)) (cochain_at here (value_in row))
   row_agrees row =
       agree_by_place facets n p here all_here (cochain_of (terms_of here row)) (cochain_at here (value_in row))
-      (λ x b. Congruent_of (row_by_place row x b ∙ sym (cochain_at-value facets n p here all_here (value_in row) x b)))
-
--- a row that is zero from a bound on has its places below
-pub below_of_zero : (p bound : ℕ) (row : List (ℕ × ℕ)) → IsRow p row → ((y : ℕ) → bound ≤ y → Congruent p (value_in row y) 0) → IsBelow bound row
-below_of_zero p bound row r h =
-    each_from_index (λ (e : ℕ × ℕ). e.0 < bound) row
-    (λ i d b.
-    let v = each_get_or (λ (e : ℕ × ℕ). (e.1 ≢ 0) × (e.1 < p)) row i d b r.values in
-    elim (cases_lt (get_or row i d).0 bound) [
-      | inl c ↦ c
-      | inr c ↦ absurd (v.0 (sym (mod-eq_of_lt v.1) ∙ ap (λ m. m % p) (sym (value_in-at row i d r.ascends b)) ∙ (h (get_or row i d).0 c).same ∙ zero-mod p))
-    ])
+      (λ x b. Congruent_of (value_by_place facets n p here all_here row x b ∙ sym (cochain_at-value facets n p here all_here (value_in row) x b)))
 
 -- a place with a value is among those of the row
 pub inside_row : (bound : ℕ) (row : List (ℕ × ℕ)) (k : ℕ) → IsBelow bound row → value_in row k ≢ 0 → k < bound
@@ -139,7 +90,7 @@ module _ (facets parts : List (List ℕ)) (ls sls : List (List (List ℕ))) (is 
           } in
           elim (same_or_not Precedes lists_compare lists_strict (get_or here k []) s) [
             | inl e ↦ e
-            | inr m ↦ absurd (nonzero ((Congruent_trans (Congruent_of (sym (row_by_place facets n p here all row k b))) (class.canonical.others (get_or here k []) pivot m)).same ∙ zero-mod p))
+            | inr m ↦ absurd (nonzero ((Congruent_trans (Congruent_of (sym (value_by_place facets n p here all row k b))) (class.canonical.others (get_or here k []) pivot m)).same ∙ zero-mod p))
           ]
 
 -- pivots in different places of an ordered list differ

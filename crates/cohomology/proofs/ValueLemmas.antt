@@ -1,23 +1,6 @@
 -- What a relative cocycle pairs to with the cycles is its coordinates.
 use Rattle.std.proofs.Common.{◌≡◌, ℕ, zero, suc, ◌+◌, ◌*◌, ◌-◌, ◌<◌, ◌≢◌, List, [], ◌∷◌, length, get_or, arith, refl, sym, ap, ap₂, subst, ◌∙◌, inl, inr, add_comm, mod-eq_of_lt, Some, slice_get}
-use Rattle.std.proofs.Math.ListN.{length-map}
-use Rattle.std.proofs.lemmas.Option.{get_or_from_slice_get}
-use Rattle.linear_law.specs.Names.{Congruent, IsField, Each, unit_vector, paired, combination}
-use Rattle.linear_law.proofs.Names.{Congruent_add, Congruent_from, Congruent_of, Congruent_scale, Congruent_sym, Congruent_trans, add-negated, paired_plus, paired_same, each_from_index, unit_one, unit_other}
-use Rattle.std.proofs.lemmas.Bool.{cases_eq}
-use Rattle.std.proofs.lemmas.List.{get_or_default}
-use Rattle.simplicial_law.specs.Names.{no_cochain, Cochain, cochain_of, terms_of}
-use Rattle.sparse_rows.specs.Rows.{IsRow, value_in}
-use Rattle.sparse_rows.proofs.RowLemmas.{value_in-small}
-use Rattle.complex_index.specs.Names.{level}
-use Rattle.complex_index.specs.declared.indexed.Cochain.{Cochain as PlacedCochain}
-use Rattle.row_reduce.specs.Names.{combined}
-use Rattle.cycle_table.specs.Tables.{column}
-use Rattle.cycle_table.proofs.CombinedLemmas.{combined_paired}
-use Rattle.relative_law.specs.Names.{HasRelativeCoordinates}
-use Rattle.cohomology.specs.Names.{DegreeClasses, chains_at, cochain_in, AreClassesOfPair, IsSpread, at_places, classes_in, table_in, AreRelativeValues, cochains_at}
-use Rattle.cohomology.proofs.DegreeLemmas.{get_map}
-use Rattle.cohomology.proofs.RowLemmas.{row_by_place, some_at}
+use Rattle.cohomology.{proofs.Below.{get_or-map, length-map, get_or_from_slice_get, Congruent, IsField, Each, unit_vector, paired, combination, Congruent_add, Congruent_from, Congruent_of, Congruent_scale, Congruent_sym, Congruent_trans, add-negated, paired_plus, paired_same, each_from_index, unit_one, unit_other, cases_eq, get_or_default, no_cochain, Cochain, cochain_of, terms_of, value_by_place, IsRow, value_in, value_in-small, level, PlacedCochain, combined, column, combined_paired, HasRelativeCoordinates}, specs.Names.{DegreeClasses, chains_at, cochain_in, AreClassesOfPair, IsSpread, at_places, classes_in, table_in, AreRelativeValues, cochains_at}, proofs.RowLemmas.some_at}
 
 unit_later : (i j : ℕ) → unit_vector (suc i) (suc j) ≡ unit_vector i j
 unit_later i j =
@@ -111,8 +94,8 @@ values_tell p field ds z given sum values e is_row spread given_made full sub wh
     let dual = found.cycles facets parts is in
     let cochain_of_class : (j : ℕ) (c : PlacedCochain p) → j < length classes → slice_get classes j ≡ Some c → get_or zs j no_cochain ≡ cochain_in full n c.row =
     λ j c b q.
-    get_map cochain_of (chains_at here classes) j no_cochain [] (let l = length-map classes (λ (c : PlacedCochain p). terms_of here c.row) in omega (arith, b, l))
-    ∙ ap cochain_of (get_map (λ (d : PlacedCochain p). terms_of here d.row) classes j [] c b ∙ ap (λ (d : PlacedCochain p). terms_of here d.row) (get_or_from_slice_get classes j c c q)) in
+    get_or-map cochain_of (chains_at here classes) j [] no_cochain (let l = length-map classes (λ (c : PlacedCochain p). terms_of here c.row) in omega (arith, b, l))
+    ∙ ap cochain_of (get_or-map (λ (d : PlacedCochain p). terms_of here d.row) classes j c [] b ∙ ap (λ (d : PlacedCochain p). terms_of here d.row) (get_or_from_slice_get classes j c c q)) in
     let same : cs ≡ values =
     same_small p cs values (let h = has.count in let w = spread.whole in omega (arith, h, w, size)) has.small (spread_small p sum (length classes) values field is_row spread)
     (λ i b.
@@ -123,7 +106,7 @@ values_tell p field ds z given sum values e is_row spread given_made full sub wh
     subst (λ (g : Cochain). Congruent p (paired (length here) (at_places here g) col) (unit_vector i j)) (sym (cochain_of_class j k.0 b' k.1)) (dual.dual i j k.0 c k.1))
     (dual.coboundaries i c (λ s. f s + (p - 1) * combination cs zs s) has.rest) in
     let by_row : Congruent p (paired (length here) (at_places here f) col) (paired (length here) (value_in z.row) col) =
-    paired_same p (length here) (at_places here f) (value_in z.row) col (record { at = λ x d. Congruent_of (row_by_place facets n p here (is.full_index.lists n) z.row x d) }) in
+    paired_same p (length here) (at_places here f) (value_in z.row) col (record { at = λ x d. Congruent_of (value_by_place facets n p here (is.full_index.lists n) z.row x d) }) in
     let mine : value_in sum i ≡ get_or values i 0 = sym (spread.each i c) in
     Congruent_trans (Congruent_sym pairs)
     (Congruent_trans by_row

@@ -1,24 +1,7 @@
 -- The walk of one degree of a pair: its canonical classes, and what it tells of the coboundaries one degree up.
 use Rattle.std.proofs.Common.{Bool, Option, None, ◌≡◌, ℕ, ◌+◌, ◌<◌, ◌≤◌, ◌^◌, List, [], ◌∷◌, ◌++◌, map, length, get_or, arith, refl, sym, ap, subst, ◌∙◌, inl, inr}
-use Rattle.std.proofs.Math.ListN.{length-map}
-use Rattle.std.proofs.lemmas.List.{get_or_default, map-append}
-use Rattle.std.proofs.lemmas.Simd.{map-map}
-use Rattle.linear_law.specs.Names.{Congruent, IsField, Each, IsAscending, IsImage, KernelVector, kernel_place, copies}
-use Rattle.linear_law.proofs.Names.{each_append, each_from_index, each_get_or, each_map, each_unmap, each_zip, length_alike, not_zero, length-copies}
-use Rattle.simplicial_law.specs.Names.{cochain_at, terms_of}
-use Rattle.sparse_rows.specs.Rows.{IsBelow, IsRow, value_in}
-use Rattle.complex_index.specs.Names.{IsComplexIndex, IsIndexOf, level}
+use Rattle.cohomology.{proofs.Below.{each_right, IsVectorRow, length-map, get_or_default, map-append, map-map, Congruent, IsField, Each, IsAscending, IsImage, KernelVector, kernel_place, copies, each_append, each_from_index, each_get_or, each_map, each_unmap, each_zip, length_alike, not_zero, length-copies, cochain_at, terms_of, IsBelow, IsRow, value_in, IsComplexIndex, IsIndexOf, level, IsSolvedStored, stored_row, AreRows, SkipsFit, combined, IsLeadIn, Stored, members, coboundary_up, forget_bound, no_bound_below, IsRelativeCoboundary, IsCanonicalRelativeBasis, IsRelativeCoboundaryPivot, nowhere, some_none}, specs.Names.{AreBlanked, IsPairIndex, IsPairIndexOf, AreRelativeIn, AreStoredBounds, IsPivotTable, IsReachedIn, AreRowsOf}, proofs.DegreeLemmas.{by_place, degree_basis, next_bounds, lead_or_not, marked_or_not, rows_count, skips_fit}}
 use Rattle.complex_index.specs.declared.indexed.Cochain.{Cochain}
-use Rattle.row_reduce.specs.Names.{IsSolvedStored, stored_row, AreRows, SkipsFit, combined, IsLeadIn}
-use Rattle.row_reduce.specs.declared.Stored.{Stored}
-use Rattle.row_reduce.proofs.TriangularLemmas.{members}
-use Rattle.relative_law.proofs.RelativeDegrees.{coboundary_up}
-use Rattle.relative_law.proofs.Spaces.{forget_bound, no_bound_below}
-use Rattle.relative_law.specs.Names.{IsRelativeCoboundary, IsCanonicalRelativeBasis, IsRelativeCoboundaryPivot}
-use Rattle.cohomology.specs.Names.{AreBlanked, IsPairIndex, IsPairIndexOf, AreRelativeIn, AreStoredBounds, IsPivotTable, IsReachedIn, AreRowsOf}
-use Rattle.row_reduce.proofs.StepLemmas.{nowhere}
-use Rattle.row_reduce.proofs.StoredLemmas.{some_none}
-use Rattle.cohomology.proofs.DegreeLemmas.{by_place, degree_basis, next_bounds, lead_or_not, marked_or_not, rows_count, skips_fit}
 
 -- one more cochain of the degree
 pub cochain_more : {p : ℕ} (n : ℕ) (xs ys : List (Cochain p)) (rows : List (List (ℕ × ℕ))) (c : Cochain p) → ys ≡ xs ++ (c ∷ []) → c.degree ≡ n
@@ -86,10 +69,7 @@ nothing_reached p full sub pivots stored few is_none e =
 -- the index of no simplices
 pub no_levels : (ls : List (List (List ℕ))) → IsIndexOf [] ls → ls ≡ []
 no_levels [] is = refl
-no_levels (l ∷ ls) is = let b = is.inhabited 0 (omega arith) in absurd (nowhere 0 (get_or l 0 []) ((each_get_or _ l 0 [] b (is.lists 0).sound).listed))
-  where
-    nowhere : (n : ℕ) (s : List ℕ) → ⊥ → ⊥
-    nowhere n s h = h
+no_levels (l ∷ ls) is = let b = is.inhabited 0 (omega arith) in absurd ((each_get_or _ l 0 [] b (is.lists 0).sound).listed)
 
 pub no_index : IsIndexOf [] []
 no_index = record {
@@ -141,10 +121,10 @@ module _ (p : ℕ) (field : IsField p) (full sub : List (List (List ℕ))) (pair
               each_zip {P = λ (c : Cochain p). c.degree ≡ n} {Q = λ (c : Cochain p). IsRow p c.row × IsBelow (length (level full n)) c.row} (λ c d b. record { degree = d; row_is = b.0; inside = b.1 }) classes degrees
               (each_unmap (λ (r : List (ℕ × ℕ)). IsRow p r × IsBelow (length (level full n)) r) (λ (c : Cochain p). c.row) classes
               (subst (Each (λ (r : List (ℕ × ℕ)). IsRow p r × IsBelow (length (level full n)) r)) (sym same)
-              (each_zip (λ r a b. (a, b)) solutions solved.rows_are (subst (λ m. Each (IsBelow m) solutions) count solved.inside))));
+              (each_right (IsVectorRow p (length rows)) (λ r. IsRow p r × IsBelow (length (level full n)) r) (λ k r v. (v.is_row, subst (λ m. IsBelow m r) count v.below)) solved.kernel solutions solved.vectors)));
           few =
               let kernel = ascending_few kernel_place (length rows) 0 solved.kernel solved.walked.kernel_places solved.walked.kernel_ascends (omega arith) in
-              let one = length_alike (λ (k : KernelVector) (r : List (ℕ × ℕ)). (x : ℕ) → Congruent p (value_in r x) (k.vector x)) solved.kernel solutions solved.vectors in
+              let one = length_alike (IsVectorRow p (length rows)) solved.kernel solutions solved.vectors in
               let two = sym (length-map classes (λ (c : Cochain p). c.row)) ∙ ap (λ (rs : List (List (ℕ × ℕ))). length rs) same in
               let small = few_rows in
               omega (arith, kernel, one, two, small);

@@ -1,14 +1,8 @@
 -- What matrices are written over: columns of coordinates, with primitives where they are kept.
 use Rattle.std.specs.Prelude.{◌≡◌, ℕ, Bool, true, false, List, MatchOption, Option}
 use Rattle.simplicial_law.specs.Names.{HasCoordinates}
-use Rattle.complex_index.specs.Names.{IsIndexOf}
-use Rattle.complex_index.specs.declared.indexed.Cochain.{Cochain}
-use Rattle.cohomology.specs.declared.classes.DegreeClasses.{DegreeClasses}
-use Rattle.cohomology.specs.Classes.{AreCanonicalIn, cochain_in}
-use Rattle.cohomology.specs.Cycles.{AreClassesOf, classes_in}
-use Rattle.cohomology.specs.Data.{CohomologyData, IsCohomologyOf}
-use Rattle.cohomology.specs.Coordinates.{IsPrimitiveOf, rest_in}
-use Rattle.cohomology.specs.Values.{cochains_at}
+use Rattle.complex_index.specs.{Names.IsIndexOf, declared.indexed.Cochain.Cochain}
+use Rattle.cohomology.specs.{declared.classes.DegreeClasses.DegreeClasses, Classes.{AreCanonicalIn, cochain_in}, Cycles.{AreClassesOf, classes_in}, Data.{CohomologyData, IsCohomologyOf}, Coordinates.{IsPrimitiveOf, rest_in}, Values.cochains_at}
 
 -- the coordinates of the cocycle z for the classes, and where primitives are kept the canonical primitive of the rest
 pub record IsColumnOf (p : ℕ) (keeps : Bool) (levels : List (List (List ℕ))) (classes : List (Cochain p)) (z : Cochain p) (values : List ℕ) (primitive : Option (Cochain p)) : Type 0 where

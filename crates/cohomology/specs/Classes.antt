@@ -1,13 +1,10 @@
 -- Cochains by degree, as rows by place, and the classes of a complex and of a pair.
-use Rattle.std.specs.Prelude.{Option, ◌≡◌, ℕ, ◌^◌, ◌<◌, zero, suc, List, [], ◌∷◌, map, length, Vec}
-use Rattle.std.specs.declared.alloc.Global.{Global}
+use Rattle.std.specs.Prelude.{Option, ◌≡◌, ℕ, ◌^◌, ◌<◌, zero, suc, List, [], ◌∷◌, map, length}
 use Rattle.linear_law.specs.Names.{Each}
 use Rattle.simplicial_law.specs.Names.{Chain, Cochain as SimplexCochain, IsCanonicalBasis, cochain_of, terms_of, cochain_at}
 use Rattle.sparse_rows.specs.Rows.{IsBelow, IsRow}
-use Rattle.complex_index.specs.Names.{IsIndexOf, level}
-use Rattle.complex_index.specs.declared.indexed.Cochain.{Cochain}
-use Rattle.row_reduce.specs.Names.{AreTriangular, stored_row, IsLeadIn}
-use Rattle.row_reduce.specs.declared.Stored.{Stored}
+use Rattle.complex_index.specs.{Names.{IsIndexOf, level}, declared.indexed.Cochain.Cochain}
+use Rattle.row_reduce.specs.{Names.{AreTriangular, stored_row, IsLeadIn}, declared.Stored.Stored}
 use Rattle.relative_law.specs.Names.{IsRelativeCoboundary, IsCanonicalRelativeBasis, AreRelativeBoundPlaces}
 use Rattle.cohomology.specs.Pairs.{IsPairIndexOf}
 
@@ -18,15 +15,6 @@ cochain_in levels n row = cochain_of (terms_of (level levels n) row)
 -- the terms of each class of one degree: the simplices `here` at its places, with its values
 abbrev pub chains_at : {p : ℕ} → List (List ℕ) → List (Cochain p) → List Chain
 chains_at here classes = map (λ c. terms_of here c.row) classes
-
--- the terms of the classes of the degrees from n on
-abbrev pub chains_from : {p : ℕ} → List (List (List ℕ)) → ℕ → List (Vec (Cochain p) Global) → List (List Chain)
-chains_from levels n [] = []
-chains_from levels n (v ∷ vs) = chains_at (level levels n) v.items ∷ chains_from levels (suc n) vs
-
--- the terms of the classes of each degree
-abbrev pub chains_of : {p : ℕ} → List (List (List ℕ)) → List (Vec (Cochain p) Global) → List (List Chain)
-chains_of levels degrees = chains_from levels 0 degrees
 
 -- a cochain of degree n: a row, at places of simplices of this degree
 pub record IsPlaced (p : ℕ) (levels : List (List (List ℕ))) (n : ℕ) (c : Cochain p) : Type 0 where
@@ -39,10 +27,6 @@ abbrev pub EachFrom : {D : Type 0} → (ℕ → D → Type 0) → ℕ → List D
 EachFrom P n [] = Unit {0}
 EachFrom P n (d ∷ ds) = P n d × EachFrom P (suc n) ds
 
--- cochains of each degree, from n on
-abbrev pub ArePlacedFrom : (p : ℕ) → List (List (List ℕ)) → ℕ → List (Vec (Cochain p) Global) → Type 0
-ArePlacedFrom p levels n vs = EachFrom (λ m (v : Vec (Cochain p) Global). Each (IsPlaced p levels m) v.items) n vs
-
 -- the canonical classes of degree n of each complex with these levels
 pub record AreCanonicalIn (p : ℕ) (levels : List (List (List ℕ))) (n : ℕ) (classes : List (Cochain p)) : Type 0 where
   pub placed : Each (IsPlaced p levels n) classes
@@ -53,10 +37,6 @@ pub record AreRelativeIn (p : ℕ) (full sub : List (List (List ℕ))) (n : ℕ)
   pub placed : Each (IsPlaced p full n) classes
   pub few : length classes < 2 ^ 32
   pub basis : (facets parts : List (List ℕ)) → IsPairIndexOf facets parts full sub → IsCanonicalRelativeBasis facets parts n p (chains_at (level full n) classes)
-
--- so in each degree, from n on
-abbrev pub AreRelativeFrom : (p : ℕ) → List (List (List ℕ)) → List (List (List ℕ)) → ℕ → List (Vec (Cochain p) Global) → Type 0
-AreRelativeFrom p full sub n vs = EachFrom (λ m (v : Vec (Cochain p) Global). AreRelativeIn p full sub m v.items) n vs
 
 -- what the data of degree n have of something, none past the last degree
 abbrev pub in_degree : {D X : Type 0} → (D → List X) → List D → ℕ → List X

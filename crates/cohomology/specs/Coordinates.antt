@@ -3,15 +3,9 @@ use Rattle.std.specs.Prelude.{◌≡◌, ◌≢◌, ℕ, ◌+◌, ◌*◌, ◌-�
 use Rattle.linear_law.specs.Names.{Congruent, negated, sum_over, combination}
 use Rattle.simplicial_law.specs.Names.{AgreesOnSimplices, Cochain as SimplexCochain, HasCoordinates, IsCoboundary, IsCocycle, coboundary, IsCanonicalPrimitive}
 use Rattle.sparse_rows.specs.Rows.{value_in}
-use Rattle.complex_index.specs.Names.{IsIndexOf, level}
-use Rattle.complex_index.specs.declared.indexed.Cochain.{Cochain}
+use Rattle.complex_index.specs.{Names.{IsIndexOf, level}, declared.indexed.Cochain.Cochain}
 use Rattle.relative_law.specs.Names.{HasRelativeCoordinates, IsRelativeCocycle, IsCanonicalRelativePrimitive}
-use Rattle.cohomology.specs.declared.coordinates.CoordinatesRefused.{CoordinatesRefused}
-use Rattle.cohomology.specs.declared.coordinates.CoordinatesRefused.TheVariants.{NotClosed, OutOfMemory}
-use Rattle.cohomology.specs.declared.data.Coboundary.{Coboundary}
-use Rattle.cohomology.specs.Pairs.{IsPairIndexOf}
-use Rattle.cohomology.specs.Classes.{IsPlaced, cochain_in}
-use Rattle.cohomology.specs.Values.{cochains_at}
+use Rattle.cohomology.specs.{declared.coordinates.CoordinatesRefused.CoordinatesRefused, declared.coordinates.CoordinatesRefused.TheVariants.{NotClosed, OutOfMemory}, declared.data.Coboundary.Coboundary, Pairs.IsPairIndexOf, Classes.{IsPlaced, cochain_in}, Values.cochains_at}
 
 -- the value of the coboundary at the simplex one degree up at a place
 abbrev pub coboundary_at : ℕ → List (List (List ℕ)) → ℕ → List (ℕ × ℕ) → ℕ → ℕ

@@ -4,12 +4,9 @@ use Rattle.linear_law.specs.Names.{Congruent, Among, Each, unit_vector, paired}
 use Rattle.simplicial_law.specs.Names.{IsInOrder, AgreesOnSimplices, Cochain as SimplexCochain, IsCoboundary, pairing, unit_cochain, IsCanonicalClass, IsCanonicalCoboundary, IsCoboundaryPivot, canonical_cycle, cochain_of, terms_of}
 use Rattle.cycle_table.specs.Tables.{column}
 use Rattle.sparse_rows.specs.Rows.{IsBelow, IsFirst, value_in}
-use Rattle.complex_index.specs.Names.{IsIndexOf, level}
-use Rattle.complex_index.specs.declared.indexed.Cochain.{Cochain}
+use Rattle.complex_index.specs.{Names.{IsIndexOf, level}, declared.indexed.Cochain.Cochain}
 use Rattle.relative_law.specs.Names.{IsRelativeCoboundary, IsCanonicalRelativeClass, IsCanonicalRelativeCoboundary, IsRelativeCoboundaryPivot}
-use Rattle.cohomology.specs.declared.classes.DegreeClasses.{DegreeClasses}
-use Rattle.cohomology.specs.Pairs.{IsPairIndexOf}
-use Rattle.cohomology.specs.Classes.{AreCanonicalIn, AreRelativeIn, IsPlaced, cochain_in, in_degree}
+use Rattle.cohomology.specs.{declared.classes.DegreeClasses.DegreeClasses, Pairs.IsPairIndexOf, Classes.{AreCanonicalIn, AreRelativeIn, IsPlaced, cochain_in, in_degree}}
 
 -- These are the pivots of the relative coboundaries of degree n, each once.
 pub record ArePivots (facets parts : List (List ℕ)) (n p : ℕ) (pivots : List (List ℕ)) : Type 0 where

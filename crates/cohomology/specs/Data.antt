@@ -1,16 +1,11 @@
 -- The canonical data of a complex and of a pair by degree: classes, coboundaries and primitives, as rows by place.
-use Rattle.std.specs.Prelude.{◌≡◌, ℕ, ◌+◌, ◌-◌, ◌^◌, ◌<◌, List, [], map, length, get_or, Vec}
-use Rattle.std.specs.declared.alloc.Global.{Global}
+use Rattle.std.specs.{Prelude.{◌≡◌, ℕ, ◌+◌, ◌-◌, ◌^◌, ◌<◌, List, [], map, length, get_or, Vec}, declared.alloc.Global.Global}
 use Rattle.linear_law.specs.Names.{Among, Each, IsAscending}
 use Rattle.simplicial_law.specs.Names.{IsCanonicalCoboundary, IsCanonicalPrimitive, IsCoboundaryPivot}
 use Rattle.complex_index.specs.Names.{IsIndexOf, level}
 use Rattle.row_reduce.specs.declared.EchelonRow.{EchelonRow}
 use Rattle.relative_law.specs.Names.{IsCanonicalRelativeCoboundary, IsCanonicalRelativePrimitive, IsRelativeCoboundaryPivot}
-use Rattle.cohomology.specs.declared.classes.DegreeClasses.{DegreeClasses}
-use Rattle.cohomology.specs.declared.data.Coboundary.{Coboundary}
-use Rattle.cohomology.specs.Pairs.{IsPairIndexOf}
-use Rattle.cohomology.specs.Classes.{IsPlaced, cochain_in, in_degree}
-use Rattle.cohomology.specs.Cycles.{AreClassesOf, AreClassesOfPair}
+use Rattle.cohomology.specs.{declared.classes.DegreeClasses.DegreeClasses, declared.data.Coboundary.Coboundary, Pairs.IsPairIndexOf, Classes.{IsPlaced, cochain_in, in_degree}, Cycles.{AreClassesOf, AreClassesOfPair}}
 
 -- the simplex at which the coboundary has its pivot
 abbrev pub pivot_in : {p : ℕ} → List (List ℕ) → Coboundary p → List ℕ

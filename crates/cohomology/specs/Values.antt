@@ -1,11 +1,9 @@
 -- The coordinates of relative cocycles.
 use Rattle.std.specs.Prelude.{ℕ, List, map}
 use Rattle.simplicial_law.specs.Names.{Cochain as SimplexCochain, cochain_of}
-use Rattle.complex_index.specs.Names.{level}
-use Rattle.complex_index.specs.declared.indexed.Cochain.{Cochain}
+use Rattle.complex_index.specs.{Names.level, declared.indexed.Cochain.Cochain}
 use Rattle.relative_law.specs.Names.{HasRelativeCoordinates, IsRelativeCocycle}
-use Rattle.cohomology.specs.Pairs.{IsPairIndexOf}
-use Rattle.cohomology.specs.Classes.{chains_at, cochain_in}
+use Rattle.cohomology.specs.{Pairs.IsPairIndexOf, Classes.{chains_at, cochain_in}}
 
 -- the cochains of classes of degree n
 abbrev pub cochains_at : {p : ℕ} → List (List (List ℕ)) → ℕ → List (Cochain p) → List SimplexCochain

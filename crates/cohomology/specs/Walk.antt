@@ -1,16 +1,11 @@
 -- What a walk of one degree is given, and what it tells.
-use Rattle.std.specs.Prelude.{Bool, Option, ℕ, ◌+◌, List, map, length}
-use Rattle.std.specs.List.{AllZip}
+use Rattle.std.specs.{Prelude.{Bool, Option, ℕ, ◌+◌, List, map, length}, List.AllZip}
 use Rattle.linear_law.specs.Names.{Each}
 use Rattle.simplicial_law.specs.Names.{IsCoboundaryRow}
 use Rattle.sparse_rows.specs.Rows.{IsBelow, value_in}
 use Rattle.complex_index.specs.Names.{level}
-use Rattle.row_reduce.specs.Names.{IsEchelonFrom}
-use Rattle.row_reduce.specs.declared.EchelonRow.{EchelonRow}
-use Rattle.row_reduce.specs.declared.Stored.{Stored}
-use Rattle.cohomology.specs.declared.data.Coboundary.{Coboundary}
-use Rattle.cohomology.specs.Data.{AreRelativeCoboundaries, IsCoboundaryFrom}
-use Rattle.cohomology.specs.Pairs.{AreBlanked, AreJoined, IsMarkTable}
+use Rattle.row_reduce.specs.{Names.IsEchelonFrom, declared.EchelonRow.EchelonRow, declared.Stored.Stored}
+use Rattle.cohomology.specs.{declared.data.Coboundary.Coboundary, Data.{AreRelativeCoboundaries, IsCoboundaryFrom}, Pairs.{AreBlanked, AreJoined, IsMarkTable}}
 
 -- the coboundary rows of degree n, empty at the simplices of the subcomplex; these places and those of the pivots are skipped
 pub record AreRowsOf (p : ℕ) (full sub : List (List (List ℕ))) (n : ℕ) (pivots : List (Option ℕ)) (rows : List (List (ℕ × ℕ))) (skip : List Bool) : Type 0 where

@@ -1,5 +1,4 @@
-ghost use Rattle.std.specs.Prelude.{◌≡◌, ℕ, ◌+◌, ◌-◌, ◌<◌, ◌≤◌, ◌^◌, ◌++◌, ◌∷◌, ◌⊎◌, [], List, length, slice_get, Some, IfOk, OnOk, IsTrue};
-ghost use Rattle.std.specs.List.{AllZip};
+ghost use Rattle.std.specs.{Prelude.{◌≡◌, ℕ, ◌+◌, ◌-◌, ◌<◌, ◌≤◌, ◌^◌, ◌++◌, ◌∷◌, ◌⊎◌, [], List, length, slice_get, Some, IfOk, OnOk, IsTrue}, List.AllZip};
 ghost use Rattle.linear_law.specs.Names.{Each};
 ghost use Rattle.fp_field.specs.Served.{served};
 ghost use Rattle.sparse_rows.specs.Rows.{IsBelow, IsRow, value_in};
@@ -34,6 +33,7 @@ fn lead_of<const P: u32>(class: &Cochain<P>) -> u32
 }
 
 /// The least place of each class.
+#[tactic(auto, using(row_reduce::proofs::SumLemmas::zip_more))]
 fn leads_of<const P: u32>(alloc: Global, classes: &[Cochain<P>]) -> Result<Vec<u32>, AllocError>
     ensures { IfOk result (λ v. AllZip (λ c s. IsLeadOf c.row s) classes.now v.items) }
 {

@@ -1,5 +1,4 @@
-ghost use Rattle.std.specs.Prelude.{◌≡◌, ℕ, ◌+◌, ◌-◌, ◌<◌, ◌≤◌, ◌^◌, List, [], length, map, slice_get, Some, IfOk, IsTrue};
-ghost use Rattle.std.specs.List.{AllZip};
+ghost use Rattle.std.specs.{Prelude.{◌≡◌, ℕ, ◌+◌, ◌-◌, ◌<◌, ◌≤◌, ◌^◌, List, [], length, map, slice_get, Some, IfOk, IsTrue}, List.AllZip};
 ghost use Rattle.fp_field.specs.Served.{served};
 ghost use Rattle.row_reduce.specs.Names.{AreTriangular};
 ghost use Rattle.cohomology.specs.Names.{IsSubIndex, IsCanonicalCycle, IsRelativeCycle, classes_in, AreRelativeCoboundaries, IsCohomologyOf, IsCohomologyOfPair, IsCoboundaryFrom, coboundaries_in, TellCoboundaries};

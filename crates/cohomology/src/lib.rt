@@ -14,4 +14,3 @@ pub use basis::{Basis, Column};
 pub use classes::Classes;
 pub use coordinates::{Coordinates, CoordinatesRefused};
 pub use data::Cohomology;
-pub use walk::classes_of;

@@ -41,7 +41,7 @@ pub(crate) fn blanked<const P: u32>(
 ) -> Result<Vec<Row<P>>, AllocError>
     ensures { IfOk result (λ v. AreBlanked marks.now rows.entry.items v.items) }
 {
-    let mut kept = Vec::new(alloc);
+    let mut kept = Vec::with_capacity(alloc, rows.len())?;
     for row in rows {
         let marked = match marks.get(kept.len()) {
             Some(mark) => *mark,

@@ -1,9 +1,7 @@
 ghost use Rattle.std.specs.Prelude.{◌≡◌, ℕ, ◌+◌, ◌<◌, ◌^◌, List, [], map, length, IfOk, IsTrue};
 ghost use Rattle.linear_law.specs.Names.{Each};
 ghost use Rattle.fp_field.specs.Served.{served};
-ghost use Rattle.simplicial_law.specs.Names.{AreCanonicalBases};
-ghost use Rattle.complex_index.specs.Names.{IsIndexOf};
-ghost use Rattle.cohomology.specs.Names.{IsPairIndex, IsSubIndex, ArePlacedFrom, AreRelativeFrom, AreRelativeIn, IsPivotTable, IsReachedIn, chains_of, AreRowsOf, TellCoboundaries};
+ghost use Rattle.cohomology.specs.Names.{IsPairIndex, AreRelativeIn, IsPivotTable, IsReachedIn, AreRowsOf, TellCoboundaries};
 
 use crate::pairs::{blanked, joined, marks};
 use complex_index::{Cochain, Indexed};
@@ -98,37 +96,4 @@ pub(crate) fn step_at<const P: u32>(
     let (kernel, pivots, stored) = kernel_and_stored(alloc, rows.as_slice(), width, skip)?;
     let classes = of_degree(alloc, degree, kernel)?;
     Ok((classes, Reached { pivots, stored }))
-}
-
-/// The canonical relative classes of each degree, from degree 0 to the dimension of the complex.
-fn relative_classes_of<const P: u32>(
-    alloc: Global,
-    full: &Indexed,
-    sub: &Indexed,
-) -> Result<Vec<Vec<Cochain<P>>>, AllocError>
-    requires prime { IsTrue (served P) }
-    requires pair { IsSubIndex full.now sub.now }
-    ensures { IfOk result (λ c. (length c.items ≡ length full.now) × AreRelativeFrom P full.now sub.now 0 c.items) }
-{
-    let mut classes = Vec::new(alloc);
-    let mut reached = start(alloc, full)?;
-    for degree in 0..full.degrees() {
-        let (found, next) = step_at(alloc, full, sub, degree, &reached)?;
-        classes.push(found)?;
-        reached = next;
-    }
-    Ok(classes)
-}
-
-/// The canonical classes of each degree, from degree 0 to the dimension.
-pub fn classes_of<const P: u32>(
-    alloc: Global,
-    index: &Indexed,
-) -> Result<Vec<Vec<Cochain<P>>>, AllocError>
-    requires { IsTrue (served P) }
-    ensures bases { IfOk result (λ c. (facets : List (List ℕ)) → IsIndexOf facets index.now → AreCanonicalBases facets P (chains_of index.now c.items)) }
-    ensures placed { IfOk result (λ c. ArePlacedFrom P index.now 0 c.items) }
-{
-    let nothing = nothing(alloc)?;
-    relative_classes_of(alloc, index, &nothing)
 }

@@ -1,14 +1,6 @@
 -- One more row of the reduced echelon list, from the last lead to the first.
 use Rattle.std.proofs.Common.{◌≡◌, ℕ, ◌+◌, ◌*◌, ◌-◌, ◌%◌, ◌<◌, ◌≤◌, List, [], ◌∷◌, take, reverse, length, get_or, arith, refl, sym, ap, ◌∙◌, subst, inl, inr, Bool, Option, None}
-use Rattle.std.proofs.lemmas.Bool.{cases_eq}
-use Rattle.std.proofs.lemmas.Grind.{reverse_onto}
-use Rattle.linear_law.specs.Names.{Congruent, IsField, negated, sum_over, Each, ImageVector}
-use Rattle.linear_law.proofs.Names.{Congruent_add, Congruent_from, Congruent_mod, Congruent_mul, Congruent_of, Congruent_refl, Congruent_scale, Congruent_sym, Congruent_trans, add-negated, each_get_or, each_map, each_of_map, each_zip, sum_vanishes, sum_append}
-use Rattle.sparse_rows.specs.Rows.{IsBelow, value_in}
-use Rattle.sparse_rows.proofs.RowLemmas.{sum_take, value_in-past}
-use Rattle.row_reduce.specs.Names.{EchelonRow, Stored, StoredFits, IsFrom, image_of, IsSolvedStored, IsLeadIn, IsMarkedIn, AreOlder, AreEchelon, IsEchelonRow, IsMadeFrom, cleared, combination_of, pivot_of, row_of, Gives}
-use Rattle.row_reduce.proofs.HistoryLemmas.{each_number, below_wider, from_wider}
-use Rattle.row_reduce.proofs.GivesLemmas.{cleared_at, gives_alike, gives_scale, gives_sum, images_give}
+use Rattle.row_reduce.{proofs.Below.{cases_eq, reverse_onto, Congruent, IsField, negated, sum_over, Each, ImageVector, Congruent_add, Congruent_from, Congruent_mod, Congruent_mul, Congruent_of, Congruent_refl, Congruent_scale, Congruent_sym, Congruent_trans, add-negated, each_get_or, each_map, each_of_map, each_zip, sum_vanishes, sum_append, IsBelow, value_in, sum_take, value_in-past}, specs.Names.{EchelonRow, Stored, StoredFits, IsFrom, image_of, IsSolvedStored, IsLeadIn, IsMarkedIn, AreOlder, AreEchelon, IsEchelonRow, IsMadeFrom, cleared, combination_of, pivot_of, row_of, Gives}, proofs.HistoryLemmas.{each_number, below_wider, from_wider}, proofs.GivesLemmas.{cleared_at, gives_alike, gives_scale, gives_sum, images_give}}
 
 pub sum_reverse : {X : Type 0} (f : X → ℕ) (xs : List X) → sum_over f (reverse xs) ≡ sum_over f xs
 sum_reverse f [] = refl

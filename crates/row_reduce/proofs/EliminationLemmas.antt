@@ -1,15 +1,13 @@
 -- Elimination on sparse rows takes one more row.
-use Rattle.std.proofs.Common.{◌≡◌, ℕ, zero, suc, ◌+◌, ◌*◌, ◌-◌, ◌%◌, ◌<◌, ◌≤◌, ◌≢◌, List, [], ◌∷◌, ◌++◌, map, take, drop, length, get_or, arith, refl, sym, ap, ◌∙◌, subst, inl, inr, mod-eq_of_lt}
-use Rattle.std.proofs.lemmas.Bool.{cases_lt}
-use Rattle.std.proofs.lemmas.List.{reverse-append}
-use Rattle.std.specs.List.{AllZip}
-use Rattle.linear_law.specs.Names.{Congruent, IsField, negated, sum_over, Among, Each, IsAscending, unit_vector, IsReduced, LeadsAt, StartsAt}
-use Rattle.linear_law.proofs.Names.{Congruent_add, Congruent_from, Congruent_of, Congruent_refl, Congruent_scale, Congruent_sym, Congruent_trans, add-negated, each_alike, each_among, each_map, each_of_map, each_unmap, each_zip, not_zero, sum_vanishes, unit_one, add_it, keep_it, start_it}
-use Rattle.sparse_rows.specs.Rows.{IsBelow, IsFirst, IsRow, value_in}
-use Rattle.sparse_rows.proofs.RowLemmas.{below_of_zero, value_in-small}
-use Rattle.row_reduce.specs.Names.{EchelonRow, combined, cleared, combination_of, pivot_of, row_of, Everywhere, Gives, IsClearedBy, IsEliminated, IsGiven, IsMonic, IsVectorRow, end_of, end_of_row, IsEchelonOf}
-use Rattle.row_reduce.proofs.SpaceLemmas.{lead_inside, make_echelon}
-use Rattle.row_reduce.proofs.GivesLemmas.{cleared_at, combined_linear, gives_alike, gives_plus, gives_scale, gives_sum, gives_unit}
+use Rattle.std.proofs.Common.{◌≡◌, ℕ, zero, suc, ◌+◌, ◌*◌, ◌-◌, ◌%◌, ◌<◌, ◌≤◌, ◌≢◌, List, [], ◌∷◌, ◌++◌, map, take, drop, length, get_or, arith, refl, sym, ap, ap₂, ◌∙◌, subst, inl, inr, mod-eq_of_lt}
+use Rattle.row_reduce.{proofs.Below.{length_push, cases_lt, reverse-append, AllZip, Congruent, IsField, negated, sum_over, Among, Each, IsAscending, unit_vector, IsReduced, LeadsAt, StartsAt, Congruent_add, Congruent_from, Congruent_of, Congruent_refl, Congruent_scale, Congruent_sym, Congruent_trans, add-negated, each_alike, each_among, each_map, each_of_map, each_unmap, each_zip, not_zero, sum_vanishes, unit_one, add_it, keep_it, start_it, IsBelow, IsFirst, IsRow, value_in, below_of_zero, value_in-small}, specs.Names.{EchelonRow, combined, cleared, combination_of, pivot_of, row_of, Everywhere, Gives, IsClearedBy, IsEliminated, IsGiven, IsMonic, IsVectorRow, end_of, end_of_row, IsEchelonOf}, proofs.SpaceLemmas.{lead_inside, make_echelon}, proofs.GivesLemmas.{cleared_at, combined_linear, gives_alike, gives_plus, gives_scale, gives_sum, gives_unit}}
+
+-- lists that match by what is taken from them
+pub maps_alike : {X Z A : Type 0} (R : X → Z → Type 0) (f : X → A) (g : Z → A) → ((x : X) (z : Z) → R x z → g z ≡ f x) → (xs : List X) (zs : List Z) → AllZip R xs zs → map f xs ≡ map g zs
+maps_alike R f g h [] [] k = refl
+maps_alike R f g h [] (z ∷ zs) k = elim k [ ]
+maps_alike R f g h (x ∷ xs) [] k = elim k [ ]
+maps_alike R f g h (x ∷ xs) (z ∷ zs) k = ap₂ (λ a bs. a ∷ bs) (sym (h x z k.0)) (maps_alike R f g h xs zs k.1)
 
 -- ---- a bound for the places
 
@@ -70,12 +68,6 @@ module _ {p : ℕ} (x : EchelonRow p) where
 -- ---- the old rows, cleared at the newest pivot
 
 module _ (p : ℕ) (large : 1 < p) (x : EchelonRow p) (one : Congruent p (row_of x x.pivot) 1) where
-  same_places : (ds es : List (EchelonRow p)) → AllZip (IsClearedBy p x) ds es → map pivot_of ds ≡ map pivot_of es
-  same_places [] [] z = refl
-  same_places [] (e ∷ es) z = elim z [ ]
-  same_places (d ∷ ds) [] z = elim z [ ]
-  same_places (d ∷ ds) (e ∷ es) z = λ i. sym z.0.pivot i ∷ same_places ds es z.1 i
-
   -- where the newest row is zero nothing changes
   unchanged : (d e : EchelonRow p) (y : ℕ) → IsClearedBy p x d e → Congruent p (row_of x y) 0 → Congruent p (row_of e y) (row_of d y)
   unchanged d e y z none = Congruent_trans (z.row y) (Congruent_from (Congruent_scale (negated p (row_of d x.pivot)) none) (omega arith))
@@ -108,6 +100,7 @@ module _ (p : ℕ) (field : IsField p) (rows : List (List (ℕ × ℕ))) where
     kernel = [];
     images = [];
     walked = start_it p (length rows) (end_of rows) field (combined rows) (combined_linear p (end_of rows) rows) (λ x. ⊥);
+    few = omega arith;
     vectors = tt;
     listed = λ t m. m;
     each = tt;
@@ -152,6 +145,7 @@ module _ (p : ℕ) (field : IsField p) (rows : List (List (ℕ × ℕ))) where
       images = h.images;
       walked = keep_it p (length rows) width field (combined rows) (combined_linear p width rows) (λ x. ⊥) low h.kernel h.images h.walked inside (value_in combination) one given.starts
           (record { at = λ x s. elim s [ ] }) given.apart (value_in rest) (record { at = λ y on. given.from.at y tt }) (record { at = λ y on. Congruent_of (ap (λ (r : List (ℕ × ℕ)). value_in r y) none) });
+      few = let b = h.few in let e = length_push relations combination in omega arith;
       vectors = subst (AllZip (IsVectorRow p (length rows)) (record { place = low; vector = value_in combination } ∷ h.kernel)) (sym (reverse-append relations (combination ∷ [])))
           (record { is_row = rows_are.1; below = below_of_zero p (length rows) combination rows_are.1 given.skips.at; same = λ x. Congruent_refl (value_in combination x) }, h.vectors);
       listed = h.listed;
@@ -213,7 +207,7 @@ module _ (p : ℕ) (field : IsField p) (rows : List (List (ℕ × ℕ))) where
           → IsEliminated p rows low (take at olds ++ (x ∷ drop at olds)) relations
       unfolding width
       eliminated_row at before here b =
-          let places = same_places p field.large x one_there echelon olds z in
+          let places = maps_alike (IsClearedBy p x) pivot_of pivot_of (λ d e c. c.pivot) echelon olds z in
           let off = each_map {Q = λ (d : EchelonRow p). Congruent p (row_of x d.pivot) 0} (λ d none. Congruent_trans (monic.row_is d.pivot) (Congruent_from (Congruent_scale monic.factor none) (omega arith))) echelon zero_at in
           let reduced = reduced_cleared p field.large x one_there echelon olds z off h.reduced in
           record {
@@ -221,6 +215,7 @@ module _ (p : ℕ) (field : IsField p) (rows : List (List (ℕ × ℕ))) where
             images = record { place = t; from = value_in combination; row = value_in rest } ∷ h.images;
             walked = add_it p (length rows) width field (combined rows) (combined_linear p width rows) (λ x. ⊥) low h.kernel h.images h.walked inside (value_in combination) one given.starts
                 (record { at = λ x s. elim s [ ] }) given.apart (value_in rest) (record { at = λ y on. given.from.at y tt }) t lead (λ m. fresh (h.listed t m));
+            few = let c = h.few in omega arith;
             vectors = h.vectors;
             listed = λ y m. elim m [
               | inl e ↦ subst (λ y. Among y (map pivot_of (take at olds ++ (x ∷ drop at olds)))) (monic.pivot_is ∙ e) (among_put x at olds)

@@ -1,13 +1,6 @@
 -- Values at places, as lists of pairs.
-use Rattle.std.proofs.Common.{◌≡◌, ℕ, zero, suc, ◌+◌, ◌*◌, ◌-◌, ◌%◌, ◌<◌, ◌≤◌, List, [], ◌∷◌, ◌++◌, take, drop, length, get_or, set, arith, refl, sym, ◌∙◌, ap, subst, inl, inr, get_or-set_other, get_or-set_same, length-drop, append-nil, get_or-drop, take_all}
-use Rattle.std.proofs.Math.ListN.{drop_of_length-le}
-use Rattle.std.proofs.lemmas.Bool.{cases_eq, cases_lt}
-use Rattle.std.proofs.lemmas.List.{take_more}
-use Rattle.linear_law.specs.Names.{Congruent, Each, unit_vector, StartsAt}
-use Rattle.linear_law.proofs.Names.{Congruent_add, Congruent_from, Congruent_mod, Congruent_of, Congruent_sym, Congruent_trans, each_get_or, unit_one, unit_other, sum_append}
-use Rattle.sparse_rows.specs.Rows.{IsBelow, value_in}
-use Rattle.row_reduce.specs.Names.{entries_of, run_from, zipped, IsClear, IsRest}
-use Rattle.row_reduce.proofs.SumLemmas.{read_at}
+use Rattle.std.proofs.Common.{◌≡◌, ℕ, zero, suc, ◌+◌, ◌*◌, ◌-◌, ◌%◌, ◌<◌, ◌≤◌, List, [], ◌∷◌, ◌++◌, take, drop, length, get_or, set, arith, refl, sym, ◌∙◌, ap, subst, inl, inr, get_or-set_other, get_or-set_same, length-append, length-drop, append-nil, get_or-drop, take_all}
+use Rattle.row_reduce.{proofs.Below.{get_or_append_left, drop_of_length-le, cases_eq, cases_lt, take_more, Congruent, Each, unit_vector, StartsAt, Congruent_add, Congruent_from, Congruent_mod, Congruent_of, Congruent_sym, Congruent_trans, each_get_or, unit_one, unit_other, sum_append, IsBelow, value_in}, specs.Names.{entries_of, run_from, zipped, IsClear, IsRest}, proofs.SumLemmas.read_at}
 
 -- ---- values at places of their own
 
@@ -102,10 +95,8 @@ each_rest P [] ys h = h
 each_rest P (x ∷ xs) ys h = each_rest P xs ys h.1
 
 pub entries_left : (xs : List ℕ) (first : ℕ) (vs : List ℕ) (i : ℕ) (d : ℕ × ℕ) → length xs ≤ length vs → i < length xs → get_or (entries_of xs first vs) i d ≡ (get_or xs i 0, get_or vs i 0)
-entries_left [] first vs i d b c = absurd (omega arith)
-entries_left (x ∷ xs) first [] i d b c = absurd (omega arith)
-entries_left (x ∷ xs) first (v ∷ vs) zero d b c = refl
-entries_left (x ∷ xs) first (v ∷ vs) (suc i) d b c = entries_left xs first vs i d (omega arith) (omega arith)
+entries_left xs first vs i d b c =
+    get_or_append_left (zipped xs vs) (run_from first (drop (length xs) vs)) d i (let e = zipped_length xs vs b in omega arith) ∙ zipped_at xs vs i d b c
 
 pub entries_right : (xs : List ℕ) (first : ℕ) (vs : List ℕ) (i : ℕ) (d : ℕ × ℕ) → length xs ≤ i → i < length vs → get_or (entries_of xs first vs) i d ≡ (first + (i - length xs), get_or vs i 0)
 entries_right [] first vs i d b c = run_at first vs i d c ∙ (let e : first + i ≡ first + (i - 0) = omega arith in ap (λ n. (n, get_or vs i 0)) e)
@@ -116,9 +107,10 @@ entries_right (x ∷ xs) first (v ∷ vs) (suc i) d b c =
     ∙ (let e : first + (i - length xs) ≡ first + (suc i - suc (length xs)) = omega arith in ap (λ n. (n, get_or vs i 0)) e)
 
 pub entries_length : (xs : List ℕ) (first : ℕ) (vs : List ℕ) → length xs ≤ length vs → length (entries_of xs first vs) ≡ length vs
-entries_length [] first vs b = run_length first vs
-entries_length (x ∷ xs) first [] b = absurd (omega arith)
-entries_length (x ∷ xs) first (v ∷ vs) b = let e = entries_length xs first vs (omega arith) in omega arith
+entries_length xs first vs b =
+    let z = zipped_length xs vs b in
+    let r = run_length first (drop (length xs) vs) in
+    length-append (zipped xs vs) (run_from first (drop (length xs) vs)) ∙ omega (arith, z, r, length-drop (length xs) vs)
 
 -- one more pair, of the place and the value at i
 pub entries_more : (xs : List ℕ) (first : ℕ) (vs : List ℕ) (view pairs next : List (ℕ × ℕ)) (i x v : ℕ) → entries_of xs first vs ≡ view → length xs ≤ length vs → i < length vs

@@ -1,13 +1,6 @@
 -- From a history to the vector behind it.
 use Rattle.std.proofs.Common.{◌≡◌, ℕ, suc, ◌+◌, ◌*◌, ◌<◌, List, [], ◌∷◌, ◌++◌, reverse, length, get_or, arith, sym, ◌∙◌, ap, subst, append_assoc}
-use Rattle.std.proofs.lemmas.Grind.{reverse_onto}
-use Rattle.std.specs.List.{AllZip}
-use Rattle.linear_law.specs.Names.{Congruent, sum_over, KernelVector, unit_vector, paired}
-use Rattle.sparse_rows.specs.Rows.{IsBelow, value_in}
-use Rattle.sparse_rows.proofs.PairedRows.{paired_row}
-use Rattle.linear_law.proofs.Names.{pair_none, paired_plus, paired_same, sum_append, Congruent_refl, Congruent_of, Congruent_sym, Congruent_trans, Congruent_add, Congruent_mul, Congruent_scale, Congruent_from}
-use Rattle.row_reduce.specs.Names.{Stored, IsClear, Class, IsFrom, kernel_of, Expanding, IsExpanded, weighted}
-use Rattle.row_reduce.proofs.SumLemmas.{entry_at}
+use Rattle.row_reduce.{proofs.Below.{put_sum, reverse_onto, AllZip, Congruent, sum_over, KernelVector, unit_vector, paired, IsBelow, value_in, paired_row, pair_none, paired_plus, paired_same, sum_append, Congruent_refl, Congruent_of, Congruent_sym, Congruent_trans, Congruent_add, Congruent_mul, Congruent_scale, Congruent_from}, specs.Names.{Stored, IsClear, Class, IsFrom, kernel_of, Expanding, IsExpanded, weighted}}
 
 -- ---- new weights, below k
 
@@ -32,8 +25,7 @@ expand_step p images place history old new out k w i inside w_is is added h = re
       let mine_k : IsFrom p k sources i.source i.history (get_or sources k d) =
       subst (λ (j : Stored p). IsFrom p k sources j.source j.history (get_or sources k d)) (sym (is i)) (from.from k i d inside) in
       let moved = weighted_add p k w old new (λ j. get_or sources j d x) i.history added mine_k.fits in
-      let more : value_in (out ++ ((i.source, w) ∷ [])) x ≡ value_in out x + w * unit_vector i.source x =
-      sum_append (λ (e : ℕ × ℕ). entry_at e x) out ((i.source, w) ∷ []) ∙ omega arith in
+      let more = put_sum out i.source w x in
       Congruent_from (Congruent_add before (Congruent_add (Congruent_scale w (mine_k.sum d x)) (Congruent_sym moved))) (omega (arith, more));
 }
 

@@ -1,10 +1,6 @@
 -- What combinations of given rows give.
-use Rattle.std.proofs.Common.{◌≡◌, ℕ, zero, suc, ◌+◌, ◌*◌, ◌-◌, ◌<◌, ◌≤◌, List, [], ◌∷◌, map, length, get_or, arith, refl, sym, ap, ◌∙◌, subst}
-use Rattle.std.proofs.lemmas.List.{length-map}
-use Rattle.linear_law.specs.Names.{Congruent, negated, sum_over, Each, unit_vector, AgreesOn, IsReduced, ImageVector, IsLinear, KernelVector, Skips, StartsAt, Walked}
-use Rattle.linear_law.proofs.Names.{Congruent_add, Congruent_from, Congruent_of, Congruent_refl, Congruent_scale, Congruent_sym, Congruent_trans, add-negated, each_map, each_zip, sum_picks, row_combination-linear, row_combination-row, unit_other}
-use Rattle.sparse_rows.specs.Rows.{value_in}
-use Rattle.row_reduce.specs.Names.{EchelonRow, combined, cleared, pivot_of, row_of, Gives}
+use Rattle.std.proofs.{Common.{◌≡◌, ℕ, zero, suc, ◌+◌, ◌*◌, ◌-◌, ◌<◌, ◌≤◌, List, [], ◌∷◌, map, length, get_or, arith, refl, sym, ap, ◌∙◌, subst}, Math.ListN.get_or-map}
+use Rattle.row_reduce.{proofs.Below.{length-map, Congruent, negated, sum_over, Each, unit_vector, AgreesOn, IsReduced, ImageVector, IsLinear, KernelVector, Skips, StartsAt, Walked, Congruent_add, Congruent_from, Congruent_of, Congruent_refl, Congruent_scale, Congruent_sym, Congruent_trans, add-negated, each_map, each_zip, sum_picks, row_combination-linear, row_combination-row, unit_other, value_in}, specs.Names.{EchelonRow, combined, cleared, pivot_of, row_of, Gives}}
 
 -- ---- the sum of the rows times coefficients
 
@@ -18,12 +14,7 @@ combined_linear p width rows = combined_on p (λ y. y < width) rows
 pub combined_row : (rows : List (List (ℕ × ℕ))) (low y : ℕ) → low < length rows → combined rows (unit_vector low) y ≡ value_in (get_or rows low []) y
 combined_row rows low y b =
     let inside : low < length (map value_in rows) = subst (λ n. low < n) (sym (length-map rows value_in)) b in
-    row_combination-row (map value_in rows) low y (value_in []) inside ∙ ap (λ (f : ℕ → ℕ). f y) (map_at rows low)
-  where
-    map_at : (rs : List (List (ℕ × ℕ))) (k : ℕ) → get_or (map value_in rs) k (value_in []) ≡ value_in (get_or rs k [])
-    map_at [] k = refl
-    map_at (r ∷ rs) zero = refl
-    map_at (r ∷ rs) (suc k) = map_at rs k
+    row_combination-row (map value_in rows) low y (value_in []) inside ∙ ap (λ (f : ℕ → ℕ). f y) (get_or-map value_in rows low [])
 
 module _ (p : ℕ) (rows : List (List (ℕ × ℕ))) (On : ℕ → Type 0) (low : ℕ) (skipped : ℕ → Type 0) (kernel : List KernelVector) where
   pub gives_alike : (v w v' w' : ℕ → ℕ) → ((x : ℕ) → Congruent p (v' x) (v x)) → ((y : ℕ) → Congruent p (w' y) (w y)) → Gives p rows On low skipped kernel v w → Gives p rows On low skipped kernel v' w'

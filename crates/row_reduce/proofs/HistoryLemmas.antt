@@ -1,10 +1,6 @@
 -- Stored rows and classes with the vectors behind them.
 use Rattle.std.proofs.Common.{◌≡◌, ℕ, zero, suc, ◌+◌, ◌*◌, ◌<◌, ◌≤◌, ◌⊎◌, List, [], ◌∷◌, ◌++◌, map, length, get_or, arith, refl, sym, ap, ap₂, inl, inr}
-use Rattle.std.proofs.lemmas.List.{get_or_default}
-use Rattle.linear_law.specs.Names.{Each, Among, KernelVector, ImageVector, unit_vector, image_place}
-use Rattle.row_reduce.specs.Names.{Stored, Class, stored_place, added_from, IsFrom, image_of, images_of, kernel_of}
-use Rattle.sparse_rows.specs.Rows.{IsBelow}
-use Rattle.linear_law.proofs.Names.{Congruent_of, Congruent_trans, each_map, get_before}
+use Rattle.row_reduce.{proofs.Below.{get_or_default, Each, Among, KernelVector, ImageVector, unit_vector, image_place, IsBelow, Congruent_of, Congruent_trans, each_map, get_before}, specs.Names.{Stored, Class, stored_place, added_from, IsFrom, image_of, images_of, kernel_of}}
 
 pub images_push : {p : ℕ} (ss : List (Stored p)) (fs : List (ℕ → ℕ)) (done : List (ImageVector ℕ)) (s : Stored p) (f : ℕ → ℕ) → length fs ≡ length ss
     → images_of (ss ++ (s ∷ [])) (fs ++ (f ∷ [])) done ≡ image_of s f ∷ images_of ss fs done

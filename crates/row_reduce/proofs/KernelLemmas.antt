@@ -1,17 +1,6 @@
 -- The kernel as a space: its vectors are its echelon rows.
 use Rattle.std.proofs.Common.{◌≡◌, ℕ, suc, ◌+◌, ◌*◌, ◌%◌, ◌^◌, ◌<◌, ◌≤◌, List, [], ◌∷◌, ◌++◌, map, reverse, length, get_or, arith, refl, sym, ◌∙◌, ap, subst, inl, inr, mod-eq_of_lt}
-use Rattle.std.proofs.lemmas.Bool.{cases_lt}
-use Rattle.std.specs.List.{AllZip}
-use native.Mathlib.Nat.{zero-mod}
-use Rattle.linear_law.specs.Names.{Congruent, IsField, Among, Each, IsAscending, row_combination_from, unit_vector, AgreesOn, IsReduced, expansion, IsLinear, KernelVector, IsLead, StartsAt, kernel_place}
-use Rattle.linear_law.proofs.Names.{Congruent_add, Congruent_from, Congruent_mul, Congruent_of, Congruent_refl, Congruent_scale, Congruent_sym, Congruent_trans, each_right, each_map, each_unmap, each_zip, each_alike, length_alike, one-nonzero, unit_other, classes_span}
-use Rattle.sparse_rows.specs.Rows.{IsBelow, IsRow, value_in}
-use Rattle.sparse_rows.proofs.RowLemmas.{below_of_zero, value_in-small}
-use Rattle.row_reduce.specs.Names.{EchelonRow, combined, combination_of, pivot_of, row_of, Everywhere, IsEliminated, IsVectorRow, end_of, AreOwnFrom, IsEchelonOf, IsKernelOf, IsOwnRow}
-use Rattle.row_reduce.proofs.EliminationLemmas.{below_end}
-use Rattle.std.proofs.lemmas.List.{reverse-reverse}
-use Rattle.row_reduce.proofs.GivesLemmas.{combined_linear, combined_row}
-use Rattle.row_reduce.proofs.SpaceLemmas.{combined_beyond, lead_inside, make_echelon}
+use Rattle.row_reduce.{proofs.Below.{cases_lt, AllZip, zero-mod, Congruent, IsField, Among, Each, IsAscending, row_combination_from, unit_vector, AgreesOn, IsReduced, expansion, IsLinear, KernelVector, IsLead, StartsAt, kernel_place, Congruent_add, Congruent_from, Congruent_mul, Congruent_of, Congruent_refl, Congruent_scale, Congruent_sym, Congruent_trans, each_right, each_map, each_unmap, each_zip, each_alike, length_alike, one-nonzero, unit_other, classes_span, IsBelow, IsRow, value_in, below_of_zero, value_in-small, reverse-reverse}, specs.Names.{EchelonRow, combined, combination_of, pivot_of, row_of, Everywhere, IsEliminated, IsVectorRow, end_of, AreOwnFrom, IsEchelonOf, IsKernelOf, IsOwnRow}, proofs.EliminationLemmas.{below_end, maps_alike}, proofs.GivesLemmas.{combined_linear, combined_row}, proofs.SpaceLemmas.{combined_beyond, lead_inside, make_echelon}}
 
 -- a vector of the kernel and the echelon row that has it
 record IsSameVector (p : ℕ) (k : KernelVector) (e : EchelonRow p) : Type 0 where
@@ -32,12 +21,6 @@ reduced_across p (k ∷ ks) (e ∷ es) z h = (
       ks es z.1 h.1,
   reduced_across p ks es z.1 h.2,
 )
-
-places_across : (p : ℕ) (ks : List KernelVector) (es : List (EchelonRow p)) → AllZip (IsSameVector p) ks es → map kernel_place ks ≡ map pivot_of es
-places_across p [] [] z = refl
-places_across p [] (e ∷ es) z = elim z [ ]
-places_across p (k ∷ ks) [] z = elim z [ ]
-places_across p (k ∷ ks) (e ∷ es) z = λ i. sym z.0.place i ∷ places_across p ks es z.1 i
 
 same_vectors : (p count n : ℕ) → 1 < p → (ks : List KernelVector) (rs : List (List (ℕ × ℕ))) (es : List (EchelonRow p)) → AllZip (IsVectorRow p count) ks rs → AreOwnFrom p n rs es
     → Each (λ (k : KernelVector). StartsAt p k.place k.vector) ks → IsReduced p kernel_place (λ (k : KernelVector). k.vector) ks → AllZip (IsSameVector p) ks es
@@ -97,6 +80,9 @@ module _ (p : ℕ) (field : IsField p) (rows : List (List (ℕ × ℕ))) (found 
   same : AllZip (IsSameVector p) h.kernel echelon
   same = same_vectors p (length rows) 0 field.large h.kernel given echelon vectors own h.walked.kernel_starts h.walked.kernel_reduced
 
+  places : map kernel_place h.kernel ≡ map pivot_of echelon
+  places = maps_alike (IsSameVector p) kernel_place pivot_of (λ k e v. v.place) h.kernel echelon same
+
   inside : Each (IsBelow (length rows)) given
   inside = each_right (IsVectorRow p (length rows)) (IsBelow (length rows)) (λ k r v. v.below) h.kernel given vectors
 
@@ -127,7 +113,7 @@ module _ (p : ℕ) (field : IsField p) (rows : List (List (ℕ × ℕ))) (found 
             (linear.nothing.at y b));
       } in
       elim (h.walked.kernel_whole w zero_w t (omega arith) (record { on = on; nonzero = l.nonzero; least = λ y _ b. l.least y tt b })) [
-        | inl a ↦ subst (Among t) (places_across p h.kernel echelon same) a
+        | inl a ↦ subst (Among t) (places) a
         | inr s ↦ elim s [ ]
       ]
 
@@ -137,7 +123,7 @@ module _ (p : ℕ) (field : IsField p) (rows : List (List (ℕ × ℕ))) (found 
       (each (λ (e : EchelonRow p). IsRow p e.row × IsRow p e.combination) (λ k r e b q o. o.rows_are))
       (each (λ (e : EchelonRow p). IsBelow (length given) e.combination)
       (λ k r e b q o. below_of_zero p (length given) e.combination o.rows_are.1 (λ x c. Congruent_trans (o.combination x) (Congruent_of (unit_other k x (λ e. absurd (omega arith)))))))
-      (subst IsAscending (places_across p h.kernel echelon same) h.walked.kernel_ascends)
+      (subst IsAscending (places) h.walked.kernel_ascends)
       (reduced_across p h.kernel echelon same h.walked.kernel_reduced)
       (each_alike (IsSameVector p) (λ (k : KernelVector). StartsAt p k.place k.vector) (λ (e : EchelonRow p). StartsAt p e.pivot (row_of e))
       (λ k e v s. record { before = λ x b. Congruent_trans (v.vector x) (s.before x (let q = v.place in omega arith)) }) h.kernel echelon same h.walked.kernel_starts)
@@ -165,24 +151,6 @@ module _ (p : ℕ) (field : IsField p) (rows : List (List (ℕ × ℕ))) (found 
           };
         };
   }
-
--- no more solutions than rows
-few_up : (count low : ℕ) (ks : List KernelVector) → Each (λ (k : KernelVector). (low ≤ k.place) × (k.place < count)) ks → IsAscending (map kernel_place ks) → low ≤ count → low + length ks ≤ count
-few_up count low [] h a b = omega arith
-few_up count low (k ∷ ks) h a b =
-    let later : Each (λ (s : KernelVector). (k.place + 1 ≤ s.place) × (s.place < count)) ks =
-    each_zip {P = λ (s : KernelVector). (low ≤ s.place) × (s.place < count)} {Q = λ (s : KernelVector). k.place < s.place} {S = λ (s : KernelVector). (k.place + 1 ≤ s.place) × (s.place < count)}
-    (λ s c d. (omega arith, c.1)) ks h.1 (each_unmap (λ w. k.place < w) kernel_place ks a.0) in
-    let first : low ≤ k.place = h.0.0 in
-    let inside : k.place < count = h.0.1 in
-    let rest = few_up count (k.place + 1) ks later a.1 (omega arith) in
-    omega (arith, rest)
-
-pub few_relations : (p : ℕ) (rows : List (List (ℕ × ℕ))) (found : List (EchelonRow p)) (relations : List (List (ℕ × ℕ))) → IsEliminated p rows 0 found relations → length rows < 2 ^ 32 → length (reverse relations) < 2 ^ 32
-few_relations p rows found relations h few =
-    let count = length_alike (IsVectorRow p (length rows)) h.kernel (reverse relations) h.vectors in
-    let up = few_up (length rows) 0 h.kernel h.walked.kernel_places h.walked.kernel_ascends (omega arith) in
-    omega (arith, few, up, count)
 
 -- the given row of its number is the next echelon row
 pub own_more : (p k : ℕ) (rs : List (List (ℕ × ℕ))) (es : List (EchelonRow p)) (r : List (ℕ × ℕ)) (e : EchelonRow p) → AreOwnFrom p k rs es → IsOwnRow p (k + length es) r e → AreOwnFrom p k (rs ++ (r ∷ [])) (es ++ (e ∷ []))

@@ -1,3 +1,4 @@
+pub mod Below
 pub mod SumLemmas
 pub mod EntryLemmas
 pub mod HistoryLemmas

@@ -1,12 +1,6 @@
 -- What a walk of all rows has found: the kernel as rows, and the leads.
 use Rattle.std.proofs.Common.{◌≡◌, ℕ, zero, suc, ◌<◌, ◌≤◌, ◌⊎◌, List, [], ◌∷◌, reverse, map, length, get_or, arith, refl, subst, inl, inr, append-nil, Bool, Option, None, Some}
-use Rattle.std.specs.List.{AllZip}
-use Rattle.linear_law.specs.Names.{Congruent, Among, Each, ImageVector, KernelVector, image_place}
-use Rattle.linear_law.proofs.Names.{each_right, zip_change, zip_each, Congruent_sym}
-use Rattle.sparse_rows.specs.Rows.{IsBelow, IsRow, value_in}
-use Rattle.row_reduce.specs.Names.{Class, Stored, stored_place, IsFrom, IsSolved, Reached, image_of, images_of, kernel_of, IsMarkedIn, AreOlder, HistoryFits, IsVectorOfClass}
-use Rattle.row_reduce.proofs.ExpansionLemmas.{zip_reversed}
-use Rattle.row_reduce.proofs.HistoryLemmas.{among_images}
+use Rattle.row_reduce.{proofs.Below.{AllZip, Congruent, Among, Each, ImageVector, KernelVector, image_place, zip_each, Congruent_sym, IsBelow, IsRow, value_in}, specs.Names.{Class, Stored, stored_place, IsFrom, IsSolved, IsVectorRow, Reached, image_of, images_of, kernel_of, IsMarkedIn, AreOlder, HistoryFits, IsVectorOfClass}, proofs.ExpansionLemmas.zip_reversed, proofs.HistoryLemmas.among_images}
 
 pub number_among : {X : Type 0} (f : X → ℕ) (xs : List X) (k t : ℕ) (d : X) → k < length xs → f (get_or xs k d) ≡ t → Among t (map f xs)
 number_among f [] k t d b e = absurd (omega arith)
@@ -66,11 +60,8 @@ module _ (p width : ℕ) (rows : List (List (ℕ × ℕ))) (skip : List Bool) (c
         kernel = kernel;
         images = images_of stored reached.sources [];
         walked = reached.walked;
-        rows_are = each_right IsSolution (IsRow p) (λ k r s. s.is_row) kernel (reverse found) all;
-        inside = each_right (λ (k : KernelVector) (r : List (ℕ × ℕ)). IsBelow (length rows) r) (IsBelow (length rows)) (λ k r s. s) kernel (reverse found)
-            (zip_each (λ (k : KernelVector). (0 ≤ k.place) × (k.place < length rows)) IsSolution (λ (k : KernelVector) (r : List (ℕ × ℕ)). IsBelow (length rows) r)
-            (λ k r at s. s.below at.1) kernel (reverse found) reached.walked.kernel_places all);
-        vectors = zip_change IsSolution (λ (k : KernelVector) (r : List (ℕ × ℕ)). (x : ℕ) → Congruent p (value_in r x) (k.vector x)) (λ k r s. s.vector) kernel (reverse found) all;
+        vectors = zip_each (λ (k : KernelVector). (0 ≤ k.place) × (k.place < length rows)) IsSolution (IsVectorRow p (length rows))
+            (λ k r at s. record { is_row = s.is_row; below = s.below at.1; same = s.vector }) kernel (reverse found) reached.walked.kernel_places all;
         full = reached.owns.full;
         owned = λ y b. (
           λ some. elim (some_or_none (get_or pivots y None)) [

@@ -1,13 +1,6 @@
 -- The reduced echelon list of a span, with no bound on the places.
 use Rattle.std.proofs.Common.{◌≡◌, ℕ, suc, ◌+◌, ◌*◌, ◌-◌, ◌%◌, ◌<◌, ◌≤◌, ◌≢◌, List, [], ◌∷◌, map, length, arith, refl, sym, ◌∙◌, ap, subst, inl, inr}
-use Rattle.std.proofs.lemmas.Bool.{cases_lt}
-use native.Mathlib.Nat.{zero-mod}
-use Rattle.linear_law.specs.Names.{Congruent, IsField, negated, sum_over, Among, Each, IsAscending, row_combination_from, IsReduced, IsCanonical, IsLead, IsPivot, StartsAt}
-use Rattle.linear_law.proofs.Names.{Congruent_add, Congruent_from, Congruent_of, Congruent_refl, Congruent_scale, Congruent_sym, Congruent_trans, add-negated, each_among, each_map, each_unmap, each_zip, nonzero_alike, one-nonzero, reduced_apart, reduced_one, sum_vanishes, each_of_index, found}
-use Rattle.sparse_rows.specs.Rows.{IsBelow, IsRow, value_in}
-use Rattle.sparse_rows.proofs.RowLemmas.{below_of_zero, value_in-past}
-use Rattle.row_reduce.specs.Names.{EchelonRow, combined, cleared, combination_of, pivot_of, row_of, Everywhere, IsEchelonOf, IsRemainder, IsSpannedBy, Gives}
-use Rattle.row_reduce.proofs.GivesLemmas.{cleared_at, combined_on, gives_scale, gives_sum}
+use Rattle.row_reduce.{proofs.Below.{cases_lt, zero-mod, Congruent, IsField, negated, sum_over, Among, Each, IsAscending, row_combination_from, IsReduced, IsCanonical, IsLead, IsPivot, StartsAt, Congruent_add, Congruent_from, Congruent_of, Congruent_refl, Congruent_scale, Congruent_sym, Congruent_trans, add-negated, each_among, each_map, each_unmap, each_zip, nonzero_alike, one-nonzero, reduced_apart, reduced_one, sum_vanishes, each_of_index, found, IsBelow, IsRow, value_in, below_of_zero, value_in-past}, specs.Names.{EchelonRow, combined, cleared, combination_of, pivot_of, row_of, Everywhere, IsEchelonOf, IsRemainder, IsSpannedBy, Gives}, proofs.GivesLemmas.{cleared_at, combined_on, gives_scale, gives_sum}}
 
 -- rows below width give nothing beyond it
 pub combined_beyond : (k width : ℕ) (rows : List (List (ℕ × ℕ))) (v : ℕ → ℕ) (y : ℕ) → Each (IsBelow width) rows → width ≤ y → row_combination_from k (map value_in rows) v y ≡ 0
@@ -114,14 +107,3 @@ module _ (p : ℕ) (field : IsField p) (given : List (List (ℕ × ℕ))) (echel
             (λ x. Congruent_from (Congruent_add (combination_is x) (Congruent_add (Congruent_scale by (sum_is x)) (Congruent_scale (v x) by_is))) (omega arith)) (λ y. Congruent_refl ((p - 1) * (0 + S y))) whole in
             Congruent_from (Congruent_add (Congruent_sym (rest_is y)) (Congruent_add (Congruent_sym (turned.from.at y tt)) (Congruent_sym (add-negated p (S y) field.large)))) (omega arith);
       }
-
--- no rows have no leads
-pub echelon_none : (p : ℕ) → IsEchelonOf p [] []
-echelon_none p = record {
-  rows_are = tt;
-  inside = tt;
-  ascends = tt;
-  pivots = λ t. (λ h. h.lead.nonzero ((h.member.same.at t tt).same ∙ zero-mod p), λ m. elim m [ ]);
-  canonical = tt;
-  from = tt;
-}

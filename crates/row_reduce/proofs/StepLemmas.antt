@@ -1,14 +1,6 @@
 -- A walk takes one more row.
 use Rattle.std.proofs.Common.{◌≡◌, ℕ, zero, suc, ◌+◌, ◌<◌, ◌≤◌, List, [], ◌∷◌, ◌++◌, map, length, get_or, arith, refl, sym, ◌∙◌, ap, subst, inl, inr, Bool, Option, None, true, false}
-use Rattle.std.proofs.lemmas.Bool.{cases_eq}
-use Rattle.linear_law.specs.Names.{Congruent, IsField, Each, Among, ImageVector, KernelVector, unit_vector, Walked, LeadsAt, StartsAt, image_place, copies}
-use Rattle.linear_law.proofs.Names.{unit_one, each_map, each_push, get_before, get_last, length_push, length_alike, zip_change, zip_push, Congruent_refl, Congruent_of, Congruent_sym, Congruent_trans, Congruent_add, Congruent_from, length-copies, each_get_or, nonzero_alike, sum_vanishes, keep_it, add_it, skip_it, start_it}
-use Rattle.row_reduce.specs.Names.{Stored, Class, IsLoaded, IsReducedTo, IsStoredFrom, Owns, StoredFits, added_row, IsFrom, IsSkippable, Reached, added_from, combined, images_of, kernel_of, IsMarkedIn, Gives}
-use Rattle.sparse_rows.specs.Rows.{IsBelow, value_in}
-use Rattle.std.proofs.lemmas.List.{get_or_default}
-use Rattle.row_reduce.proofs.StoredLemmas.{some_none}
-use Rattle.row_reduce.proofs.GivesLemmas.{combined_linear, gives_alike, gives_sum, gives_unit, images_give}
-use Rattle.row_reduce.proofs.HistoryLemmas.{images_push, kernel_push, each_number, among_images, added_default, from_more, from_wider}
+use Rattle.row_reduce.{proofs.Below.{cases_eq, Congruent, IsField, Each, Among, ImageVector, KernelVector, unit_vector, Walked, LeadsAt, StartsAt, image_place, copies, unit_one, each_map, each_push, get_before, get_last, length_push, length_alike, zip_change, zip_push, Congruent_refl, Congruent_of, Congruent_sym, Congruent_trans, Congruent_add, Congruent_from, length-copies, each_get_or, nonzero_alike, sum_vanishes, keep_it, add_it, skip_it, start_it, IsBelow, value_in, get_or_default}, specs.Names.{Stored, Class, IsLoaded, IsReducedTo, IsStoredFrom, Owns, StoredFits, added_row, IsFrom, IsSkippable, Reached, added_from, combined, images_of, kernel_of, IsMarkedIn, Gives}, proofs.StoredLemmas.some_none, proofs.GivesLemmas.{combined_linear, gives_alike, gives_sum, gives_unit, images_give}, proofs.HistoryLemmas.{images_push, kernel_push, each_number, among_images, added_default, from_more, from_wider}}
 
 module _ (p width : ℕ) (field : IsField p) (rows : List (List (ℕ × ℕ))) (skipped : ℕ → Type 0) (low : ℕ) (kernel : List (Class p)) (images : List (Stored p)) (pivots : List (Option ℕ))
     (reached : Reached p width rows skipped (suc low) kernel images pivots) (inside : low < length rows) (taken : skipped low → ⊥)

@@ -1,13 +1,6 @@
 -- What is left in a sum, and the table of the leads.
 use Rattle.std.proofs.Common.{◌≡◌, ℕ, ◌+◌, ◌*◌, ◌-◌, ◌<◌, ◌≤◌, ◌≢◌, ◌⊎◌, List, [], ◌∷◌, ◌++◌, map, take, length, get_or, set, arith, refl, sym, ◌∙◌, ap, subst, inl, inr, get_or-set_other, get_or-set_same, length-set, Option, None, Some}
-use Rattle.std.proofs.lemmas.Bool.{cases_eq, cases_lt}
-use Rattle.std.proofs.lemmas.List.{get_or_past}
-use Rattle.linear_law.specs.Names.{Congruent, Among, StartsAt}
-use Rattle.sparse_rows.specs.Rows.{IsBelow, value_in}
-use Rattle.row_reduce.specs.Names.{Stored, IsClear, IsRest, IsStoredFrom, Owns, stored_place}
-use Rattle.linear_law.proofs.Names.{Congruent_refl, Congruent_of, Congruent_sym, Congruent_trans, Congruent_add, Congruent_mul, Congruent_scale, Congruent_from, add-negated, each_push, get_before, get_last, length_push, sum_append}
-use Rattle.sparse_rows.proofs.RowLemmas.{sum_take}
-use Rattle.row_reduce.proofs.SumLemmas.{entry_at, entry_away, entry_here}
+use Rattle.row_reduce.{proofs.Below.{cases_eq, cases_lt, get_or_past, Congruent, Among, StartsAt, IsBelow, value_in, Congruent_refl, Congruent_of, Congruent_sym, Congruent_trans, Congruent_add, Congruent_mul, Congruent_scale, Congruent_from, add-negated, each_push, get_before, get_last, length_push, put_sum, sum_take}, specs.Names.{Stored, IsClear, IsRest, IsStoredFrom, Owns, stored_place}, proofs.SumLemmas.{entry_at, entry_away, entry_here}}
 
 -- while the rest is taken: what is before `at` has moved
 pub record Taking (p : ℕ) (old sum : List ℕ) (rest : List (ℕ × ℕ)) (at : ℕ) : Type 0 where
@@ -25,9 +18,6 @@ first_step row i first new e is b low here h y c =
     let n : y ≢ e.0 = omega arith in
     more ∙ omega (arith, h y (omega arith), entry_away e y n)
 
-row_push : (rest : List (ℕ × ℕ)) (at value y : ℕ) → value_in (rest ++ ((at, value) ∷ [])) y ≡ value_in rest y + entry_at (at, value) y
-row_push rest at value y = sum_append (λ (e : ℕ × ℕ). entry_at e y) rest ((at, value) ∷ []) ∙ omega arith
-
 pub taking_step : (p : ℕ) (old sum : List ℕ) (rest : List (ℕ × ℕ)) (at value : ℕ) → value ≡ get_or sum at 0 → at < length sum → length sum ≡ length old → Taking p old sum rest at
     → Taking p old (set sum at 0) (rest ++ ((at, value) ∷ [])) (at + 1)
 taking_step p old sum rest at value is inside full h =
@@ -41,12 +31,12 @@ taking_step p old sum rest at value is inside full h =
       };
       left = λ y b. let n : y ≢ at = omega arith in rw get_or-set_other (h.left y (omega arith));
       fits = each_push (λ (e : ℕ × ℕ). e.0 < length old) rest (at, value) h.fits (omega arith);
-      moved = λ y b. Congruent_trans (Congruent_of (row_push rest at value y)) (elim (cases_eq y at) [
+      moved = λ y b. Congruent_trans (Congruent_of (put_sum rest at value y)) (elim (cases_eq y at) [
         | inl e ↦ Congruent_of (omega (arith, h.nothing y (omega arith), entry_here (at, value) y e, same, ap (λ z. get_or old z 0) e))
         | inr n ↦ let away = entry_away (at, value) y n in Congruent_from (h.moved y (omega arith)) (omega (arith, away))
       ]);
       nothing = λ y b. let n : y ≢ at = omega arith in
-          row_push rest at value y ∙ omega (arith, h.nothing y (omega arith), entry_away (at, value) y n);
+          put_sum rest at value y ∙ omega (arith, h.nothing y (omega arith), entry_away (at, value) y n);
     }
 
 pub taking_past : (p : ℕ) (old sum : List ℕ) (rest : List (ℕ × ℕ)) (at : ℕ) → get_or sum at 0 ≡ 0 → Taking p old sum rest at → Taking p old sum rest (at + 1)
@@ -67,13 +57,6 @@ taking_start p sum start h = record { gone = h; left = λ y b. refl; fits = tt; 
 -- nothing is left past the end
 pub all_clear : (p : ℕ) (sum : List ℕ) (at : ℕ) → length sum ≤ at → StartsAt p at (λ y. get_or sum y 0) → IsClear p sum
 all_clear p sum at b h = record { zero = λ y. elim (cases_lt y at) [ inl c ↦ h.before y c | inr c ↦ Congruent_of (get_or_past sum y 0 (omega arith)) ] }
-
-pub taken_all : (p : ℕ) (old sum : List ℕ) (rest : List (ℕ × ℕ)) (at : ℕ) → length sum ≡ length old → length old ≤ at → Taking p old sum rest at → IsRest p old sum rest
-taken_all p old sum rest at full b h = record {
-  clear = all_clear p sum at (omega arith) h.gone;
-  fits = h.fits;
-  row = λ y. elim (cases_lt y at) [ inl c ↦ h.moved y c | inr c ↦ Congruent_of (h.nothing y c ∙ sym (get_or_past old y 0 (omega arith))) ];
-}
 
 pub stored_from : (p : ℕ) (old new : List ℕ) (t inv : ℕ) (i : Stored p) → IsRest p old new i.row → t < length old → StartsAt p t (λ y. get_or old y 0)
     → Congruent p (get_or old t 0 * inv) 1 → Congruent p (i.factor + inv) 0 → i.place ≡ t → IsStoredFrom p old new t i.source i.history i

@@ -1,13 +1,6 @@
 -- Adding rows to a sum.
 use Rattle.std.proofs.Common.{◌≡◌, ℕ, zero, suc, ◌+◌, ◌*◌, ◌%◌, ◌<◌, ◌≢◌, List, [], ◌∷◌, take, length, get_or, set, arith, sym, ◌∙◌, ap, subst, inl, inr, get_or-set_other, get_or-set_same, ◌++◌, Option, None, Some}
-use Rattle.std.proofs.lemmas.Bool.{cases_eq, cases_lt}
-use Rattle.std.proofs.lemmas.List.{get_or_default, take_more}
-use Rattle.std.specs.List.{AllZip}
-use Rattle.linear_law.proofs.Names.{zip_push, each_get_or, each_push, unit_one, unit_other, Congruent_refl, Congruent_of, Congruent_trans, Congruent_add, Congruent_mul, Congruent_scale, Congruent_from, Congruent_mod, sum_append}
-use Rattle.linear_law.specs.Names.{Congruent, Each, unit_vector, StartsAt}
-use Rattle.sparse_rows.specs.Rows.{IsBelow, value_in}
-use Rattle.row_reduce.specs.Names.{Stored, Owns, StoredFits, added_row}
-use Rattle.sparse_rows.proofs.RowLemmas.{sum_take}
+use Rattle.row_reduce.{proofs.Below.{cases_eq, cases_lt, get_or_default, take_more, AllZip, zip_push, each_get_or, each_push, unit_one, unit_other, Congruent_refl, Congruent_of, Congruent_trans, Congruent_add, Congruent_mul, Congruent_scale, Congruent_from, Congruent_mod, sum_append, Congruent, Each, unit_vector, StartsAt, IsBelow, value_in, sum_take}, specs.Names.{Stored, Owns, StoredFits, added_row}}
 
 -- what one entry gives
 abbrev pub entry_at : ℕ × ℕ → ℕ → ℕ
@@ -77,9 +70,6 @@ cancel_before p width by old new image fits by_is before step = record {
 pub named : {p : ℕ} (width : ℕ) (images : List (Stored p)) (pivots : List (Option ℕ)) (y k : ℕ) (i : Stored p) → Owns width images pivots → get_or pivots y None ≡ Some k → i ≡ get_or images k i
     → (k < length images) × (i.place ≡ y)
 named {p} width images pivots y k i h e is = let o = h.some y k e in (o.0, ap (λ (j : Stored p). j.place) is ∙ o.1 i)
-
-pub stored_fits : (p width : ℕ) (images : List (Stored p)) (k : ℕ) (i : Stored p) → i ≡ get_or images k i → k < length images → Each (StoredFits p width) images → StoredFits p width i
-stored_fits p width images k i is b h = subst (StoredFits p width) (sym is) (each_get_or (StoredFits p width) images k i b h)
 
 -- one more row is added
 pub push_added : (p : ℕ) (images : List (Stored p)) (d i : Stored p) (history : List (ℕ × ℕ)) (k by old now new y : ℕ) → i ≡ get_or images k i → k < length images

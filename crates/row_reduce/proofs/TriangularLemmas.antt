@@ -1,11 +1,6 @@
 -- The rows that a walk has stored are triangular, and lie in the span.
 use Rattle.std.proofs.Common.{◌≡◌, ℕ, ◌<◌, List, [], ◌∷◌, reverse, map, length, get_or, arith, refl, sym, subst, inl, inr, Bool, Option}
-use Rattle.std.specs.List.{AllZip}
-use Rattle.linear_law.specs.Names.{Among, Each, IsApart, ImageVector, IsImage, AgreesOn, image_place}
-use Rattle.linear_law.proofs.Names.{each_from_index, Congruent_sym}
-use Rattle.row_reduce.specs.Names.{Class, Stored, stored_place, Reached, combined, image_of, images_of, IsMarkedIn, IsVectorOfClass, IsSolvedStored, stored_row}
-use Rattle.row_reduce.proofs.HistoryLemmas.{each_number}
-use Rattle.row_reduce.proofs.SolvedLemmas.{older, solved, solved_images}
+use Rattle.row_reduce.{proofs.Below.{AllZip, Among, Each, IsApart, ImageVector, IsImage, AgreesOn, image_place, each_from_index, Congruent_sym}, specs.Names.{Class, Stored, stored_place, Reached, combined, image_of, images_of, IsMarkedIn, IsVectorOfClass, IsSolvedStored, stored_row}, proofs.HistoryLemmas.each_number, proofs.SolvedLemmas.{older, solved, solved_images}}
 
 -- places that are apart in the list of images are apart in the list of rows, and from those before
 images_apart : {p : ℕ} (ss : List (Stored p)) (fs : List (ℕ → ℕ)) (done : List (ImageVector ℕ)) → length fs ≡ length ss → IsApart (map image_place (images_of ss fs done))

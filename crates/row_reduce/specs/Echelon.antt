@@ -2,12 +2,7 @@
 use Rattle.std.specs.Prelude.{◌≡◌, ℕ, ◌+◌, ◌*◌, ◌<◌, ◌≤◌, Bool, List, Option, map, length}
 use Rattle.linear_law.specs.Names.{Congruent, negated, sum_over, Among, Each, IsAscending, AgreesOn, IsReduced, KernelVector, Skips, StartsAt}
 use Rattle.sparse_rows.specs.Rows.{IsRow, value_in}
-use Rattle.row_reduce.specs.declared.Stored.{Stored}
-use Rattle.row_reduce.specs.declared.EchelonRow.{EchelonRow}
-use Rattle.row_reduce.specs.Walk.{IsSolved, combined}
-use Rattle.row_reduce.specs.Pivots.{IsLeadIn, IsMarkedIn}
-use Rattle.row_reduce.specs.Expansion.{IsVectorOf}
-use Rattle.row_reduce.specs.Triangular.{IsSolvedStored}
+use Rattle.row_reduce.specs.{declared.Stored.Stored, declared.EchelonRow.EchelonRow, Walk.{IsSolved, combined}, Pivots.{IsLeadIn, IsMarkedIn}, Expansion.IsVectorOf, Triangular.IsSolvedStored}
 
 abbrev pub pivot_of : {p : ℕ} → EchelonRow p → ℕ
 pivot_of e = e.pivot

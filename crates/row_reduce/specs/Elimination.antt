@@ -1,11 +1,8 @@
 -- Elimination of given rows from the last to the first, with a reduced echelon list all along.
-use Rattle.std.specs.Prelude.{◌≡◌, ℕ, ◌+◌, ◌*◌, ◌≤◌, suc, List, [], ◌∷◌, map, length, reverse}
-use Rattle.std.specs.List.{AllZip}
+use Rattle.std.specs.{Prelude.{◌≡◌, ℕ, ◌+◌, ◌*◌, ◌≤◌, suc, List, [], ◌∷◌, map, length, reverse}, List.AllZip}
 use Rattle.linear_law.specs.Names.{Congruent, negated, Among, Each, IsAscending, AgreesOn, IsReduced, ImageVector, KernelVector, Skips, StartsAt, Walked, image_place}
-use Rattle.sparse_rows.specs.Rows.{IsBelow, IsRow, value_in}
-use Rattle.row_reduce.specs.declared.EchelonRow.{EchelonRow}
-use Rattle.row_reduce.specs.Walk.{combined}
-use Rattle.row_reduce.specs.Echelon.{combination_of, pivot_of, row_of}
+use Rattle.sparse_rows.specs.Rows.{IsRow, value_in}
+use Rattle.row_reduce.specs.{declared.EchelonRow.EchelonRow, Walk.{IsVectorRow, combined}, Echelon.{combination_of, pivot_of, row_of}}
 
 -- all places count
 abbrev pub Everywhere : ℕ → Type 0
@@ -48,18 +45,13 @@ pub record IsGiven (p : ℕ) (rows : List (List (ℕ × ℕ))) (low : ℕ) (kern
   pub starts : StartsAt p e.pivot (row_of e)
   pub gives : Gives p rows Everywhere low (λ x. length rows ≤ x) kernel (combination_of e) (row_of e)
 
--- the row has the values of the kernel vector
-pub record IsVectorRow (p count : ℕ) (k : KernelVector) (r : List (ℕ × ℕ)) : Type 0 where
-  pub is_row : IsRow p r
-  pub below : IsBelow count r
-  pub same : (x : ℕ) → Congruent p (value_in r x) (k.vector x)
-
 -- The rows from `low` on are eliminated: the echelon list spans what they span, and the relations are the reduced list of their
 -- combinations that are zero, the last first.
 pub record IsEliminated (p : ℕ) (rows : List (List (ℕ × ℕ))) (low : ℕ) (echelon : List (EchelonRow p)) (relations : List (List (ℕ × ℕ))) : Type 0 where
   pub kernel : List KernelVector
   pub images : List (ImageVector ℕ)
   pub walked : Walked p (length rows) (end_of rows) (combined rows) (λ x. ⊥) low kernel images
+  pub few : low + length relations ≤ length rows
   pub vectors : AllZip (IsVectorRow p (length rows)) kernel (reverse relations)
   pub listed : (t : ℕ) → Among t (map image_place images) → Among t (map pivot_of echelon)
   pub each : Each (IsGiven p rows low kernel) echelon

@@ -2,9 +2,7 @@
 use Rattle.std.specs.Prelude.{ℕ, ◌+◌, ◌<◌, List, length, slice_index, slice_index_or}
 use Rattle.linear_law.specs.Names.{Congruent, paired}
 use Rattle.sparse_rows.specs.Rows.{IsBelow, IsRow, value_in}
-use Rattle.row_reduce.specs.declared.Class.{Class}
-use Rattle.row_reduce.specs.declared.Stored.{Stored}
-use Rattle.row_reduce.specs.Walk.{AreNumbered, AreSources, IsFrom}
+use Rattle.row_reduce.specs.{declared.Class.Class, declared.Stored.Stored, Walk.{AreNumbered, AreSources, IsFrom}}
 
 -- the first k vectors, each by its weight
 abbrev pub weighted : ℕ → List ℕ → List (ℕ → ℕ) → (ℕ → ℕ) → ℕ → ℕ

@@ -2,10 +2,7 @@
 use Rattle.std.specs.Prelude.{◌≡◌, ℕ, ◌+◌, ◌<◌, ◌↔◌, suc, List, [], ◌∷◌, map, length}
 use Rattle.linear_law.specs.Names.{Congruent, Among, Each, IsAscending, unit_vector, IsImage, IsCanonical, IsPivot}
 use Rattle.sparse_rows.specs.Rows.{IsBelow, IsFirst, IsRow, value_in}
-use Rattle.row_reduce.specs.declared.EchelonRow.{EchelonRow}
-use Rattle.row_reduce.specs.Walk.{combined}
-use Rattle.row_reduce.specs.Echelon.{combination_of, pivot_of, row_of}
-use Rattle.row_reduce.specs.Elimination.{Everywhere}
+use Rattle.row_reduce.specs.{declared.EchelonRow.EchelonRow, Walk.combined, Echelon.{combination_of, pivot_of, row_of}, Elimination.Everywhere}
 
 -- what a space is seen as
 pub record Spanned (p : ℕ) : Type 0 where

@@ -2,10 +2,7 @@
 use Rattle.std.specs.Prelude.{◌≡◌, ℕ, Bool, List, Option, [], map, length}
 use Rattle.linear_law.specs.Names.{Each, IsApart}
 use Rattle.sparse_rows.specs.Rows.{value_in}
-use Rattle.row_reduce.specs.declared.Stored.{Stored}
-use Rattle.row_reduce.specs.Stored.{Owns, StoredFits, stored_place}
-use Rattle.row_reduce.specs.Expansion.{AreOlder}
-use Rattle.row_reduce.specs.Walk.{AreNumbered, AreSources, IsSolved, images_of}
+use Rattle.row_reduce.specs.{declared.Stored.Stored, Stored.{Owns, StoredFits, stored_place}, Expansion.AreOlder, Walk.{AreNumbered, AreSources, IsSolved, images_of}}
 
 abbrev pub stored_row : {p : ℕ} → Stored p → ℕ → ℕ
 stored_row s = value_in s.row

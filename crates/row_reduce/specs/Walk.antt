@@ -1,14 +1,9 @@
 -- A walk over given rows, from the last to the first, and the vectors behind what it found. A vector
 -- gives a coefficient to each given row.
-use Rattle.std.specs.Prelude.{◌≡◌, ℕ, ◌+◌, ◌*◌, ◌%◌, ◌^◌, ◌<◌, ◌≤◌, ◌≢◌, ◌↔◌, List, [], ◌∷◌, Bool, Option, map, length, slice_index_or}
-use Rattle.std.specs.List.{AllZip}
+use Rattle.std.specs.{Prelude.{◌≡◌, ℕ, ◌+◌, ◌*◌, ◌%◌, ◌^◌, ◌<◌, ◌≤◌, ◌≢◌, ◌↔◌, List, [], ◌∷◌, Bool, Option, map, length, slice_index_or}, List.AllZip}
 use Rattle.linear_law.specs.Names.{Congruent, sum_over, Among, Each, row_combination, unit_vector, ImageVector, IsInKernel, KernelVector, StartsAt, Walked, image_place}
 use Rattle.sparse_rows.specs.Rows.{IsBelow, IsRow, value_in}
-use Rattle.row_reduce.specs.declared.Class.{Class}
-use Rattle.row_reduce.specs.declared.Stored.{Stored}
-use Rattle.row_reduce.specs.declared.walking.Walk.{Walk}
-use Rattle.row_reduce.specs.Pivots.{IsLeadIn, IsMarkedIn}
-use Rattle.row_reduce.specs.Stored.{Owns, StoredFits}
+use Rattle.row_reduce.specs.{declared.Class.Class, declared.Stored.Stored, declared.walking.Walk.Walk, Pivots.{IsLeadIn, IsMarkedIn}, Stored.{Owns, StoredFits}}
 
 -- the sum of the rows, each times its coefficient in v
 abbrev pub combined : List (List (ℕ × ℕ)) → (ℕ → ℕ) → ℕ → ℕ
@@ -82,14 +77,18 @@ pub record IsReached (p width : ℕ) (rows : List (List (ℕ × ℕ))) (low : �
   pub skips : SkipsFit p width rows w.skip.items
   pub reached : Reached p width rows (IsMarkedIn w.skip.items) low w.classes.items w.stored.items w.pivots
 
+-- the row has the values of the kernel vector
+pub record IsVectorRow (p count : ℕ) (k : KernelVector) (r : List (ℕ × ℕ)) : Type 0 where
+  pub is_row : IsRow p r
+  pub below : IsBelow count r
+  pub same : (x : ℕ) → Congruent p (value_in r x) (k.vector x)
+
 -- The combinations of the rows that are zero, as rows, and a table of the leads of what the rows span:
 -- its pivots are the leads. The kernel leaves out the skipped places.
 pub record IsSolved (p width : ℕ) (rows : List (List (ℕ × ℕ))) (skip : List Bool) (solutions : List (List (ℕ × ℕ))) (pivots : List (Option ℕ)) : Type 0 where
   pub kernel : List KernelVector
   pub images : List (ImageVector ℕ)
   pub walked : Walked p (length rows) width (combined rows) (IsMarkedIn skip) 0 kernel images
-  pub rows_are : Each (IsRow p) solutions
-  pub inside : Each (IsBelow (length rows)) solutions
-  pub vectors : AllZip (λ (k : KernelVector) (r : List (ℕ × ℕ)). (x : ℕ) → Congruent p (value_in r x) (k.vector x)) kernel solutions
+  pub vectors : AllZip (IsVectorRow p (length rows)) kernel solutions
   pub full : length pivots ≡ width
   pub owned : (y : ℕ) → y < width → IsLeadIn pivots y ↔ Among y (map image_place images)

@@ -1,5 +1,4 @@
-ghost use Rattle.std.specs.List.{AllZip};
-ghost use Rattle.std.specs.Prelude.{◌≡◌, ℕ, ◌+◌, ◌^◌, ◌<◌, ◌≤◌, length, List, [], ◌∷◌, OnOk, IfOk, IsTrue};
+ghost use Rattle.std.specs.{List.AllZip, Prelude.{◌≡◌, ℕ, ◌+◌, ◌^◌, ◌<◌, ◌≤◌, length, List, [], ◌∷◌, OnOk, IfOk, IsTrue}};
 ghost use Rattle.linear_law.specs.Names.{Each};
 ghost use Rattle.fp_field.specs.Served.{served};
 ghost use Rattle.row_reduce.specs.Names.{IsClear, AreNumbered, AreRows, SkipsFit, AreOlder, Expanding, HistoryFits, IsExpanded, IsVectorOf, IsVectorOfClass, IsSolvedStored};

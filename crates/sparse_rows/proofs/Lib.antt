@@ -1,3 +1,4 @@
+pub mod Below
 pub mod RowLemmas
 pub mod PairedRows
 pub mod MergeLemmas

@@ -1,13 +1,6 @@
 -- Two rows are added in one pass.
 use Rattle.std.proofs.Common.{◌≡◌, ℕ, ◌+◌, ◌*◌, ◌%◌, ◌<◌, ◌≤◌, ◌≢◌, List, [], ◌∷◌, ◌++◌, take, length, map, get_or, arith, refl, sym, ◌∙◌, ap, ap₂, subst, inl, inr, take_all}
-use Rattle.std.proofs.lemmas.Bool.{cases_eq}
-use Rattle.std.proofs.Math.Nat.{mod-eq_of_lt}
-use Rattle.std.proofs.lemmas.List.{get_or_default, take_more}
-use Rattle.linear_law.specs.Names.{Congruent, Each, IsAscending, unit_vector}
-use Rattle.linear_law.proofs.Names.{Congruent_add, Congruent_from, Congruent_mod, Congruent_mul, Congruent_of, Congruent_refl, Congruent_trans, each_map, each_push, sum_append}
-use Rattle.sparse_rows.specs.Rows.{IsBelow, IsRow, value_in}
-use Rattle.sparse_rows.specs.Merging.{IsNext, StartsFrom, StepsOver, position_of}
-use Rattle.sparse_rows.proofs.RowLemmas.{ascending_from, sum_take, value_in-small}
+use Rattle.sparse_rows.{proofs.Below.{cases_eq, mod-eq_of_lt, get_or_default, take_more, Congruent, Each, IsAscending, unit_vector, Congruent_add, Congruent_from, Congruent_mod, Congruent_mul, Congruent_of, Congruent_refl, Congruent_trans, each_map, each_push, sum_append}, specs.Rows.{IsBelow, IsRow, value_in}, specs.Merging.{IsNext, StartsFrom, StepsOver, position_of}, proofs.RowLemmas.{ascending_from, sum_take, value_in-small}}
 
 -- what is merged so far: the sum of what was passed, below all that is left
 pub record IsMerged (p by : ℕ) (left right out : List (ℕ × ℕ)) (i j : ℕ) : Type 0 where
@@ -74,31 +67,6 @@ step_none p row i m b h s n = record {
   beyond = from_head p row i (m + 1) h (λ c. let a = s.each i (omega arith) c in let o = n c in omega arith);
   moves = λ c e. absurd (n c e);
 }
-
-pub merge_start : (p by : ℕ) (left right : List (ℕ × ℕ)) → IsMerged p by left right [] 0 0
-merge_start p by left right = record {
-  inside_left = omega arith;
-  inside_right = omega arith;
-  row = record { ascends = tt; values = tt };
-  sum = λ y. Congruent_of (start y);
-  below_left = λ k c d. tt;
-  below_right = λ k c d. tt;
-}
-  where
-    nothing : (row : List (ℕ × ℕ)) (y : ℕ) → value_in (take 0 row) y ≡ 0
-    nothing [] y = refl
-    nothing (e ∷ es) y = refl
-
-    start : (y : ℕ) → value_in [] y ≡ value_in (take 0 left) y + by * value_in (take 0 right) y
-    start y = omega (arith, nothing left y, nothing right y)
-
--- what is put lies after all that was put
-pub merge_below : (p by : ℕ) (left right out : List (ℕ × ℕ)) (i j m : ℕ) → IsMerged p by left right out i j → IsNext left right i j m → IsBelow m out
-merge_below p by left right out i j m h n =
-    elim n.one [
-      | inl a ↦ subst (λ b. IsBelow b out) a.1 (h.below_left i (omega arith) a.0)
-      | inr a ↦ subst (λ b. IsBelow b out) a.1 (h.below_right j (omega arith) a.0)
-    ]
 
 pub merge_step : (p by : ℕ) (left right out new : List (ℕ × ℕ)) (i j m next own after other value : ℕ) → IsMerged p by left right out i j
     → StepsOver left i m next own → StepsOver right j m after other → IsRow p new → IsBelow (m + 1) new → value ≡ (own + (by * other) % p) % p

@@ -1,8 +1,6 @@
 -- A row paired with a function on the positions.
 use Rattle.std.proofs.Common.{◌≡◌, ℕ, ◌+◌, ◌*◌, List, [], ◌∷◌, arith, ap, ◌∙◌, add_comm}
-use Rattle.linear_law.specs.Names.{Congruent, sum_over, unit_vector, paired}
-use Rattle.linear_law.proofs.Names.{Congruent_add, Congruent_from, Congruent_mul, Congruent_of, Congruent_refl, Congruent_scale, pair_none, pair_one, paired_plus, unit_one, unit_other}
-use Rattle.sparse_rows.specs.Rows.{IsBelow, value_in}
+use Rattle.sparse_rows.{proofs.Below.{Congruent, sum_over, unit_vector, paired, Congruent_add, Congruent_from, Congruent_mul, Congruent_of, Congruent_refl, Congruent_scale, pair_none, pair_one, paired_plus, unit_one, unit_other}, specs.Rows.{IsBelow, value_in}}
 
 -- each entry counts with the value of the function at its position
 pub paired_row : (p n : ℕ) (row : List (ℕ × ℕ)) (g : ℕ → ℕ) → IsBelow n row → Congruent p (paired n (value_in row) g) (sum_over (λ e. e.1 * g e.0) row)

@@ -1,11 +1,6 @@
 -- What a row has at each place.
 use Rattle.std.proofs.Common.{◌≡◌, ◌≢◌, ℕ, zero, suc, ◌+◌, ◌*◌, ◌%◌, ◌<◌, ◌≤◌, List, [], ◌∷◌, map, take, length, get_or, arith, refl, sym, ◌∙◌, ap, ap₂, subst, inl, inr, add-one, mod-eq_of_lt}
-use Rattle.std.proofs.lemmas.Bool.{cases_eq, cases_lt}
-use native.Mathlib.Nat.{add-mod, zero-mod}
-use Rattle.linear_law.specs.Names.{Congruent, sum_over, Each, IsAscending, unit_vector}
-use Rattle.linear_law.proofs.Names.{Congruent_mod, Congruent_of, Congruent_trans, each_from_index, each_map, each_get_or, each_unmap, unit_one, unit_other}
-use Rattle.sparse_rows.specs.Rows.{IsBelow, IsFirst, IsRow, pairing, value_in}
-use Rattle.sparse_rows.specs.Merging.{position_of}
+use Rattle.sparse_rows.{proofs.Below.{cases_eq, cases_lt, add-mod, zero-mod, Congruent, sum_over, Each, IsAscending, unit_vector, Congruent_mod, Congruent_of, Congruent_trans, each_from_index, each_map, each_get_or, each_unmap, unit_one, unit_other}, specs.Rows.{IsBelow, IsFirst, IsRow, pairing, value_in}, specs.Merging.position_of}
 
 pub sum_take : {X : Type 0} (f : X → ℕ) (xs : List X) (i : ℕ) (d : X) → i < length xs → sum_over f (take (i + 1) xs) ≡ sum_over f (take i xs) + f (get_or xs i d)
 sum_take f [] i d h = absurd (omega arith)

@@ -1,17 +1,6 @@
 -- The search for a position.
 use Rattle.std.proofs.Common.{◌≡◌, ◌≢◌, ◌⊎◌, ℕ, ◌<◌, ◌≤◌, List, map, length, get_or, arith, sym, ◌∙◌, ap, subst, inl, inr}
-use Rattle.std.proofs.lemmas.Bool.{cases_eq, cases_lt}
-use Rattle.std.proofs.lemmas.Map.Lookups.{exact_unsigned}
-use Rattle.std.specs.Ordering.{nat_cmp, ordering_index}
-use Rattle.std.specs.Cmp.{nat_cmp_is}
-use Rattle.std.specs.declared.cmp.Ordering.{Ordering}
-use Rattle.std.specs.declared.cmp.Ordering.TheVariants.{Less, Equal, Greater}
-use Rattle.std.specs.List.Sorted.{IsNonDecreasingBy, IsPartitionPoint}
-use Rattle.linear_law.specs.Names.{IsAscending}
-use Rattle.sparse_rows.specs.Rows.{IsRow, value_in}
-use Rattle.sparse_rows.specs.Merging.{position_of}
-use Rattle.sparse_rows.proofs.RowLemmas.{ascending_from, value_in-at, value_in-nowhere}
-use Rattle.sparse_rows.proofs.MergeLemmas.{same}
+use Rattle.sparse_rows.{proofs.Below.{cases_eq, cases_lt, exact_unsigned, nat_cmp, ordering_index, nat_cmp_is, Ordering, Less, Equal, Greater, IsNonDecreasingBy, IsPartitionPoint, IsAscending}, specs.Rows.{IsRow, value_in}, specs.Merging.position_of, proofs.RowLemmas.{ascending_from, value_in-at, value_in-nowhere}, proofs.MergeLemmas.same}
 
 cmp_tells : (a k : ℕ) → ((a < k) × (nat_cmp a k ≡ Less)) ⊎ (((a ≡ k) × (nat_cmp a k ≡ Equal)) ⊎ ((k < a) × (nat_cmp a k ≡ Greater)))
 cmp_tells a k = elim (cases_lt a k) [

@@ -1,16 +1,6 @@
 -- Pairs in any order are sorted, and then summed in one pass.
 use Rattle.std.proofs.Common.{◌≡◌, ℕ, ◌+◌, ◌*◌, ◌%◌, ◌<◌, ◌≤◌, List, [], ◌∷◌, take, length, get_or, arith, refl, sym, ◌∙◌, ap, subst}
-use Rattle.std.proofs.Math.Nat.{mod-eq_of_lt}
-use Rattle.std.proofs.lemmas.List.{get_or_default}
-use Rattle.std.proofs.lemmas.List.Sorted.{sum_by-IsPermutation}
-use Rattle.std.proofs.lemmas.List.Sums.{sum_by-cons}
-use Rattle.std.specs.List.{sum_by}
-use Rattle.std.specs.List.Sorted.{IsNonDecreasingBy, IsPermutation}
-use Rattle.linear_law.specs.Names.{Congruent, sum_over, unit_vector}
-use Rattle.linear_law.proofs.Names.{Congruent_add, Congruent_from, Congruent_mod, Congruent_mul, Congruent_of, Congruent_refl, Congruent_trans}
-use Rattle.sparse_rows.specs.Rows.{IsBelow, IsRow, value_in}
-use Rattle.sparse_rows.specs.Merging.{position_of}
-use Rattle.sparse_rows.proofs.RowLemmas.{sum_take, value_in-small}
+use Rattle.sparse_rows.{proofs.Below.{mod-eq_of_lt, get_or_default, sum_by-IsPermutation, sum_by-cons, sum_by, IsNonDecreasingBy, IsPermutation, Congruent, sum_over, unit_vector, Congruent_add, Congruent_from, Congruent_mod, Congruent_mul, Congruent_of, Congruent_refl, Congruent_trans}, specs.Rows.{IsBelow, IsRow, value_in}, specs.Merging.position_of, proofs.RowLemmas.{sum_take, value_in-small}}
 
 -- the first i pairs are in `out`, but for the sum of those at the last position
 pub record IsSummed (p : ℕ) (pairs out : List (ℕ × ℕ)) (i position sum : ℕ) : Type 0 where
@@ -18,18 +8,6 @@ pub record IsSummed (p : ℕ) (pairs out : List (ℕ × ℕ)) (i position sum : 
   pub below : IsBelow position out
   pub next : (k : ℕ) → i ≤ k → k < length pairs → position ≤ position_of pairs k
   pub value : (y : ℕ) → Congruent p (value_in out y + sum * unit_vector position y) (value_in (take i pairs) y)
-
-pub summed_start : (p zero_sum : ℕ) (pairs : List (ℕ × ℕ)) → zero_sum ≡ 0 % p → IsSummed p pairs [] 0 0 zero_sum
-summed_start p zero_sum pairs is = record {
-  row = record { ascends = tt; values = tt };
-  below = tt;
-  next = λ k b c. omega arith;
-  value = λ y. Congruent_from (Congruent_mul (Congruent_trans (Congruent_of is) (Congruent_mod p 0)) (Congruent_refl (unit_vector 0 y))) (omega arith);
-}
-
-pub summed_next : (p : ℕ) (pairs out : List (ℕ × ℕ)) (i position sum : ℕ) (pair : ℕ × ℕ) → IsSummed p pairs out i position sum → pair ≡ get_or pairs i pair → i < length pairs → position ≤ pair.0
-summed_next p pairs out i position sum pair h is b =
-    subst (λ (e : ℕ × ℕ). position ≤ e.0) (sym (is ∙ get_or_default pairs i pair (0, 0) b)) (h.next i (omega arith) b)
 
 pub summed_step : (p : ℕ) (pairs old new : List (ℕ × ℕ)) (i position sum carried total : ℕ) (pair : ℕ × ℕ) → IsNonDecreasingBy (λ (e : ℕ × ℕ). e.0) pairs → pair ≡ get_or pairs i pair → i < length pairs
     → IsRow p new → IsBelow pair.0 new → ((y : ℕ) → value_in new y + carried * unit_vector pair.0 y ≡ value_in old y + sum * unit_vector position y)

@@ -1,15 +1,14 @@
 //! One row plus a multiple of another, in one pass over both, and the sum of ascending pairs.
-ghost use Rattle.std.specs.Prelude.{◌≡◌, ℕ, ◌+◌, ◌*◌, ◌%◌, ◌<◌, ◌≤◌, ◌≢◌, ◌⊎◌, [], ◌∷◌, ◌++◌, length, IfOk, OnOk, OnErr, IsTrue};
-ghost use Rattle.std.specs.List.Sorted.{IsNonDecreasingBy};
+ghost use Rattle.std.specs.{Prelude.{◌≡◌, ℕ, ◌+◌, ◌*◌, ◌%◌, ◌<◌, ◌≤◌, ◌≢◌, ◌⊎◌, [], ◌∷◌, ◌++◌, length, IfOk, OnOk, OnErr, IsTrue}, List.Sorted.IsNonDecreasingBy};
 ghost use Rattle.linear_law.specs.Names.{unit_vector};
 ghost use Rattle.fp_field.specs.Served.{served};
-ghost use Rattle.sparse_rows.specs.Rows.{IsBelow, IsRow, value_in};
-ghost use Rattle.sparse_rows.specs.Merging.{IsNext, StartsFrom, StepsOver};
+ghost use Rattle.sparse_rows.specs.{Rows.{IsBelow, IsRow, value_in}, Merging.{IsNext, StartsFrom, StepsOver}};
 
 use fp_field::Fp;
 use std::alloc::{AllocError, Global};
 
 /// Appends a value, if it is not 0.
+#[tactic(auto, using(crate::proofs::MergeLemmas::put_below, crate::proofs::MergeLemmas::put_sum, crate::proofs::MergeLemmas::stay_below))]
 pub(crate) fn put<const P: u32>(
     out: &mut Vec<(u32, Fp<P>)>,
     position: u32,

@@ -1,7 +1,5 @@
 use Rattle.std.proofs.Common.{arith, ◌≡◌, ◌∙◌, List, ℕ, [], ap, get_or}
-use Rattle.std.proofs.lemmas.List.{get_or_default}
-use Rattle.sparse_rows.specs.Rows.{value_in}
-use Rattle.cohomology.proofs.CycleLemmas.{pairs_put, pairs_start}
+use Rattle.cohomology.proofs.{Below.{get_or_default, value_in}, CycleLemmas.{pairs_put, pairs_start}}
 use Rattle.cohomology.proofs.classes.column_pairs.Goals as goal
 
 pub loop-at-init : goal.loop-at-init

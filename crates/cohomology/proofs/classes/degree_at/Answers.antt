@@ -1,12 +1,6 @@
 use Rattle.std.proofs.Common.{◌<◌, ◌^◌, List, ℕ, length, lit<, sym, subst}
-use Rattle.std.specs.List.{AllZip}
-use Rattle.fp_field.proofs.ServedLemmas.{served_field}
+use Rattle.cohomology.{proofs.Below.{AllZip, served_field, AreTriangular, Stored, AreCycles, AreFree}, specs.Names.IsLeadOf, proofs.ClassLemmas.{duals_made, few_leads, places_free, triangular_here}}
 use Rattle.complex_index.specs.declared.indexed.Cochain.{Cochain}
-use Rattle.row_reduce.specs.Names.{AreTriangular}
-use Rattle.row_reduce.specs.declared.Stored.{Stored}
-use Rattle.cycle_table.specs.Tables.{AreCycles, AreFree}
-use Rattle.cohomology.specs.Names.{IsLeadOf}
-use Rattle.cohomology.proofs.ClassLemmas.{duals_made, few_leads, places_free, triangular_here}
 use Rattle.cohomology.proofs.classes.degree_at.Goals as goal
 
 pub cycles-requires : goal.cycles-requires
@@ -23,22 +17,10 @@ cycles-requires g c =
     let leads : AllZip (λ (d : Cochain p) s. IsLeadOf d.row s) classes places = subst (λ (cs : List (Cochain p)). AllZip (λ (d : Cochain p) s. IsLeadOf d.row s) cs places) c.as_slice.ensures.value c.in_ok-places.ensures in
     let free = places_free p field full sub c.requires.pair c.args.degree owner stored c.requires.reached classes are places leads in
     let few = few_leads p field full sub c.requires.pair c.args.degree owner stored c.requires.reached classes are places leads in
-    let triangular = triangular_here p field full sub c.requires.pair c.args.degree owner stored c.requires.reached classes are places leads in (
-      lit< tt,
-      (
-        lit< tt,
-        (
-          c.requires.prime,
-          (
-            subst (λ (ps : List ℕ). length ps < 2 ^ 32) (sym c.as_slice-3.ensures.value) few,
-            (
-              subst (λ (ss : List (Stored p)). AreTriangular p (length owner) ss owner) (sym c.as_slice-2.ensures.value) triangular,
-              subst (λ (ps : List ℕ). AreFree (length owner) owner ps) (sym c.as_slice-3.ensures.value) free,
-            ),
-          ),
-        ),
-      ),
-    )
+    let triangular = triangular_here p field full sub c.requires.pair c.args.degree owner stored c.requires.reached classes are places leads in
+    let short = subst (λ (ps : List ℕ). length ps < 2 ^ 32) (sym c.as_slice-3.ensures.value) few in
+    let rows = subst (λ (ss : List (Stored p)). AreTriangular p (length owner) ss owner) (sym c.as_slice-2.ensures.value) triangular in
+    (lit< tt, (lit< tt, (c.requires.prime, (short, (rows, subst (λ (ps : List ℕ). AreFree (length owner) owner ps) (sym c.as_slice-3.ensures.value) free)))))
 
 pub returns-clause-classes : goal.returns-clause-classes
 returns-clause-classes g c =

@@ -1,7 +1,6 @@
 use Rattle.std.proofs.Common.{ℕ, take}
-use Rattle.std.specs.List.{AllZip}
+use Rattle.cohomology.{proofs.Below.AllZip, specs.Names.IsLeadOf}
 use Rattle.complex_index.specs.declared.indexed.Cochain.{Cochain}
-use Rattle.cohomology.specs.Names.{IsLeadOf}
 use Rattle.cohomology.proofs.classes.leads_of.Given as goal
 
 abbrev pub invariant-loop-class : goal.invariant-loop-class

@@ -1,7 +1,5 @@
 use Rattle.std.proofs.Common.{List, ℕ, ap, sym, subst}
-use Rattle.linear_law.proofs.Names.{Congruent_of}
-use Rattle.sparse_rows.specs.Rows.{IsRow, value_in}
-use Rattle.cohomology.proofs.CoordinateLemmas.{primitive_step}
+use Rattle.cohomology.proofs.{Below.{Congruent_of, IsRow, value_in}, CoordinateLemmas.primitive_step}
 use Rattle.cohomology.proofs.coordinates.primitives.Goals as goal
 
 pub loop-coboundary-init : goal.loop-coboundary-init

@@ -1,7 +1,5 @@
 use Rattle.std.proofs.Common.{ℕ, take}
-use Rattle.linear_law.specs.Names.{Congruent}
-use Rattle.sparse_rows.specs.Rows.{IsRow, value_in}
-use Rattle.cohomology.specs.Names.{primitives_sum}
+use Rattle.cohomology.{proofs.Below.{Congruent, IsRow, value_in}, specs.Names.primitives_sum}
 use Rattle.cohomology.proofs.coordinates.primitives.Given as goal
 
 abbrev pub invariant-loop-coboundary : goal.invariant-loop-coboundary

@@ -1,7 +1,5 @@
 use Rattle.std.proofs.Common.{List, length, lit<, sym, subst}
-use Rattle.std.proofs.lemmas.Result.{IfOk-weaker}
-use Rattle.row_reduce.specs.Names.{IsEchelonFrom, AreTriangular}
-use Rattle.row_reduce.specs.declared.Stored.{Stored}
+use Rattle.cohomology.proofs.Below.{IfOk-weaker, IsEchelonFrom, AreTriangular, Stored}
 use Rattle.cohomology.proofs.data.coboundaries_above.Goals as goal
 
 pub echelon_of-requires : goal.echelon_of-requires

@@ -1,7 +1,5 @@
 use Rattle.std.proofs.Common.{subst, sym, ◌↔◌, Bool, IsTrue}
-use Rattle.linear_law.specs.Names.{Among}
-use Rattle.complex_index.specs.Names.{level}
-use Rattle.cohomology.proofs.PairLemmas.{has_simplex}
+use Rattle.cohomology.proofs.{Below.{Among, level}, PairLemmas.has_simplex}
 use Rattle.cohomology.proofs.pairs.has.Goals as goal
 
 pub returns : goal.returns

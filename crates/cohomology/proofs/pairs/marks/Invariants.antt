@@ -1,7 +1,5 @@
 use Rattle.std.proofs.Common.{get_or, []}
-use Rattle.linear_law.specs.Names.{Among}
-use Rattle.complex_index.specs.Names.{level}
-use Rattle.cohomology.proofs.PairLemmas.{MarksTo}
+use Rattle.cohomology.proofs.{Below.{Among, level}, PairLemmas.MarksTo}
 use Rattle.cohomology.proofs.pairs.marks.Given as goal
 
 abbrev pub invariant-loop-place : goal.invariant-loop-place

@@ -1,9 +1,6 @@
 use Rattle.std.proofs.Common.{◌∙◌, ◌<◌, ◌≤◌, ◌^◌, List, ℕ, [], length, lit<, sym, subst}
-use Rattle.std.proofs.lemmas.Result.{IfOk-weaker}
-use Rattle.linear_law.specs.Names.{Each, IsAscending}
 use Rattle.simplicial_law.specs.ListedSimplices.{simplices, with_facet}
-use Rattle.complex_index.specs.Names.{IsIndexOf}
-use Rattle.cohomology.proofs.WalkLemmas.{no_levels}
+use Rattle.cohomology.proofs.{Below.{IfOk-weaker, Each, IsAscending, IsIndexOf}, WalkLemmas.no_levels}
 use Rattle.cohomology.proofs.walk.nothing.Goals as goal
 
 none_few : length (simplices []) < 2 ^ 32

@@ -1,5 +1,5 @@
 use Rattle.std.proofs.Common.{◌≡◌, map}
-use Rattle.linear_law.specs.Names.{Each}
+use Rattle.cohomology.proofs.Below.{Each}
 use Rattle.complex_index.specs.declared.indexed.Cochain.{Cochain}
 use Rattle.cohomology.proofs.walk.of_degree.Given as goal
 

@@ -1,8 +1,5 @@
 use Rattle.std.proofs.Common.{ℕ, ◌*◌, List, refl, ap}
-use Rattle.linear_law.specs.Names.{Congruent, negated}
-use Rattle.linear_law.proofs.Names.{Congruent_mod, Congruent_mul, Congruent_of, Congruent_trans}
-use Rattle.sparse_rows.specs.Rows.{value_in}
-use Rattle.row_reduce.specs.Names.{cleared, row_of}
+use Rattle.row_reduce.{proofs.Below.{Congruent, negated, Congruent_mod, Congruent_mul, Congruent_of, Congruent_trans, value_in}, specs.Names.{cleared, row_of}}
 use Rattle.row_reduce.proofs.echelon.canonical_row.Goals as goal
 
 pub returns : goal.returns

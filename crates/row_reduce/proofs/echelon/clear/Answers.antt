@@ -1,8 +1,5 @@
 use Rattle.std.proofs.Common.{List, ap, arith, take_all}
-use Rattle.linear_law.proofs.Names.{Congruent_from, Congruent_of, Congruent_refl, Congruent_trans}
-use Rattle.sparse_rows.specs.Rows.{value_in}
-use Rattle.row_reduce.specs.Names.{EchelonRow, cleared, combination_of, row_of}
-use Rattle.row_reduce.proofs.EchelonLemmas.{cleared_more}
+use Rattle.row_reduce.{proofs.Below.{Congruent_from, Congruent_of, Congruent_refl, Congruent_trans, value_in}, specs.Names.{EchelonRow, cleared, combination_of, row_of}, proofs.EchelonLemmas.cleared_more}
 use Rattle.row_reduce.proofs.echelon.clear.Goals as goal
 
 pub loop-reduced-init : goal.loop-reduced-init

@@ -1,7 +1,5 @@
 use Rattle.std.proofs.Common.{ℕ, take}
-use Rattle.linear_law.specs.Names.{Congruent}
-use Rattle.sparse_rows.specs.Rows.{IsRow, value_in}
-use Rattle.row_reduce.specs.Names.{cleared, combination_of, row_of}
+use Rattle.row_reduce.{proofs.Below.{Congruent, IsRow, value_in}, specs.Names.{cleared, combination_of, row_of}}
 use Rattle.row_reduce.proofs.echelon.clear.Given as goal
 
 abbrev pub invariant-loop-reduced : goal.invariant-loop-reduced

@@ -1,10 +1,5 @@
 use Rattle.std.proofs.Common.{◌≡◌, ◌+◌, ◌∷◌, reverse, length, List, sym, ap, ◌∙◌, subst, lit<, []}
-use Rattle.std.proofs.lemmas.List.{reverse-append}
-use Rattle.fp_field.proofs.ServedLemmas.{served_field}
-use Rattle.row_reduce.specs.Names.{EchelonRow, Stored, IsLeadIn, AreEchelon, IsMadeFrom}
-use Rattle.row_reduce.proofs.SumLemmas.{named}
-use Rattle.row_reduce.proofs.StoredLemmas.{some_none}
-use Rattle.row_reduce.proofs.EchelonLemmas.{echelon_more, echelon_past, history_wide}
+use Rattle.row_reduce.{proofs.Below.{reverse-append, served_field}, specs.Names.{EchelonRow, Stored, IsLeadIn, AreEchelon, IsMadeFrom}, proofs.SumLemmas.named, proofs.StoredLemmas.some_none, proofs.EchelonLemmas.{echelon_more, echelon_past, history_wide}}
 use Rattle.row_reduce.proofs.echelon.reduce_at.Goals as goal
 
 pub canonical_row-requires : goal.canonical_row-requires

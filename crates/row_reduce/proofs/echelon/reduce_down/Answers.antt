@@ -1,7 +1,6 @@
 use Rattle.std.proofs.Common.{◌≡◌, ◌+◌, ◌-◌, [], reverse, length, List, arith, sym, subst}
 use Rattle.fp_field.proofs.ServedLemmas.{served_field}
-use Rattle.row_reduce.specs.Names.{EchelonRow, AreEchelon}
-use Rattle.row_reduce.proofs.EchelonLemmas.{echelon_start}
+use Rattle.row_reduce.{specs.Names.{EchelonRow, AreEchelon}, proofs.EchelonLemmas.echelon_start}
 use Rattle.row_reduce.proofs.echelon.reduce_down.Goals as goal
 
 pub loop-count-init : goal.loop-count-init

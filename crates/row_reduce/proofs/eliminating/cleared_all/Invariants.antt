@@ -1,5 +1,4 @@
-use Rattle.std.proofs.Common.{take}
-use Rattle.std.specs.List.{AllZip}
+use Rattle.std.{proofs.Common.take, specs.List.AllZip}
 use Rattle.row_reduce.specs.Names.{IsClearedBy}
 use Rattle.row_reduce.proofs.eliminating.cleared_all.Given as goal
 

@@ -1,8 +1,6 @@
 use Rattle.std.proofs.Common.{◌≡◌, ℕ, ◌+◌, ◌*◌, ◌%◌, ◌<◌, length, get_or, arith, ap, ◌∙◌, take_all}
 use Rattle.linear_law.proofs.Names.{Congruent_from}
-use Rattle.row_reduce.specs.Names.{zipped}
-use Rattle.row_reduce.proofs.SumLemmas.{add_entry, read_at}
-use Rattle.row_reduce.proofs.EntryLemmas.{zipped_fits, zipped_length, zipped_read}
+use Rattle.row_reduce.{specs.Names.zipped, proofs.SumLemmas.{add_entry, read_at}, proofs.EntryLemmas.{zipped_fits, zipped_length, zipped_read}}
 use Rattle.row_reduce.proofs.entries.add_alone.Goals as goal
 
 pub bounds-sum-at : goal.bounds-sum-at

@@ -1,8 +1,6 @@
 use Rattle.std.proofs.Common.{◌≡◌, ℕ, ◌+◌, ◌*◌, ◌%◌, ◌<◌, length, get_or, arith, ap, ◌∙◌, take_all}
 use Rattle.linear_law.proofs.Names.{Congruent_from}
-use Rattle.row_reduce.specs.Names.{run_from}
-use Rattle.row_reduce.proofs.SumLemmas.{add_entry, read_at}
-use Rattle.row_reduce.proofs.EntryLemmas.{run_length, run_read}
+use Rattle.row_reduce.{specs.Names.run_from, proofs.SumLemmas.{add_entry, read_at}, proofs.EntryLemmas.{run_length, run_read}}
 use Rattle.row_reduce.proofs.entries.add_once.Goals as goal
 
 pub loop-i-preserved : goal.loop-i-preserved

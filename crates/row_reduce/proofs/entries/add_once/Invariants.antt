@@ -1,7 +1,5 @@
 use Rattle.std.proofs.Common.{ℕ, ◌+◌, ◌*◌, get_or, take}
-use Rattle.linear_law.specs.Names.{Congruent}
-use Rattle.sparse_rows.specs.Rows.{value_in}
-use Rattle.row_reduce.specs.Names.{run_from}
+use Rattle.row_reduce.{proofs.Below.{Congruent, value_in}, specs.Names.run_from}
 use Rattle.row_reduce.proofs.entries.add_once.Given as goal
 
 abbrev pub invariant-loop-i : goal.invariant-loop-i

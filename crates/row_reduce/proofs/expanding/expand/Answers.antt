@@ -1,7 +1,5 @@
 use Rattle.std.proofs.Common.{◌≡◌, ◌%◌, ℕ, List, ◌∷◌, [], ◌++◌, sym, ap, subst, ◌∙◌, mod-eq_of_lt}
-use Rattle.fp_field.proofs.ServedLemmas.{served_large}
-use Rattle.linear_law.proofs.Names.{Congruent_mod, Congruent_of, Congruent_sym, Congruent_trans}
-use Rattle.sparse_rows.specs.Rows.{IsBelow, value_in}
+use Rattle.row_reduce.proofs.Below.{served_large, Congruent_mod, Congruent_of, Congruent_sym, Congruent_trans, IsBelow, value_in}
 use Rattle.row_reduce.proofs.expanding.expand.Goals as goal
 
 pub returns : goal.returns

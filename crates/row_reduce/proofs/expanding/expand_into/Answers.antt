@@ -1,9 +1,5 @@
 use Rattle.std.proofs.Common.{ℕ, length, get_or, List, sym, subst}
-use Rattle.linear_law.specs.Names.{Congruent}
-use Rattle.linear_law.proofs.Names.{Congruent_add, Congruent_mod, Congruent_mul, Congruent_of, Congruent_refl, Congruent_trans}
-use Rattle.sparse_rows.specs.Rows.{value_in}
-use Rattle.row_reduce.specs.Names.{Expanding}
-use Rattle.row_reduce.proofs.ExpansionLemmas.{expand_start}
+use Rattle.row_reduce.{proofs.Below.{Congruent, Congruent_add, Congruent_mod, Congruent_mul, Congruent_of, Congruent_refl, Congruent_trans, value_in}, specs.Names.Expanding, proofs.ExpansionLemmas.expand_start}
 use Rattle.row_reduce.proofs.expanding.expand_into.Goals as goal
 
 pub returns-clause-expanded : goal.returns-clause-expanded

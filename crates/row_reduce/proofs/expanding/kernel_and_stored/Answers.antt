@@ -1,9 +1,5 @@
 use Rattle.std.proofs.Common.{Bool, Vec, Global, length, List, ℕ, sym, subst, lit<}
-use Rattle.std.specs.List.{AllZip}
-use Rattle.linear_law.specs.Names.{Each}
-use Rattle.row_reduce.specs.Names.{Class, Stored, IsSolvedStored, AreOlder, HistoryFits, IsVectorOfClass, IsMarkedIn, Reached}
-use Rattle.row_reduce.proofs.SolvedLemmas.{histories_fit, older}
-use Rattle.row_reduce.proofs.TriangularLemmas.{solved_stored}
+use Rattle.row_reduce.{proofs.Below.{AllZip, Each}, specs.Names.{Class, Stored, IsSolvedStored, AreOlder, HistoryFits, IsVectorOfClass, IsMarkedIn, Reached}, proofs.SolvedLemmas.{histories_fit, older}, proofs.TriangularLemmas.solved_stored}
 use Rattle.row_reduce.proofs.expanding.kernel_and_stored.Goals as goal
 
 pub vectors-requires : goal.vectors-requires

@@ -1,6 +1,5 @@
 use Rattle.std.proofs.Common.{◌≡◌, ◌+◌, ◌-◌, length, arith, subst}
-use Rattle.row_reduce.specs.Names.{Expanding}
-use Rattle.row_reduce.proofs.ExpansionLemmas.{expand_end}
+use Rattle.row_reduce.{specs.Names.Expanding, proofs.ExpansionLemmas.expand_end}
 use Rattle.row_reduce.proofs.expanding.move_all.Goals as goal
 
 pub loop-done-preserved : goal.loop-done-preserved

@@ -1,11 +1,5 @@
 use Rattle.std.proofs.Common.{◌≡◌, ℕ, ◌+◌, ◌*◌, ◌<◌, get_or, List, sym, ap, ◌∙◌, subst}
-use Rattle.std.proofs.lemmas.List.{get_or_default}
-use Rattle.linear_law.specs.Names.{Congruent}
-use Rattle.linear_law.proofs.Names.{each_get_or, each_push}
-use Rattle.sparse_rows.specs.Rows.{IsBelow, value_in}
-use Rattle.row_reduce.specs.Names.{Stored, Expanding}
-use Rattle.row_reduce.proofs.SumLemmas.{read_at}
-use Rattle.row_reduce.proofs.ExpansionLemmas.{expand_past, expand_step}
+use Rattle.row_reduce.{proofs.Below.{get_or_default, Congruent, each_get_or, each_push, IsBelow, value_in}, specs.Names.{Stored, Expanding}, proofs.SumLemmas.read_at, proofs.ExpansionLemmas.{expand_past, expand_step}}
 use Rattle.row_reduce.proofs.expanding.move_weight.Goals as goal
 
 pub returns-in_ok-push-clause-below : goal.returns-in_ok-push-clause-below

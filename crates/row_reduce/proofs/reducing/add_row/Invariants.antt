@@ -1,6 +1,5 @@
 use Rattle.std.proofs.Common.{ℕ, ◌+◌, ◌*◌, get_or, take}
-use Rattle.linear_law.specs.Names.{Congruent}
-use Rattle.sparse_rows.specs.Rows.{value_in}
+use Rattle.row_reduce.proofs.Below.{Congruent, value_in}
 use Rattle.row_reduce.proofs.reducing.add_row.Given as goal
 
 abbrev pub invariant-loop-entry : goal.invariant-loop-entry

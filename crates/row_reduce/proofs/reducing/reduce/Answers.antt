@@ -1,7 +1,6 @@
 use Rattle.std.proofs.Common.{ℕ, ◌+◌, List, length, Vec, Global, arith, refl, sym, ◌∙◌, ap, subst}
-use Rattle.row_reduce.proofs.SumLemmas.{Reducing, named, read_at, reducing_past, reducing_step}
+use Rattle.row_reduce.proofs.{SumLemmas.{Reducing, named, read_at, reducing_past, reducing_step}, reducing.reduce.Goals.{then-not-is_zero+in-Some+in_ok-push, else-not-is_zero}}
 use Rattle.row_reduce.proofs.reducing.reduce.Goals as goal
-use Rattle.row_reduce.proofs.reducing.reduce.Goals.{then-not-is_zero+in-Some+in_ok-push, else-not-is_zero}
 
 pub loop-at-preserved : goal.loop-at-preserved
 loop-at-preserved g c =

@@ -1,5 +1,4 @@
-use Rattle.std.proofs.Common.{◌≡◌, ◌+◌, ℕ, List, ◌∷◌, [], ◌++◌, take, arith, sym, ap, ◌∙◌, append-nil, append_assoc, take_all}
-use Rattle.std.proofs.lemmas.List.{take_more}
+use Rattle.std.proofs.{Common.{◌≡◌, ◌+◌, ℕ, List, ◌∷◌, [], ◌++◌, take, arith, sym, ap, ◌∙◌, append-nil, append_assoc, take_all}, lemmas.List.take_more}
 use Rattle.row_reduce.proofs.space.copy_onto.Goals as goal
 
 pub loop-row-init : goal.loop-row-init

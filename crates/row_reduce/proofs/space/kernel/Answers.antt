@@ -1,14 +1,12 @@
-use Rattle.std.proofs.Common.{List, ℕ, length, reverse, ◌<◌, ◌^◌, lit<, sym, ap, ◌∙◌, subst}
-use Rattle.std.proofs.lemmas.List.{reverse-reverse}
-use Rattle.fp_field.proofs.ServedLemmas.{served_field}
-use Rattle.row_reduce.specs.Names.{IsEliminated, AreOwnFrom}
-use Rattle.row_reduce.proofs.KernelLemmas.{few_relations, kernel_echelon, kernel_space}
+use Rattle.std.proofs.Common.{List, ℕ, arith, length, reverse, ◌<◌, ◌^◌, lit<, sym, ap, ◌∙◌, subst}
+use Rattle.row_reduce.{proofs.Below.{length-reverse, reverse-reverse, served_field}, specs.Names.{IsEliminated, AreOwnFrom}, proofs.KernelLemmas.{kernel_echelon, kernel_space}}
 use Rattle.row_reduce.proofs.space.kernel.Goals as goal
 
 pub own_rows-requires : goal.own_rows-requires
 own_rows-requires g c =
-    let found = c.in_ok-given.field-0 in
-    let few = few_relations g.row.P c.args.rows.now found.echelon.items found.relations.items c.in_ok-given.ensures c.requires.few in
+    let relations = c.in_ok-given.field-0.relations.items in
+    let e = length-reverse relations in
+    let few : length (reverse relations) < 2 ^ 32 = let b = c.in_ok-given.ensures.few in omega (arith, b, e, c.requires.few) in
     (lit< tt, (lit< tt, (c.requires.prime, subst (λ (rs : List (List (ℕ × ℕ))). length rs < 2 ^ 32) (sym (c.as_slice.ensures.value ∙ c.reverse.ensures.items)) few)))
 
 pub invariant_of-result : goal.invariant_of-result

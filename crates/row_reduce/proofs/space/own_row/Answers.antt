@@ -1,7 +1,5 @@
 use Rattle.std.proofs.Common.{◌∷◌, [], arith}
-use Rattle.linear_law.specs.Names.{Congruent, unit_vector}
-use Rattle.linear_law.proofs.Names.{Congruent_from, Congruent_mod, Congruent_mul, Congruent_of, Congruent_refl, Congruent_trans}
-use Rattle.sparse_rows.specs.Rows.{value_in}
+use Rattle.row_reduce.proofs.Below.{Congruent, unit_vector, Congruent_from, Congruent_mod, Congruent_mul, Congruent_of, Congruent_refl, Congruent_trans, value_in}
 use Rattle.row_reduce.proofs.space.own_row.Goals as goal
 
 pub returns : goal.returns

@@ -1,7 +1,5 @@
-use Rattle.std.proofs.Common.{◌≡◌, ◌+◌, ◌∷◌, [], ◌++◌, take, length, List, ℕ, arith, sym, ap, ◌∙◌, subst}
-use Rattle.std.proofs.lemmas.List.{take_more}
-use Rattle.row_reduce.specs.Names.{AreOwnFrom, IsOwnRow}
-use Rattle.row_reduce.proofs.KernelLemmas.{own_more}
+use Rattle.std.proofs.{Common.{◌≡◌, ◌+◌, ◌∷◌, [], ◌++◌, take, length, List, ℕ, arith, sym, ap, ◌∙◌, subst}, lemmas.List.take_more}
+use Rattle.row_reduce.{specs.Names.{AreOwnFrom, IsOwnRow}, proofs.KernelLemmas.own_more}
 use Rattle.row_reduce.proofs.space.own_rows.Goals as goal
 
 pub loop-row-preserved : goal.loop-row-preserved

@@ -1,6 +1,5 @@
 use Rattle.std.proofs.Common.{length, set, List, arith, sym, subst, ℕ, Option, Some}
-use Rattle.row_reduce.specs.Names.{Stored, Owns}
-use Rattle.row_reduce.proofs.StoredLemmas.{owns_more}
+use Rattle.row_reduce.{specs.Names.{Stored, Owns}, proofs.StoredLemmas.owns_more}
 use Rattle.row_reduce.proofs.walking.append.Goals as goal
 
 pub returns-clause-owns : goal.returns-clause-owns

@@ -1,8 +1,7 @@
 use Rattle.std.proofs.Common.{◌≡◌, ℕ, List, ap, sym, ◌∙◌, ◌<◌, ◌≤◌, length, get_or, arith, take_all}
 use Rattle.sparse_rows.specs.Rows.{value_in}
-use Rattle.row_reduce.proofs.StoredLemmas.{first_step}
+use Rattle.row_reduce.proofs.{StoredLemmas.first_step, walking.first_place.Goals.{then-entry-first, else-entry-first}}
 use Rattle.row_reduce.proofs.walking.first_place.Goals as goal
-use Rattle.row_reduce.proofs.walking.first_place.Goals.{then-entry-first, else-entry-first}
 
 pub loop-entry-preserved : goal.loop-entry-preserved
 loop-entry-preserved g c =

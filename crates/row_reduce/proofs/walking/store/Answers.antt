@@ -1,10 +1,5 @@
 use Rattle.std.proofs.Common.{ℕ, List, ◌+◌, ◌*◌, ◌%◌, get_or, refl, sym, ap, ◌∙◌, subst, arith, mod-eq_of_lt}
-use Rattle.linear_law.specs.Names.{Congruent, negated}
-use Rattle.linear_law.proofs.Names.{Congruent_add, Congruent_from, Congruent_mod, Congruent_of, Congruent_trans, add-negated}
-use Rattle.fp_field.proofs.ServedLemmas.{served_large}
-use Rattle.row_reduce.specs.Names.{Stored, IsStoredFrom}
-use Rattle.row_reduce.proofs.SumLemmas.{read_at}
-use Rattle.row_reduce.proofs.StoredLemmas.{stored_from}
+use Rattle.row_reduce.{proofs.Below.{Congruent, negated, Congruent_add, Congruent_from, Congruent_mod, Congruent_of, Congruent_trans, add-negated, served_large}, specs.Names.{Stored, IsStoredFrom}, proofs.SumLemmas.read_at, proofs.StoredLemmas.stored_from}
 use Rattle.row_reduce.proofs.walking.store.Goals as goal
 
 pub returns : goal.returns

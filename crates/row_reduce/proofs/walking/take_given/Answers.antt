@@ -1,9 +1,5 @@
 use Rattle.std.proofs.Common.{◌*◌, ◌-◌, get_or, arith}
-use Rattle.linear_law.specs.Names.{Congruent}
-use Rattle.linear_law.proofs.Names.{Congruent_add, Congruent_mod, Congruent_mul, Congruent_of, Congruent_refl, Congruent_scale, Congruent_trans}
-use Rattle.fp_field.proofs.ServedLemmas.{served_large}
-use Rattle.sparse_rows.specs.Rows.{value_in}
-use Rattle.row_reduce.proofs.StoredLemmas.{given_rest}
+use Rattle.row_reduce.proofs.{Below.{Congruent, Congruent_add, Congruent_mod, Congruent_mul, Congruent_of, Congruent_refl, Congruent_scale, Congruent_trans, served_large, value_in}, StoredLemmas.given_rest}
 use Rattle.row_reduce.proofs.walking.take_given.Goals as goal
 
 pub returns : goal.returns

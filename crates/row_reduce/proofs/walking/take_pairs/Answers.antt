@@ -1,9 +1,7 @@
 use Rattle.std.proofs.Common.{ℕ, ◌+◌, set, List, Vec, Global, arith, sym, ap, ◌∙◌, subst}
 use native.Mathlib.Nat.{zero-mod}
-use Rattle.row_reduce.proofs.SumLemmas.{read_at}
-use Rattle.row_reduce.proofs.StoredLemmas.{Taking, taking_past, taking_start, taking_step}
+use Rattle.row_reduce.proofs.{SumLemmas.read_at, StoredLemmas.{Taking, taking_past, taking_start, taking_step}, walking.take_pairs.Goals.{then-value-ne0+in_ok-push, else-value-ne0}}
 use Rattle.row_reduce.proofs.walking.take_pairs.Goals as goal
-use Rattle.row_reduce.proofs.walking.take_pairs.Goals.{then-value-ne0+in_ok-push, else-value-ne0}
 
 pub loop-at-preserved : goal.loop-at-preserved
 loop-at-preserved g c =

@@ -1,7 +1,5 @@
-use Rattle.std.proofs.Common.{sym, ◌∙◌, ap, subst}
-use Rattle.std.proofs.lemmas.List.{take_rest}
-use Rattle.row_reduce.specs.Names.{run_from, IsRest}
-use Rattle.row_reduce.proofs.EntryLemmas.{run_rest}
+use Rattle.std.proofs.{Common.{sym, ◌∙◌, ap, subst}, lemmas.List.take_rest}
+use Rattle.row_reduce.{specs.Names.{run_from, IsRest}, proofs.EntryLemmas.run_rest}
 use Rattle.row_reduce.proofs.walking.take_run.Goals as goal
 
 pub returns : goal.returns

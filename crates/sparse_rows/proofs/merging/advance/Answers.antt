@@ -1,11 +1,6 @@
 use Rattle.std.proofs.Common.{◌≡◌, ℕ, ◌<◌, ◌≢◌, length, arith, ap, ◌∙◌, subst, sym}
-use Rattle.std.proofs.Math.Nat.{mod-eq_of_lt}
-use Rattle.std.proofs.lemmas.List.{get_or_default}
-use Rattle.fp_field.proofs.ServedLemmas.{served_large}
-use Rattle.sparse_rows.specs.Merging.{StepsOver, position_of}
-use Rattle.sparse_rows.proofs.MergeLemmas.{step_over, step_none}
+use Rattle.sparse_rows.{proofs.Below.{mod-eq_of_lt, get_or_default, served_large}, specs.Merging.{StepsOver, position_of}, proofs.MergeLemmas.{step_over, step_none}, proofs.merging.advance.Goals.{else-i-pairs-via-then-i-pairs+else-pairs-i, else-i-pairs-via-else-i-pairs}}
 use Rattle.sparse_rows.proofs.merging.advance.Goals as goal
-use Rattle.sparse_rows.proofs.merging.advance.Goals.{else-i-pairs-via-then-i-pairs+else-pairs-i, else-i-pairs-via-else-i-pairs}
 
 pub returns-then-pairs-i : goal.returns-then-pairs-i
 returns-then-pairs-i g c = step_over g.row.P c.args.pairs.now c.args.i c.args.position c.index-pairs-i.result c.index-pairs-i-then-pairs-i.result c.requires.row c.if-i-pairs.true c.if-pairs-i.true

@@ -1,7 +1,5 @@
-use Rattle.std.proofs.Common.{◌-◌, []}
-use Rattle.std.proofs.lemmas.Result.{IfOk-weaker}
-use Rattle.cohomology.specs.Names.{classes_in}
-use Rattle.cohomology.proofs.BasisLemmas.{cycle_absolute}
+use Rattle.std.proofs.{Common.{◌-◌, []}, lemmas.Result.IfOk-weaker}
+use Rattle.cohomology.{specs.Names.classes_in, proofs.BasisLemmas.cycle_absolute}
 use Rattle.cohomology.proofs.basis.ClassesBasis.cycle.Goals as goal
 
 pub returns : goal.returns

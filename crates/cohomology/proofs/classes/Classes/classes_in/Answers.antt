@@ -1,7 +1,6 @@
 use Rattle.std.proofs.Common.{List, length, ◌<◌, ◌^◌, subst, sym, ◌∙◌}
 use Rattle.complex_index.specs.declared.indexed.Cochain.{Cochain}
-use Rattle.cohomology.specs.Names.{DegreeClasses, classes_in}
-use Rattle.cohomology.proofs.LoopLemmas.{found_in, none_in}
+use Rattle.cohomology.{specs.Names.{DegreeClasses, classes_in}, proofs.LoopLemmas.{found_in, none_in}}
 use Rattle.cohomology.proofs.classes.Classes.classes_in.Goals as goal
 
 pub returns-in-Some-clause-value : goal.returns-in-Some-clause-value

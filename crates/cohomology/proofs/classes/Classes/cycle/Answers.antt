@@ -1,7 +1,5 @@
 use Rattle.std.proofs.Common.{◌≡◌, ◌%◌, ◌-◌, List, ℕ, refl, arith, subst}
-use Rattle.fp_field.proofs.ServedLemmas.{served_field}
-use Rattle.sparse_rows.specs.Rows.{IsBelow, value_in}
-use Rattle.cohomology.proofs.CycleLemmas.{cycle_made}
+use Rattle.cohomology.proofs.{Below.{served_field, IsBelow, value_in}, CycleLemmas.cycle_made}
 use Rattle.cohomology.proofs.classes.Classes.cycle.Goals as goal
 
 pub returns : goal.returns

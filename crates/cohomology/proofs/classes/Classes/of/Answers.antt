@@ -1,8 +1,5 @@
-use Rattle.std.proofs.Common.{List, ℕ, lit<, sym, subst}
-use Rattle.std.proofs.lemmas.Result.{IfOk-weaker}
-use Rattle.cohomology.specs.Names.{IsSubIndex, AreClassesOfPair}
-use Rattle.cohomology.proofs.LoopLemmas.{absolute_classes}
-use Rattle.cohomology.proofs.WalkLemmas.{complex_pair}
+use Rattle.std.proofs.{Common.{List, ℕ, lit<, sym, subst}, lemmas.Result.IfOk-weaker}
+use Rattle.cohomology.{specs.Names.{IsSubIndex, AreClassesOfPair}, proofs.LoopLemmas.absolute_classes, proofs.WalkLemmas.complex_pair}
 use Rattle.cohomology.proofs.classes.Classes.of.Goals as goal
 
 pub of_pair-requires : goal.of_pair-requires

@@ -1,5 +1,4 @@
-use Rattle.cohomology.specs.Names.{IsReachedIn}
-use Rattle.cohomology.proofs.LoopLemmas.{AreMade, IsFound}
+use Rattle.cohomology.{specs.Names.IsReachedIn, proofs.LoopLemmas.{AreMade, IsFound}}
 use Rattle.cohomology.proofs.classes.Classes.of_pair.Given as goal
 
 abbrev pub invariant-loop-degree : goal.invariant-loop-degree

@@ -1,6 +1,5 @@
 use Rattle.std.proofs.Common.{List, ℕ, length, ◌<◌, ◌^◌, subst, sym, ◌∙◌}
-use Rattle.cohomology.specs.Names.{DegreeClasses, table_in}
-use Rattle.cohomology.proofs.LoopLemmas.{found_in, none_in}
+use Rattle.cohomology.{specs.Names.{DegreeClasses, table_in}, proofs.LoopLemmas.{found_in, none_in}}
 use Rattle.cohomology.proofs.classes.Classes.table_in.Goals as goal
 
 pub returns-in-Some-clause-value : goal.returns-in-Some-clause-value

@@ -1,11 +1,5 @@
 use Rattle.std.proofs.Common.{List, ℕ, subst}
-use Rattle.std.proofs.lemmas.Result.{IfOk-weaker}
-use Rattle.linear_law.specs.Names.{Congruent}
-use Rattle.fp_field.proofs.ServedLemmas.{served_field}
-use Rattle.sparse_rows.specs.Rows.{value_in}
-use Rattle.row_reduce.specs.Names.{combined}
-use Rattle.cohomology.specs.Names.{IsSpread}
-use Rattle.cohomology.proofs.ValueLemmas.{values_tell}
+use Rattle.cohomology.{proofs.Below.{IfOk-weaker, Congruent, served_field, value_in, combined}, specs.Names.IsSpread, proofs.ValueLemmas.values_tell}
 use Rattle.cohomology.proofs.classes.Classes.values.Goals as goal
 
 pub returns : goal.returns

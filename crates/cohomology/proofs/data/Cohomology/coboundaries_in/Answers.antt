@@ -1,7 +1,5 @@
-use Rattle.std.proofs.Common.{List, length, ◌<◌, ◌^◌, ap, subst, sym, ◌∙◌, Vec}
-use Rattle.std.specs.declared.alloc.Global.{Global}
-use Rattle.cohomology.specs.Names.{Coboundary, CohomologyData, coboundaries_in}
-use Rattle.cohomology.proofs.LoopLemmas.{found_in, none_in}
+use Rattle.std.{proofs.Common.{List, length, ◌<◌, ◌^◌, ap, subst, sym, ◌∙◌, Vec}, specs.declared.alloc.Global.Global}
+use Rattle.cohomology.{specs.Names.{Coboundary, CohomologyData, coboundaries_in}, proofs.LoopLemmas.{found_in, none_in}}
 use Rattle.cohomology.proofs.data.Cohomology.coboundaries_in.Goals as goal
 
 pub returns-in-Some-clause-value : goal.returns-in-Some-clause-value

@@ -1,7 +1,5 @@
-use Rattle.std.proofs.Common.{◌-◌, List, [], sym, subst}
-use Rattle.std.proofs.lemmas.Result.{IfOk-weaker}
-use Rattle.cohomology.specs.Names.{DegreeClasses, AreClassesOfPair, IsRelativeCycle, classes_in}
-use Rattle.cohomology.proofs.BasisLemmas.{cycle_absolute}
+use Rattle.std.proofs.{Common.{◌-◌, List, [], sym, subst}, lemmas.Result.IfOk-weaker}
+use Rattle.cohomology.{specs.Names.{DegreeClasses, AreClassesOfPair, IsRelativeCycle, classes_in}, proofs.BasisLemmas.cycle_absolute}
 use Rattle.cohomology.proofs.data.Cohomology.cycle.Goals as goal
 
 pub returns-clause-pair : goal.returns-clause-pair

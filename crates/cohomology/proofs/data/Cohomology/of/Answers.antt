@@ -1,8 +1,5 @@
-use Rattle.std.proofs.Common.{List, ℕ, lit<, sym, subst}
-use Rattle.std.proofs.lemmas.Result.{IfOk-weaker}
-use Rattle.cohomology.specs.Names.{IsSubIndex, IsCohomologyOfPair}
-use Rattle.cohomology.proofs.CoboundaryLemmas.{absolute_data}
-use Rattle.cohomology.proofs.WalkLemmas.{complex_pair}
+use Rattle.std.proofs.{Common.{List, ℕ, lit<, sym, subst}, lemmas.Result.IfOk-weaker}
+use Rattle.cohomology.{specs.Names.{IsSubIndex, IsCohomologyOfPair}, proofs.CoboundaryLemmas.absolute_data, proofs.WalkLemmas.complex_pair}
 use Rattle.cohomology.proofs.data.Cohomology.of.Goals as goal
 
 pub of_pair-requires : goal.of_pair-requires

@@ -1,7 +1,6 @@
 use Rattle.std.proofs.Common.{arith, rules, ◌≡◌, ◌+◌, length, lit<, sym, subst}
 use Rattle.row_reduce.specs.Names.{AreTriangular}
-use Rattle.cohomology.proofs.CoboundaryLemmas.{AreBound, bounds_all, bounds_all_few, bounds_few, no_coboundaries}
-use Rattle.cohomology.proofs.LoopLemmas.{IsFound, classes_all, classes_few, made_more, made_start}
+use Rattle.cohomology.proofs.{CoboundaryLemmas.{AreBound, bounds_all, bounds_all_few, bounds_few, no_coboundaries}, LoopLemmas.{IsFound, classes_all, classes_few, made_more, made_start}}
 use Rattle.cohomology.proofs.data.Cohomology.of_pair.Goals as goal
 
 pub loop-degree-init : goal.loop-degree-init

@@ -1,7 +1,5 @@
 use Rattle.std.proofs.Common.{◌+◌}
-use Rattle.cohomology.specs.Names.{IsReachedIn}
-use Rattle.cohomology.proofs.CoboundaryLemmas.{AreBound}
-use Rattle.cohomology.proofs.LoopLemmas.{AreMade, IsFound}
+use Rattle.cohomology.{specs.Names.IsReachedIn, proofs.CoboundaryLemmas.AreBound, proofs.LoopLemmas.{AreMade, IsFound}}
 use Rattle.cohomology.proofs.data.Cohomology.of_pair.Given as goal
 
 abbrev pub invariant-loop-degree : goal.invariant-loop-degree

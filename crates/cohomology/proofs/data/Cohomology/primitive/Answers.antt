@@ -1,9 +1,5 @@
 use Rattle.std.proofs.Common.{List, ℕ, ◌==◌, ◌∙◌, sym, ap, subst}
-use Rattle.std.specs.List.{list_all}
-use Rattle.std.proofs.lemmas.Bool.{false≢true}
-use Rattle.fp_field.proofs.ServedLemmas.{served_field}
-use Rattle.cohomology.specs.Names.{RefusesCoordinates, CoordinatesRefused}
-use Rattle.cohomology.proofs.CoordinateLemmas.{all_zero, coordinate_shows, open_shows, primitive_whole, zero_all}
+use Rattle.cohomology.{proofs.Below.{list_all, false≢true, served_field}, specs.Names.{RefusesCoordinates, CoordinatesRefused}, proofs.CoordinateLemmas.{all_zero, coordinate_shows, open_shows, primitive_whole, zero_all}}
 use Rattle.cohomology.proofs.data.Cohomology.primitive.Goals as goal
 
 pub returns-in-Err-NotClosed : goal.returns-in-Err-NotClosed

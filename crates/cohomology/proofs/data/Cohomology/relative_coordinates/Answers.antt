@@ -1,7 +1,6 @@
 use Rattle.std.proofs.Common.{List, sym, subst}
 use Rattle.fp_field.proofs.ServedLemmas.{served_field}
-use Rattle.cohomology.specs.Names.{DegreeClasses, AreClassesOfPair, classes_in, AreRelativeValues}
-use Rattle.cohomology.proofs.CoordinateLemmas.{relative_made}
+use Rattle.cohomology.{specs.Names.{DegreeClasses, AreClassesOfPair, classes_in, AreRelativeValues}, proofs.CoordinateLemmas.relative_made}
 use Rattle.cohomology.proofs.data.Cohomology.relative_coordinates.Goals as goal
 
 pub returns : goal.returns

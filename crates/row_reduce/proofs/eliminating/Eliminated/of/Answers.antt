@@ -1,7 +1,6 @@
 use Rattle.std.proofs.Common.{◌≡◌, ◌-◌, arith, [], List, length, sym, subst}
 use Rattle.fp_field.proofs.ServedLemmas.{served_field}
-use Rattle.row_reduce.specs.Names.{EchelonRow, IsEliminated}
-use Rattle.row_reduce.proofs.EliminationLemmas.{eliminated_start}
+use Rattle.row_reduce.{specs.Names.{EchelonRow, IsEliminated}, proofs.EliminationLemmas.eliminated_start}
 use Rattle.row_reduce.proofs.eliminating.Eliminated.of.Goals as goal
 
 pub loop-done-init : goal.loop-done-init

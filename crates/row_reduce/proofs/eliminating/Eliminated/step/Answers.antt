@@ -1,14 +1,6 @@
 use Rattle.std.proofs.Common.{◌<◌, ◌≤◌, ◌∷◌, [], ◌++◌, ℕ, suc, List, take, drop, length, get_or, arith, sym, subst, add-one}
-use Rattle.std.specs.List.{AllZip}
-use Rattle.linear_law.specs.Names.{Congruent, unit_vector}
-use Rattle.linear_law.proofs.Names.{Congruent_from, Congruent_mod, Congruent_mul, Congruent_of, Congruent_refl, Congruent_trans}
-use Rattle.fp_field.proofs.ServedLemmas.{served_field}
-use Rattle.sparse_rows.specs.Rows.{IsRow, value_in}
-use Rattle.row_reduce.specs.Names.{EchelonRow, Eliminated, cleared, combination_of, row_of, IsClearedBy, IsEliminated}
-use Rattle.row_reduce.proofs.SumLemmas.{row_read}
-use Rattle.row_reduce.proofs.EliminationLemmas.{eliminated_relation, eliminated_row}
+use Rattle.row_reduce.{proofs.Below.{AllZip, Congruent, unit_vector, Congruent_from, Congruent_mod, Congruent_mul, Congruent_of, Congruent_refl, Congruent_trans, served_field, IsRow, value_in}, specs.Names.{EchelonRow, Eliminated, cleared, combination_of, row_of, IsClearedBy, IsEliminated}, proofs.SumLemmas.row_read, proofs.EliminationLemmas.{eliminated_relation, eliminated_row}, proofs.eliminating.Eliminated.step.Goals.{in-Some+in_ok-newest+in_ok-echelon+in_ok-insert, in_default+in_ok-push}}
 use Rattle.row_reduce.proofs.eliminating.Eliminated.step.Goals as goal
-use Rattle.row_reduce.proofs.eliminating.Eliminated.step.Goals.{in-Some+in_ok-newest+in_ok-echelon+in_ok-insert, in_default+in_ok-push}
 
 pub returns : goal.returns
 returns g c =

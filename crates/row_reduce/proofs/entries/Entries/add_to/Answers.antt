@@ -1,8 +1,5 @@
 use Rattle.std.proofs.Common.{◌≡◌, ℕ, ◌+◌, ◌*◌, ◌<◌, List, length, get_or, drop, arith, lit<, sym, ◌∙◌, subst}
-use Rattle.linear_law.specs.Names.{Congruent}
-use Rattle.sparse_rows.specs.Rows.{IsBelow, value_in}
-use Rattle.row_reduce.specs.Names.{run_from, zipped}
-use Rattle.row_reduce.proofs.EntryLemmas.{alone_part, both_parts, each_left, each_rest, run_inside, run_part}
+use Rattle.row_reduce.{proofs.Below.{Congruent, IsBelow, value_in}, specs.Names.{run_from, zipped}, proofs.EntryLemmas.{alone_part, both_parts, each_left, each_rest, run_inside, run_part}}
 use Rattle.row_reduce.proofs.entries.Entries.add_to.Goals as goal
 
 pub add_alone-requires : goal.add_alone-requires

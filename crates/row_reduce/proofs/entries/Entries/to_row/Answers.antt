@@ -1,7 +1,6 @@
 use Rattle.std.proofs.Common.{◌≡◌, ◌≤◌, ◌%◌, ℕ, List, length, arith, ◌∙◌, subst, ap, take_all, IfOk}
 use Rattle.sparse_rows.specs.Rows.{value_in}
-use Rattle.row_reduce.specs.Names.{entries_of}
-use Rattle.row_reduce.proofs.EntryLemmas.{entries_length, entries_more}
+use Rattle.row_reduce.{specs.Names.entries_of, proofs.EntryLemmas.{entries_length, entries_more}}
 use Rattle.row_reduce.proofs.entries.Entries.to_row.Goals as goal
 
 pub loop-i-preserved : goal.loop-i-preserved

@@ -1,7 +1,6 @@
 use Rattle.std.proofs.Common.{List, ℕ, subst}
 use Rattle.fp_field.proofs.ServedLemmas.{served_field}
-use Rattle.row_reduce.specs.Names.{IsEchelonOf}
-use Rattle.row_reduce.proofs.EliminationLemmas.{eliminated_space}
+use Rattle.row_reduce.{specs.Names.IsEchelonOf, proofs.EliminationLemmas.eliminated_space}
 use Rattle.row_reduce.proofs.space.Space.reduce_all.Goals as goal
 
 pub invariant_of-self : goal.invariant_of-self

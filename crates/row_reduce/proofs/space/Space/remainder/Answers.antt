@@ -1,10 +1,5 @@
 use Rattle.std.proofs.Common.{ℕ, ◌*◌, ◌-◌, List, subst, arith}
-use Rattle.linear_law.specs.Names.{Congruent}
-use Rattle.linear_law.proofs.Names.{Congruent_mod, Congruent_of, Congruent_scale, Congruent_trans}
-use Rattle.fp_field.proofs.ServedLemmas.{served_field}
-use Rattle.sparse_rows.specs.Rows.{value_in}
-use Rattle.row_reduce.specs.Names.{EchelonRow, cleared, combination_of, row_of, IsRemainder, Spanned}
-use Rattle.row_reduce.proofs.SpaceLemmas.{divided}
+use Rattle.row_reduce.{proofs.Below.{Congruent, Congruent_mod, Congruent_of, Congruent_scale, Congruent_trans, served_field, value_in}, specs.Names.{EchelonRow, cleared, combination_of, row_of, IsRemainder, Spanned}, proofs.SpaceLemmas.divided}
 use Rattle.row_reduce.proofs.space.Space.remainder.Goals as goal
 
 pub returns : goal.returns

@@ -1,7 +1,6 @@
 use Rattle.std.proofs.Common.{List, [], length, sym, subst}
 use Rattle.fp_field.proofs.ServedLemmas.{served_field}
-use Rattle.row_reduce.specs.Names.{Class, Stored, IsMarkedIn, Reached}
-use Rattle.row_reduce.proofs.StepLemmas.{reached_start}
+use Rattle.row_reduce.{specs.Names.{Class, Stored, IsMarkedIn, Reached}, proofs.StepLemmas.reached_start}
 use Rattle.row_reduce.proofs.walking.Walk.start.Goals as goal
 
 pub returns-clause-reached : goal.returns-clause-reached

@@ -1,9 +1,5 @@
-use Rattle.std.proofs.Common.{◌≡◌, ◌<◌, length, List, ◌∷◌, [], ◌++◌, arith, sym, ◌∙◌, subst, add-one, lit<}
-use Rattle.fp_field.proofs.ServedLemmas.{served_field}
-use Rattle.sparse_rows.specs.Rows.{IsBelow}
-use Rattle.row_reduce.specs.Names.{Stored, Class, IsMarkedIn, Owns, Reached}
-use Rattle.row_reduce.proofs.SumLemmas.{row_read}
-use Rattle.row_reduce.proofs.StepLemmas.{mark_read, not_both, reached_skip, reduced_here, row_within, step_class, step_stored, still_row}
+use Rattle.std.proofs.Common.{ℕ, get_or, ◌≡◌, ◌<◌, length, List, ◌∷◌, [], ◌++◌, arith, sym, ◌∙◌, subst, add-one, lit<}
+use Rattle.row_reduce.{proofs.Below.{served_field, Congruent, IsBelow, value_in}, specs.Names.{Stored, Class, IsMarkedIn, Owns, Reached}, proofs.SumLemmas.row_read, proofs.StepLemmas.{mark_read, not_both, reached_skip, reduced_here, row_within, step_class, step_stored, still_row}}
 use Rattle.row_reduce.proofs.walking.Walk.step.Goals as goal
 
 pub returns-then-index-clause-reached : goal.returns-then-index-clause-reached
@@ -37,31 +33,10 @@ store-requires g c =
     let done = reduced_here p width stored c.as_slice.result.now pivots c.load-start.new.sum left c.in_ok-left.left.0 c.in_ok-left.left.1.items c.load-start.auto.sum c.as_slice.ensures.value c.in_ok-left.ensures in
     let s : Stored p = record { place = 0; factor = 0; row = []; source = 0; history = [] } in
     let b : c.in_ok-left.left.0 < width = let d = done.inside in let f = c.if-left-sum.false in omega arith in
-    let fits : IsBelow width given = row_within width rows c.args.low given c.index-rows-low.result c.as_slice-row.ensures.same c.index-rows-low.is c.requires.inside c.requires.rows.within in (
-      lit< tt,
-      (
-        lit< tt,
-        (
-          c.requires.prime,
-          (
-            omega (arith, full, c.requires.rows.narrow),
-            (
-              done.before,
-              (
-                omega (arith, full, b),
-                (
-                  (done.stop b).0,
-                  (
-                    subst (λ n. IsBelow n given) (sym full) fits,
-                    λ e y. still_row p width stored pivots c.load-start.new.sum left c.in_ok-left.left.0 c.load-start.result given c.in_ok-left.left.1.items s e c.load-start.ensures done y,
-                  ),
-                ),
-              ),
-            ),
-          ),
-        ),
-      ),
-    )
+    let fits : IsBelow width given = row_within width rows c.args.low given c.index-rows-low.result c.as_slice-row.ensures.same c.index-rows-low.is c.requires.inside c.requires.rows.within in
+    let same : (e : c.in_ok-left.left.1.items ≡ []) (y : ℕ) → Congruent p (get_or left y 0) (value_in given y) = λ e y.
+    still_row p width stored pivots c.load-start.new.sum left c.in_ok-left.left.0 c.load-start.result given c.in_ok-left.left.1.items s e c.load-start.ensures done y in
+    (lit< tt, (lit< tt, (c.requires.prime, (omega (arith, full, c.requires.rows.narrow), (done.before, (omega (arith, full, b), ((done.stop b).0, (subst (λ n. IsBelow n given) (sym full) fits, same))))))))
 
 pub returns-in_ok-push-clause-reached : goal.returns-in_ok-push-clause-reached
 returns-in_ok-push-clause-reached g c =

@@ -1,8 +1,5 @@
 use Rattle.std.proofs.Common.{ℕ, rules, arith, sym, ◌∙◌}
-use Rattle.std.proofs.lemmas.Fn.{always_returns_same}
-use Rattle.std.proofs.Math.Nat.{mod-eq_of_lt}
-use Rattle.fp_field.proofs.ServedLemmas.{served_large}
-use Rattle.sparse_rows.proofs.SearchLemmas.{at_found, at_none}
+use Rattle.sparse_rows.proofs.{Below.{always_returns_same, mod-eq_of_lt, served_large}, SearchLemmas.{at_found, at_none}}
 use Rattle.sparse_rows.proofs.row.Row.at.Goals as goal
 
 pub returns-in-Ok : goal.returns-in-Ok

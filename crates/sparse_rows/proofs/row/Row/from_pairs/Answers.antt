@@ -1,11 +1,5 @@
 use Rattle.std.proofs.Common.{◌≡◌, ◌%◌, ℕ, List, rules, lit<, sym, ◌∙◌, subst, ap, arith}
-use Rattle.std.proofs.Math.Nat.{mod-eq_of_lt}
-use Rattle.std.proofs.lemmas.List.Sorted.{IsNonDecreasingBy-from_sort_by_key}
-use Rattle.std.specs.List.Sorted.{IsNonDecreasingBy}
-use Rattle.fp_field.proofs.ServedLemmas.{served_large}
-use Rattle.sparse_rows.specs.Rows.{value_in}
-use Rattle.sparse_rows.proofs.RowLemmas.{value_in-small, below_of_sum}
-use Rattle.sparse_rows.proofs.SortLemmas.{value_in-sorted}
+use Rattle.sparse_rows.{proofs.Below.{mod-eq_of_lt, IsNonDecreasingBy-from_sort_by_key, IsNonDecreasingBy, served_large}, specs.Rows.value_in, proofs.RowLemmas.{value_in-small, below_of_sum}, proofs.SortLemmas.value_in-sorted}
 use Rattle.sparse_rows.proofs.row.Row.from_pairs.Goals as goal
 
 pub returns-then-is_row-clause-sum : goal.returns-then-is_row-clause-sum

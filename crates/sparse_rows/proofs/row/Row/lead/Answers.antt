@@ -1,6 +1,5 @@
 use Rattle.std.proofs.Common.{ℕ, List, subst, sym, ◌∙◌}
-use Rattle.sparse_rows.specs.Rows.{IsFirst, IsRow}
-use Rattle.sparse_rows.proofs.RowLemmas.{first_of}
+use Rattle.sparse_rows.{specs.Rows.{IsFirst, IsRow}, proofs.RowLemmas.first_of}
 use Rattle.sparse_rows.proofs.row.Row.lead.Goals as goal
 
 pub returns-in-len1-up : goal.returns-in-len1-up
