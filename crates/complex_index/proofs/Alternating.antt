@@ -1,16 +1,9 @@
 -- The values of a coboundary and of a boundary are the alternating sums over the faces.
-use Rattle.std.proofs.Common.{◌≡◌, ℕ, zero, suc, ◌+◌, ◌*◌, ◌<◌, ◌≤◌, inl, inr, arith, refl, sym, ◌∙◌, ap, ap₂, subst, List, [], ◌∷◌, ◌++◌, map, length, get_or, drop, append_assoc, Bool, true, false, cond, not, eqb, eq-eqb}
-use Rattle.std.proofs.lemmas.Bool.Decides.{eqb_tells}
-use Rattle.std.proofs.lemmas.List.{map-append}
-use Rattle.std.specs.List.Sorted.{IsStrictlySortedBy}
-use Rattle.complex_index.specs.Names.{Coface, ArePlaces, ArePlacesOf, simplex_at, marks, above_at, boundary_coefficient, pair_of, shrunk, signed_places, signed_value, spread}
-use Rattle.linear_law.specs.Names.{Congruent, negated, sum_over, Each, unit_vector}
-use Rattle.linear_law.proofs.Names.{Congruent_refl, Congruent_of, Congruent_sym, Congruent_trans, Congruent_add, Congruent_mul, Congruent_scale, Congruent_cancel, add-negated, Congruent_mod, sum_append, sum_map, each_append, each_of_map}
-use Rattle.simplicial_law.specs.Names.{faces, Cochain, alternating_chain, boundary, coboundary, pairing, unit_cochain, simplex_cmp, cochain_of, terms_of}
-use Rattle.simplicial_law.proofs.Names.{once_in_order, unit_away, unit_here}
+use Rattle.std.{proofs.Common.{◌≡◌, ℕ, zero, suc, ◌+◌, ◌*◌, ◌<◌, ◌≤◌, inl, inr, arith, refl, sym, ◌∙◌, ap, ap₂, subst, List, [], ◌∷◌, ◌++◌, map, length, get_or, drop, append_assoc, Bool, true, false, cond, not, eqb, eq-eqb}, proofs.lemmas.Bool.Decides.eqb_tells, proofs.lemmas.List.map-append, specs.List.Sorted.IsStrictlySortedBy}
+use Rattle.complex_index.{specs.Names.{Coface, ArePlaces, ArePlacesOf, simplex_at, marks, above_at, boundary_coefficient, pair_of, shrunk, signed_places, signed_value, spread}, proofs.FacePlaces.left_at, proofs.LevelLemmas.places_length}
+use Rattle.linear_law.{specs.Names.{Congruent, negated, sum_over, Each, unit_vector}, proofs.Names.{Congruent_refl, Congruent_of, Congruent_sym, Congruent_trans, Congruent_add, Congruent_mul, Congruent_scale, Congruent_cancel, add-negated, Congruent_mod, sum_append, sum_map, each_append, each_of_map}}
+use Rattle.simplicial_law.{specs.Names.{faces, Cochain, alternating_chain, boundary, coboundary, pairing, unit_cochain, simplex_cmp, cochain_of, terms_of}, proofs.Names.{once_in_order, unit_away, unit_here}}
 use Rattle.sparse_rows.specs.Rows.{IsBelow, value_in}
-use Rattle.complex_index.proofs.FacePlaces.{left_at}
-use Rattle.complex_index.proofs.LevelLemmas.{places_length}
 
 -- ---- values
 

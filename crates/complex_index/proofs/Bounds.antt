@@ -1,6 +1,5 @@
 -- Lists of lists in one list with bounds.
-use Rattle.std.proofs.Common.{◌≡◌, ℕ, zero, suc, ◌+◌, ◌-◌, ◌<◌, ◌≤◌, arith, refl, sym, ◌∙◌, ap, ap₂, List, [], ◌∷◌, ◌++◌, length, take, take_all, drop, get_or, drop_at, length-append, length-drop}
-use Rattle.std.proofs.lemmas.List.{drop-append-le, take-append-le}
+use Rattle.std.proofs.{Common.{◌≡◌, ℕ, zero, suc, ◌+◌, ◌-◌, ◌<◌, ◌≤◌, arith, refl, sym, ◌∙◌, ap, ap₂, List, [], ◌∷◌, ◌++◌, length, take, take_all, drop, get_or, drop_at, length-append, length-drop}, lemmas.List.{drop-append-le, take-append-le}}
 use Rattle.simplicial_law.proofs.Names.{get_or_any}
 use Rattle.complex_index.specs.Names.{AreBounds, parts}
 

@@ -1,18 +1,9 @@
 -- Steps of the loops over faces and cofaces.
-use Rattle.std.proofs.Common.{◌≡◌, ℕ, zero, suc, ◌+◌, ◌-◌, ◌*◌, ◌<◌, ◌≤◌, inl, inr, arith, refl, sym, ◌∙◌, ap, ap₂, subst, List, [], ◌∷◌, ◌++◌, map, length, take, drop, take_all, get_or, true, false, cond, eqb, append_assoc, Vec, Global, add-one, slice_set, Result, Ok, Err, append-nil, length-append, eq-eqb}
-use Rattle.std.specs.Result.{IfOk}
-use Rattle.std.specs.declared.alloc.AllocError.{AllocError}
-use Rattle.std.proofs.lemmas.List.{drop_all, get_or-map, length-map, map-append, take_more, take_rest}
-use Rattle.std.proofs.lemmas.Bool.Decides.{eqb_tells}
-use Rattle.std.proofs.Math.Seq.{drop-cons}
+use Rattle.std.{proofs.Common.{◌≡◌, ℕ, zero, suc, ◌+◌, ◌-◌, ◌*◌, ◌<◌, ◌≤◌, inl, inr, arith, refl, sym, ◌∙◌, ap, ap₂, subst, List, [], ◌∷◌, ◌++◌, map, length, take, drop, take_all, get_or, true, false, cond, eqb, append_assoc, Vec, Global, add-one, slice_set, Result, Ok, Err, append-nil, length-append, eq-eqb}, specs.Result.IfOk, specs.declared.alloc.AllocError.AllocError, proofs.lemmas.List.{drop_all, get_or-map, length-map, map-append, take_more, take_rest}, proofs.lemmas.Bool.Decides.eqb_tells, proofs.Math.Seq.drop-cons}
 use Rattle.complex_index.specs.Names.{Coface, AddsPlaces, ArePlaces, ArePlacesOf, simplex_at, marks, above_at, list_at, lists_of}
-use Rattle.linear_law.specs.Names.{Each}
-use Rattle.linear_law.proofs.Names.{each_get_or, each_push, zip_push}
-use Rattle.simplicial_law.proofs.Names.{get_or_any}
-use Rattle.simplex_set.specs.Pieces.{pieces}
-use Rattle.simplex_set.proofs.AddingFaces.{face_made, length_faces}
-use Rattle.simplex_set.proofs.InPieces.{length_push, pieces_push}
-use Rattle.simplicial_law.specs.Names.{faces}
+use Rattle.linear_law.{specs.Names.Each, proofs.Names.{each_get_or, each_push, zip_push}}
+use Rattle.simplicial_law.{proofs.Names.get_or_any, specs.Names.faces}
+use Rattle.simplex_set.{specs.Pieces.pieces, proofs.AddingFaces.{face_made, length_faces}, proofs.InPieces.{length_push, pieces_push}}
 
 -- what is left at i, and at i + 1
 pub left_at : {X : Type 0} (xs : List X) (i : ℕ) (x : X) → i < length xs → x ≡ get_or xs i x → drop i xs ≡ x ∷ drop (i + 1) xs

@@ -1,16 +1,8 @@
 -- The levels of an index, one after the other, and what they are together.
-use Rattle.std.proofs.Common.{◌≡◌, ℕ, zero, suc, ◌+◌, ◌-◌, ◌^◌, ◌<◌, ◌≤◌, inl, inr, arith, refl, sym, ◌∙◌, ap, subst, List, [], ◌∷◌, ◌++◌, length, take, take_all, get_or, Bool, true, false, eqb, cond, map, sub-one, append-nil}
-use Rattle.std.proofs.lemmas.Bool.{cases_eq, cases_lt}
-use Rattle.std.proofs.lemmas.Bool.Decides.{eqb_tells}
-use Rattle.std.proofs.lemmas.List.{get_or-map, get_or_append_left, get_or_past, length-map, map-append, take_more}
-use Rattle.std.specs.List.{filter}
-use Rattle.std.specs.List.Sorted.{IsStrictlySortedBy}
+use Rattle.std.{proofs.Common.{◌≡◌, ℕ, zero, suc, ◌+◌, ◌-◌, ◌^◌, ◌<◌, ◌≤◌, inl, inr, arith, refl, sym, ◌∙◌, ap, subst, List, [], ◌∷◌, ◌++◌, length, take, take_all, get_or, Bool, true, false, eqb, cond, map, sub-one, append-nil}, proofs.lemmas.Bool.{cases_eq, cases_lt}, proofs.lemmas.Bool.Decides.eqb_tells, proofs.lemmas.List.{get_or-map, get_or_append_left, get_or_past, length-map, map-append, take_more}, specs.List.filter, specs.List.Sorted.IsStrictlySortedBy}
 use Rattle.complex_index.specs.Names.{Coface, Level, ArePlaces, ArePlacesOf, AreLevels, Fits, IsIndex, IsIndexOf, IsIndexed, lists, level, cofaces_at, faces_at}
-use Rattle.linear_law.specs.Names.{Each, Among, IsAscending, ListsAll}
-use Rattle.linear_law.proofs.Names.{each_among, each_right, get_last, length_alike, length_push}
-use Rattle.simplicial_law.specs.Names.{IsInOrder, IsSimplex, faces, IsClosed, of_degree, simplex_cmp, sublists}
-use Rattle.simplicial_law.specs.ListedSimplices.{simplices}
-use Rattle.simplicial_law.proofs.Names.{of_map, sublist_first, sublist_of_rest, sublist_whole, sublist_with, sublists_cases, each_of, in_filter, length_of_test, listed_simplices_law, of_all, of_degree_sorted, of_filter, simplices_closed, test_of_length}
+use Rattle.linear_law.{specs.Names.{Each, Among, IsAscending, ListsAll}, proofs.Names.{each_among, each_right, get_last, length_alike, length_push}}
+use Rattle.simplicial_law.{specs.Names.{IsInOrder, IsSimplex, faces, IsClosed, of_degree, simplex_cmp, sublists}, specs.ListedSimplices.simplices, proofs.Names.{of_map, sublist_first, sublist_of_rest, sublist_whole, sublist_with, sublists_cases, each_of, in_filter, length_of_test, listed_simplices_law, of_all, of_degree_sorted, of_filter, simplices_closed, test_of_length}}
 use Rattle.simplex_set.specs.Levels.{AreLevelsOf, IsLargest}
 
 -- ---- pushing a level

@@ -1,21 +1,12 @@
 -- Maps of vertices, and the values of pull-backs.
-use Rattle.std.proofs.Common.{◌≡◌, ℕ, zero, suc, ◌+◌, ◌*◌, ◌<◌, ◌≤◌, inl, inr, arith, refl, sym, ◌∙◌, ap, ap₂, subst, List, [], ◌∷◌, ◌++◌, map, length, take, get_or, max, Bool, true, false, cond, eqb, slice_set, eq-eqb, get_or-set_other, get_or-set_same}
-use Rattle.std.proofs.lemmas.Bool.Decides.{eqb_tells}
-use Rattle.std.proofs.lemmas.List.{take_more}
-use Rattle.std.proofs.lemmas.List.Sums.{fold_more}
-use Rattle.std.specs.List.Sorted.{IsStrictlySortedBy}
+use Rattle.std.{proofs.Common.{◌≡◌, ℕ, zero, suc, ◌+◌, ◌*◌, ◌<◌, ◌≤◌, inl, inr, arith, refl, sym, ◌∙◌, ap, ap₂, subst, List, [], ◌∷◌, ◌++◌, map, length, take, get_or, max, Bool, true, false, cond, eqb, slice_set, eq-eqb, get_or-set_other, get_or-set_same}, proofs.lemmas.Bool.Decides.eqb_tells, proofs.lemmas.List.take_more, proofs.lemmas.List.Sums.fold_more, specs.List.Sorted.IsStrictlySortedBy}
 use Rattle.signed_sum.specs.Names.{is_degenerate}
-use Rattle.linear_law.specs.Names.{Among, Each, IsAscending, unit_vector}
-use Rattle.linear_law.proofs.Names.{Congruent_of, each_get_or, each_map, each_push}
-use Rattle.simplicial_law.specs.Names.{unit_cochain, cochain_of, simplex_cmp, terms_of}
-use Rattle.simplicial_law.proofs.Names.{unit_away}
-use Rattle.steenrod_law.specs.Names.{pull_back}
-use Rattle.steenrod_law.proofs.Complexes.{ascending-plain}
-use Rattle.sparse_rows.specs.Rows.{IsBelow, value_in}
-use Rattle.sparse_rows.proofs.RowLemmas.{value_in-past}
+use Rattle.linear_law.{specs.Names.{Among, Each, IsAscending, unit_vector}, proofs.Names.{Congruent_of, each_get_or, each_map, each_push}}
+use Rattle.simplicial_law.{specs.Names.{unit_cochain, cochain_of, simplex_cmp, terms_of}, proofs.Names.unit_away}
+use Rattle.steenrod_law.{specs.Names.pull_back, proofs.Complexes.ascending-plain}
+use Rattle.sparse_rows.{specs.Rows.{IsBelow, value_in}, proofs.RowLemmas.value_in-past}
 use Rattle.simplex_set.proofs.Sizes.{among_place}
-use Rattle.complex_index.specs.Names.{level, IsPullBackOf, image_of}
-use Rattle.complex_index.proofs.Alternating.{pair_value, unit_at_place}
+use Rattle.complex_index.{specs.Names.{level, IsPullBackOf, image_of}, proofs.Alternating.{pair_value, unit_at_place}}
 
 -- ---- images
 

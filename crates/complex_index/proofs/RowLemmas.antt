@@ -1,17 +1,9 @@
 -- Rows of coboundaries and of boundaries, at a degree of an index.
-use Rattle.std.proofs.Common.{◌≡◌, ℕ, zero, suc, ◌+◌, ◌-◌, ◌*◌, ◌%◌, ◌<◌, ◌≤◌, arith, refl, sym, ◌∙◌, ap, subst, List, [], ◌∷◌, ◌++◌, map, take, take_all, length, get_or, true, false, Result, Ok, Err, mod-eq_of_lt, sub-one}
-use Rattle.std.specs.Result.{IfOk}
-use Rattle.std.specs.declared.alloc.AllocError.{AllocError}
-use Rattle.std.specs.List.{AllZip}
-use Rattle.std.proofs.lemmas.List.{map-append, take_more}
-use Rattle.complex_index.specs.Names.{Level, IsBoundaryOf, IsCoboundaryOf, boundary_coefficient, shrunk, spread, Fits, IsIndex, lists, level, cofaces_at, faces_at}
-use Rattle.linear_law.specs.Names.{Congruent, Each}
-use Rattle.linear_law.proofs.Names.{Congruent_mod, Congruent_of, Congruent_trans, each_push, zip_push}
+use Rattle.std.{proofs.Common.{◌≡◌, ℕ, zero, suc, ◌+◌, ◌-◌, ◌*◌, ◌%◌, ◌<◌, ◌≤◌, arith, refl, sym, ◌∙◌, ap, subst, List, [], ◌∷◌, ◌++◌, map, take, take_all, length, get_or, true, false, Result, Ok, Err, mod-eq_of_lt, sub-one}, specs.Result.IfOk, specs.declared.alloc.AllocError.AllocError, specs.List.AllZip, proofs.lemmas.List.{map-append, take_more}}
+use Rattle.complex_index.{specs.Names.{Level, IsBoundaryOf, IsCoboundaryOf, boundary_coefficient, shrunk, spread, Fits, IsIndex, lists, level, cofaces_at, faces_at}, proofs.Alternating.{boundary_is, coboundary_is, shrunk_below, spread_below}, proofs.LevelLemmas.places_length}
+use Rattle.linear_law.{specs.Names.{Congruent, Each}, proofs.Names.{Congruent_mod, Congruent_of, Congruent_trans, each_push, zip_push}}
 use Rattle.simplicial_law.specs.Names.{Cochain, coboundary, unit_cochain, cochain_of, IsCoboundaryRow, terms_of}
-use Rattle.sparse_rows.specs.Rows.{IsBelow, IsRow, value_in}
-use Rattle.sparse_rows.proofs.RowLemmas.{below_of_sum}
-use Rattle.complex_index.proofs.Alternating.{boundary_is, coboundary_is, shrunk_below, spread_below}
-use Rattle.complex_index.proofs.LevelLemmas.{places_length}
+use Rattle.sparse_rows.{specs.Rows.{IsBelow, IsRow, value_in}, proofs.RowLemmas.below_of_sum}
 
 values_of : (p k w : ℕ) (row pairs : List (ℕ × ℕ)) → ((k : ℕ) → value_in row k ≡ value_in pairs k % p) → Congruent p (value_in pairs k) w → Congruent p (value_in row k) w
 values_of p k w row pairs s h = Congruent_trans (Congruent_of (s k)) (Congruent_trans (Congruent_mod p (value_in pairs k)) h)

@@ -3,8 +3,7 @@ use Rattle.std.specs.Prelude.{ℕ, ◌+◌, ◌-◌, ◌*◌, ◌%◌, ◌<◌, 
 use Rattle.linear_law.specs.Names.{Congruent, negated, sum_over}
 use Rattle.simplicial_law.specs.Names.{Chain, boundary, coboundary, pairing, unit_cochain, cochain_of, terms_of}
 use Rattle.sparse_rows.specs.Rows.{IsBelow, value_in}
-use Rattle.complex_index.specs.declared.cofaces.Coface.{Coface}
-use Rattle.complex_index.specs.Levels.{level}
+use Rattle.complex_index.specs.{declared.cofaces.Coface.Coface, Levels.level}
 
 -- the coefficient of the simplex t in the boundary of a chain
 abbrev pub boundary_coefficient : ℕ → Chain → List ℕ → ℕ

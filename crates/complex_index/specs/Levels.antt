@@ -1,11 +1,8 @@
 -- The simplices of a complex by degree and place.
-use Rattle.std.specs.Prelude.{◌≡◌, ℕ, ◌+◌, ◌^◌, ◌<◌, ◌≤◌, List, [], map, length, get_or}
-use Rattle.std.specs.List.Sorted.{IsStrictlySortedBy}
-use Rattle.complex_index.specs.declared.cofaces.Coface.{Coface}
-use Rattle.complex_index.specs.declared.levels.Level.{Level}
+use Rattle.std.specs.{Prelude.{◌≡◌, ℕ, ◌+◌, ◌^◌, ◌<◌, ◌≤◌, List, [], map, length, get_or}, List.Sorted.IsStrictlySortedBy}
+use Rattle.complex_index.specs.{declared.cofaces.Coface.Coface, declared.levels.Level.Level, Incidence.{ArePlacesOf, above_at}}
 use Rattle.linear_law.specs.Names.{Among, Each, ListsAll}
 use Rattle.simplicial_law.specs.Names.{IsInOrder, IsSimplex, faces, simplex_cmp}
-use Rattle.complex_index.specs.Incidence.{ArePlacesOf, above_at}
 
 -- the simplices of degree n, none past the last level
 abbrev pub level : List (List (List ℕ)) → ℕ → List (List ℕ)

@@ -50,13 +50,14 @@ impl Cofaces {
     fn of(alloc: Global, lists: &[Vec<Coface>]) -> Result<Cofaces, AllocError>
         ensures { IfOk result (λ c. c ≡ lists_of lists.now) }
     {
-        let mut bounds = Vec::new(alloc);
+        let mut bounds = Vec::with_capacity(alloc, lists.len() + 1)?;
         let mut items = Vec::new(alloc);
         bounds.push(0usize)?;
         for list in lists {
             items.extend_from_slice(list)?;
             bounds.push(items.len())?;
         }
+        items.shrink_to_fit();
         Ok(Cofaces { bounds, items })
     }
 
@@ -95,7 +96,7 @@ fn empty_lists(alloc: Global, count: usize) -> Result<Vec<Vec<Coface>>, AllocErr
     ensures len { IfOk result (λ v. length v.items ≡ count) }
     ensures empty { IfOk result (λ v. (x : ℕ) → list_at v.items x ≡ []) }
 {
-    let mut all = Vec::new(alloc);
+    let mut all = Vec::with_capacity(alloc, count)?;
     for _ in 0..count {
         all.push(Vec::new(alloc))?;
     }

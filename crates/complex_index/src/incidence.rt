@@ -1,5 +1,4 @@
-ghost use Rattle.std.specs.Prelude.{◌≡◌, ◌<◌, ◌^◌, [], length, get_or, IfOk, OnOk};
-ghost use Rattle.std.specs.List.Sorted.{IsStrictlySortedBy};
+ghost use Rattle.std.specs.{Prelude.{◌≡◌, ◌<◌, ◌^◌, [], length, get_or, IfOk, OnOk}, List.Sorted.IsStrictlySortedBy};
 ghost use Rattle.linear_law.specs.Names.{Among, Each};
 ghost use Rattle.simplicial_law.specs.Names.{faces, simplex_cmp};
 ghost use Rattle.complex_index.specs.Names.{AddsPlaces, ArePlacesOf};
@@ -47,7 +46,7 @@ pub(crate) fn face_places(
     requires present { Each (λ s. Each (λ t. Among t lower.now) (faces s)) upper.now }
     ensures { IfOk result (λ l. ArePlacesOf lower.now upper.now l) }
 {
-    let mut places = Vec::new(alloc);
+    let mut places = Vec::with_capacity(alloc, upper.len().saturating_mul(size))?;
     for y in 0..upper.len() {
         put_places(&mut places, lower, upper.get(y))?;
     }

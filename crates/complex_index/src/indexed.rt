@@ -1,9 +1,6 @@
-ghost use Rattle.std.specs.Prelude.{◌≡◌, ℕ, ◌+◌, ◌-◌, ◌<◌, ◌≤◌, ◌^◌, [], length, map, get_or, IfOk, IsTrue, MatchOption};
-ghost use Rattle.std.specs.List.{AllZip};
-ghost use Rattle.std.specs.List.Sorted.{IsStrictlySortedBy};
+ghost use Rattle.std.specs.{Prelude.{◌≡◌, ℕ, ◌+◌, ◌-◌, ◌<◌, ◌≤◌, ◌^◌, [], length, map, get_or, IfOk, IsTrue, MatchOption}, List.AllZip, List.Sorted.IsStrictlySortedBy};
 ghost use Rattle.linear_law.specs.Names.{Among, Each, IsAscending};
-ghost use Rattle.simplicial_law.specs.Names.{simplex_cmp, IsCoboundaryRow};
-ghost use Rattle.simplicial_law.specs.ListedSimplices.{simplices};
+ghost use Rattle.simplicial_law.specs.{Names.{simplex_cmp, IsCoboundaryRow}, ListedSimplices.simplices};
 ghost use Rattle.fp_field.specs.Served.{served};
 ghost use Rattle.sparse_rows.specs.Rows.{IsBelow, value_in};
 ghost use Rattle.complex_index.specs.Names.{IsBoundaryOf, IsCoboundaryOf, ArePlaces, IsComplexIndex, IsIndexOf, level};
@@ -205,7 +202,7 @@ impl Indexed {
         ensures rows { IfOk result (λ v. AllZip (IsCoboundaryRow P (level self.now (n + 1))) (map value_in v.items) (level self.now n)) }
         ensures inside { IfOk result (λ v. Each (IsBelow (length (level self.now (n + 1)))) v.items) }
     {
-        let mut rows = Vec::new(alloc);
+        let mut rows = Vec::with_capacity(alloc, self.count(n) as usize)?;
         for place in 0..self.count(n) {
             rows.push(self.coboundary_row(alloc, n, &[(place, Fp::new(1))])?)?;
         }

@@ -1,5 +1,4 @@
-ghost use Rattle.std.specs.Prelude.{◌≡◌, ℕ, ◌+◌, ◌<◌, ◌^◌, length, IfOk};
-ghost use Rattle.std.specs.List.Sorted.{IsStrictlySortedBy};
+ghost use Rattle.std.specs.{Prelude.{◌≡◌, ℕ, ◌+◌, ◌<◌, ◌^◌, length, IfOk}, List.Sorted.IsStrictlySortedBy};
 ghost use Rattle.linear_law.specs.Names.{Among, Each};
 ghost use Rattle.simplicial_law.specs.Names.{faces, simplex_cmp};
 

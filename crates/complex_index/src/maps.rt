@@ -1,5 +1,4 @@
-ghost use Rattle.std.specs.Prelude.{◌≡◌, ℕ, ◌+◌, ◌*◌, ◌^◌, ◌<◌, [], length, get_or, map as list_map, IfOk, OnOk, IsTrue};
-ghost use Rattle.std.specs.List.Sorted.{IsStrictlySortedBy};
+ghost use Rattle.std.specs.{Prelude.{◌≡◌, ℕ, ◌+◌, ◌*◌, ◌^◌, ◌<◌, [], length, get_or, map as list_map, IfOk, OnOk, IsTrue}, List.Sorted.IsStrictlySortedBy};
 ghost use Rattle.linear_law.specs.Names.{Each, IsAscending, unit_vector};
 ghost use Rattle.simplicial_law.specs.Names.{cochain_of, simplex_cmp, terms_of};
 ghost use Rattle.steenrod_law.specs.Names.{pull_back};

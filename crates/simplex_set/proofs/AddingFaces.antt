@@ -1,18 +1,7 @@
 -- The simplices so far, and one more with its faces.
-use Rattle.std.proofs.Common.{◌≡◌, ℕ, zero, suc, ◌+◌, ◌<◌, ◌≤◌, ◌⊎◌, inl, inr, arith, ◌||◌, refl, sym, ◌∙◌, ap, subst, List, [], ◌∷◌, ◌++◌, length, take, drop, add-one, get_or, true}
-use Rattle.std.proofs.lemmas.Bool.{cases_eq}
-use Rattle.std.proofs.lemmas.List.{get_or-map, length-map}
-use Rattle.std.specs.Ordering.{is_eq}
-use Rattle.std.specs.Str.{bytes_eq}
-use Rattle.std.proofs.lemmas.Map.Text.{is_eq-slice_cmp}
-use Rattle.std.specs.Cmp.Lexicographic.{nat_list_cmp_total}
-use Rattle.std.specs.BTreeSet.{insert_key}
-use Rattle.std.specs.List.{fold, list_any}
-use Rattle.std.proofs.lemmas.List.Sums.{fold_more}
+use Rattle.std.{proofs.Common.{◌≡◌, ℕ, zero, suc, ◌+◌, ◌<◌, ◌≤◌, ◌⊎◌, inl, inr, arith, ◌||◌, refl, sym, ◌∙◌, ap, subst, List, [], ◌∷◌, ◌++◌, length, take, drop, add-one, get_or, true}, proofs.lemmas.Bool.cases_eq, proofs.lemmas.List.{get_or-map, length-map}, specs.Ordering.is_eq, specs.Str.bytes_eq, proofs.lemmas.Map.Text.is_eq-slice_cmp, specs.Cmp.Lexicographic.nat_list_cmp_total, specs.BTreeSet.insert_key, specs.List.{fold, list_any}, proofs.lemmas.List.Sums.fold_more}
 use Rattle.linear_law.specs.Names.{Among}
-use Rattle.simplicial_law.specs.Names.{faces, IsClosed, simplex_cmp, sublists}
-use Rattle.simplicial_law.specs.ListedSimplices.{simplices, with_facet}
-use Rattle.simplicial_law.proofs.Names.{among_inserted, insert_keeps, insert_puts, among_found, sorted_inserted, sorted_same, sublists_without, sublist_whole, sublist_whole_or_less, sublists_twice, without, exact, fold_keeps, fold_puts, of_fold, simplices_push, sorted_fold}
+use Rattle.simplicial_law.{specs.Names.{faces, IsClosed, simplex_cmp, sublists}, specs.ListedSimplices.{simplices, with_facet}, proofs.Names.{among_inserted, insert_keeps, insert_puts, among_found, sorted_inserted, sorted_same, sublists_without, sublist_whole, sublist_whole_or_less, sublists_twice, without, exact, fold_keeps, fold_puts, of_fold, simplices_push, sorted_fold}}
 
 -- ns has what ks has, and s with its faces
 pub record IsWith (ks : List (List ℕ)) (s : List ℕ) (ns : List (List ℕ)) : Type 0 where

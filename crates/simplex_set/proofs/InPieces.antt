@@ -1,14 +1,7 @@
 -- Lists of one length in one list, and searches among them.
-use Rattle.std.proofs.Common.{◌≡◌, ℕ, zero, suc, ◌+◌, ◌*◌, ◌-◌, ◌<◌, ◌≤◌, inl, inr, arith, refl, sym, ◌∙◌, ap, ap₂, subst, List, [], ◌∷◌, ◌++◌, length, take, take_all, drop, get_or, Ordering, Less, Equal, Greater, drop-drop, length-drop}
-use Rattle.std.proofs.lemmas.Bool.{cases_eq, cases_lt}
-use Rattle.std.proofs.lemmas.List.{drop-append-le, take-append-le}
-use Rattle.std.proofs.lemmas.Map.Keys.{Less-from_sorted}
-use Rattle.std.specs.Ordering.{nat_cmp, ordering_reverse, ordering_then}
-use Rattle.std.specs.Cmp.Lexicographic.{nat_list_cmp_total, slice_cmp}
-use Rattle.std.specs.List.Sorted.{IsStrictlySortedBy}
+use Rattle.std.{proofs.Common.{◌≡◌, ℕ, zero, suc, ◌+◌, ◌*◌, ◌-◌, ◌<◌, ◌≤◌, inl, inr, arith, refl, sym, ◌∙◌, ap, ap₂, subst, List, [], ◌∷◌, ◌++◌, length, take, take_all, drop, get_or, Ordering, Less, Equal, Greater, drop-drop, length-drop}, proofs.lemmas.Bool.{cases_eq, cases_lt}, proofs.lemmas.List.{drop-append-le, take-append-le}, proofs.lemmas.Map.Keys.Less-from_sorted, specs.Ordering.{nat_cmp, ordering_reverse, ordering_then}, specs.Cmp.Lexicographic.nat_list_cmp_total, specs.List.Sorted.IsStrictlySortedBy}
 use Rattle.linear_law.specs.Names.{Among}
-use Rattle.simplicial_law.specs.Names.{simplex_cmp}
-use Rattle.simplicial_law.proofs.Names.{place_of_among}
+use Rattle.simplicial_law.{specs.Names.simplex_cmp, proofs.Names.place_of_among}
 use Rattle.simplex_set.specs.Pieces.{pieces}
 
 pub length_pieces : (size count : ℕ) (xs : List ℕ) → length (pieces size count xs) ≡ count

@@ -1,27 +1,9 @@
 -- A set's keys in order.
-use Rattle.std.proofs.lemmas.Bool.{or_left, or_right}
-use Rattle.std.proofs.Common.{◌≡◌, ℕ, zero, suc, ◌+◌, ◌≤◌, inl, inr, arith, refl, sym, ◌∙◌, ap, subst, List, [], ◌∷◌, ◌++◌, length, get_or, Bool, true, false, cond, eqb, Ordering, Less, Equal, Greater, Result, Ok, Err}
-use Rattle.std.specs.Result.{IfOk}
-use Rattle.std.specs.declared.alloc.AllocError.{AllocError}
-use Rattle.std.specs.Ordering.{eq_by_cmp, is_eq, is_lt, ordering_reverse}
-use Rattle.std.specs.Cmp.{both_ways, eq_by_cmp_equiv}
-use Rattle.std.specs.Cmp.Lexicographic.{nat_list_cmp_total}
-use Rattle.std.specs.BTreeSet.{insert_key}
-use Rattle.std.specs.List.{AllByRecursion, IsDistinct, filter, list_any}
-use Rattle.std.specs.List.Sorted.{IsPermutation, IsSorted, IsStrictlySortedBy}
-use Rattle.std.proofs.lemmas.List.Elements.{All-filter, All-from_recursion, recursion_from_All}
-use Rattle.std.proofs.lemmas.List.Sums.{fold-append}
-use Rattle.std.proofs.lemmas.List.Kept.{IsStrictlySortedBy-filter}
-use Rattle.std.proofs.lemmas.List.Sorted.{All-permutation, IsPermutation-sym}
-use Rattle.std.proofs.lemmas.Map.Keys.{IsDistinct-IsPermutation, IsDistinct-from_sorted, apart_from_distinct, sorted_from_all_adjacent}
-use Rattle.std.proofs.lemmas.Map.Made.{length-from_same_keys}
+use Rattle.std.{proofs.lemmas.Bool.{or_left, or_right}, proofs.Common.{◌≡◌, ℕ, ◌+◌, ◌≤◌, inl, inr, arith, refl, sym, ◌∙◌, ap, subst, List, [], ◌∷◌, ◌++◌, length, map, get_or, ◌<◌, Bool, true, false, cond, eqb, Ordering, Less, Equal, Greater, Result, Ok, Err}, specs.Result.IfOk, specs.declared.alloc.AllocError.AllocError, specs.Ordering.{eq_by_cmp, is_eq, is_lt, ordering_reverse}, specs.Cmp.{both_ways, eq_by_cmp_equiv}, specs.Cmp.Lexicographic.nat_list_cmp_total, specs.BTreeSet.insert_key, specs.List.{AllByRecursion, IsDistinct, filter, list_any}, specs.List.Sorted.{IsPermutation, IsSorted, IsStrictlySortedBy}, proofs.lemmas.List.{get_or-map, length-map}, proofs.lemmas.List.Elements.{All-filter, All-from_recursion, recursion_from_All}, proofs.lemmas.List.Sums.fold-append, proofs.lemmas.List.Kept.IsStrictlySortedBy-filter, proofs.lemmas.List.Sorted.{All-permutation, IsPermutation-sym}, proofs.lemmas.Map.Keys.{IsDistinct-IsPermutation, IsDistinct-from_sorted, apart_from_distinct, sorted_from_all_adjacent}, proofs.lemmas.Map.Made.length-from_same_keys}
 use Rattle.indexmap.specs.IndexSet.{insert_key as insert_last}
-use Rattle.linear_law.specs.Names.{Among, Each}
-use Rattle.linear_law.proofs.Names.{each_among}
-use Rattle.simplicial_law.specs.Names.{simplex_cmp}
-use Rattle.simplicial_law.proofs.Names.{among_found, among_inserted, insert_keeps, sorted_inserted, sorted_same, each_of, exact, fold_puts, in_filter, length_of_test, of_filter, of_fold, sorted_fold}
-use Rattle.simplex_set.specs.InOrder.{in_order}
-use Rattle.simplex_set.specs.Levels.{IsLargest}
+use Rattle.linear_law.{specs.Names.{Among, Each}, proofs.Names.each_among}
+use Rattle.simplicial_law.{specs.Names.simplex_cmp, proofs.Names.{among_found, among_inserted, insert_keeps, sorted_inserted, sorted_same, each_of, exact, fold_puts, in_filter, length_of_test, of_filter, of_fold, sorted_fold}}
+use Rattle.simplex_set.specs.{InOrder.in_order, Levels.IsLargest}
 
 -- the test by which a set finds a simplex
 abbrev pub same : List ℕ → List ℕ → Bool
@@ -107,6 +89,14 @@ distinct_kept p (x ∷ xs) d = go (p x) x (filter p xs) (apart p x xs d.0) (dist
     go : (b : Bool) (x : List ℕ) (zs : List (List ℕ)) → AllByRecursion (λ y. same x y ≡ false) zs → IsDistinct same zs → IsDistinct same (cond b (x ∷ zs) zs)
     go true x zs a d = (a, d)
     go false x zs a d = d
+
+-- what is seen of a sorted list
+pub sorted_map : {X Y : Type 0} (f : X → Y) (cmp : Y → Y → Ordering) (xs : List X) → IsSorted (λ x y. cmp (f x) (f y)) xs → IsSorted cmp (map f xs)
+sorted_map f cmp [] s k d z l = absurd (omega arith)
+sorted_map {X} {Y} f cmp (x ∷ xs) s k d z l =
+    let h : k + 1 < length (x ∷ xs) = omega (arith, l, length-map (x ∷ xs) f) in
+    subst (λ (a : Y). is_lt (cmp a (get_or (map f (x ∷ xs)) k d)) ≡ false) (sym (get_or-map f (x ∷ xs) (k + 1) x d h))
+    (subst (λ (b : Y). is_lt (cmp (f (get_or (x ∷ xs) (k + 1) x)) b) ≡ false) (sym (get_or-map f (x ∷ xs) k x d (omega (arith, h)))) (s k x z h))
 
 -- the keys of one kind, sorted
 pub sorted_part : (p : List ℕ → Bool) (ks xs ys : List (List ℕ)) → IsDistinct same ks → xs ≡ filter p ks → IsPermutation xs ys → IsSorted simplex_cmp ys → ys ≡ filter p (in_order ks)

@@ -1,21 +1,9 @@
 -- The simplices of each size, and the greatest size.
-use Rattle.std.proofs.Common.{◌≡◌, ℕ, ◌+◌, zero, suc, ◌-◌, ◌*◌, ◌<◌, ◌≤◌, inl, inr, arith, refl, sym, ◌∙◌, ap, subst, List, [], ◌∷◌, ◌++◌, length, take, get_or, max, Bool, true, false, eqb, Option, None, Some, MatchOption, is_some, append-nil, length-append}
+use Rattle.std.{proofs.Common.{◌≡◌, ℕ, ◌+◌, ◌-◌, ◌*◌, ◌<◌, ◌≤◌, inl, inr, arith, refl, sym, ◌∙◌, ap, subst, List, [], ◌∷◌, ◌++◌, length, take, get_or, max, Bool, true, false, eqb, Option, None, Some, MatchOption, is_some, append-nil, length-append}, proofs.lemmas.Bool.{cases_eq, cases_lt}, proofs.lemmas.List.take_more, specs.Cmp.both_ways, specs.List.list_any, specs.Str.bytes_eq}
 use mathlib.Core.Bool.{true≢false}
-use Rattle.std.proofs.lemmas.Bool.{cases_eq, cases_lt}
-use Rattle.std.proofs.lemmas.List.{take_more}
-use Rattle.std.specs.Cmp.{both_ways}
-use Rattle.std.specs.List.{list_any}
-use Rattle.std.specs.Str.{bytes_eq}
-use Rattle.linear_law.specs.Names.{Among, Each}
-use Rattle.linear_law.proofs.Names.{among_left, among_right, each_among, each_append, each_get_or, each_itself, each_map, get_before, get_last, length_push as length_more}
-use Rattle.simplicial_law.specs.Names.{of_degree, simplex_cmp}
-use Rattle.simplicial_law.specs.ListedSimplices.{simplices}
-use Rattle.simplicial_law.proofs.Names.{among_found, exact, get_or_any, in_filter, of_all, of_filter, sublists_some, test_of_length}
-use Rattle.simplex_set.specs.Levels.{AreLevelsOf, IsLargest}
-use Rattle.simplex_set.specs.Pieces.{pieces}
-use Rattle.simplex_set.proofs.AddingFaces.{any_simplex}
-use Rattle.simplex_set.proofs.InPieces.{length_push, pieces_push}
-use Rattle.simplex_set.proofs.Ordered.{any_there, same}
+use Rattle.linear_law.{specs.Names.{Among, Each}, proofs.Names.{among_left, among_right, each_among, each_append, each_get_or, each_itself, each_map, get_before, get_last, length_push as length_more}}
+use Rattle.simplicial_law.{specs.Names.{of_degree, simplex_cmp}, specs.ListedSimplices.simplices, proofs.Names.{among_found, exact, get_or_any, in_filter, of_all, of_filter, sublists_some, test_of_length}}
+use Rattle.simplex_set.{specs.Levels.{AreLevelsOf, IsLargest}, specs.Pieces.pieces, proofs.AddingFaces.any_simplex, proofs.InPieces.{length_push, pieces_push}, proofs.Ordered.{any_there, same}}
 
 -- ---- the greatest
 

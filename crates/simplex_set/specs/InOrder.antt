@@ -1,6 +1,5 @@
 -- Lists of vertices in the order of simplices.
-use Rattle.std.specs.Prelude.{ℕ, List, [], fold}
-use Rattle.std.specs.BTreeSet.{insert_key}
+use Rattle.std.specs.{Prelude.{ℕ, List, [], fold}, BTreeSet.insert_key}
 use Rattle.simplicial_law.specs.Names.{simplex_cmp}
 
 -- the lists in order, each once

@@ -1,6 +1,5 @@
 ghost use Rattle.std.specs.Prelude.{◌≡◌, OnOk};
-ghost use Rattle.simplicial_law.specs.Names.{IsClosed};
-ghost use Rattle.simplicial_law.specs.ListedSimplices.{with_facet as with_facet_is};
+ghost use Rattle.simplicial_law.specs.{Names.IsClosed, ListedSimplices.{with_facet as with_facet_is}};
 ghost use Rattle.simplex_set.specs.InOrder.{in_order};
 
 use crate::Simplex;

@@ -1,6 +1,4 @@
-ghost use Rattle.std.specs.Prelude.{◌≡◌, IfOk};
-ghost use Rattle.std.specs.List.{list_any};
-ghost use Rattle.std.specs.Str.{bytes_eq};
+ghost use Rattle.std.specs.{Prelude.{◌≡◌, IfOk}, List.list_any, Str.bytes_eq};
 ghost use Rattle.simplicial_law.specs.ListedSimplices.{simplices};
 ghost use Rattle.simplex_set.specs.Levels.{AreLevelsOf};
 

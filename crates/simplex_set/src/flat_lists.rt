@@ -1,5 +1,4 @@
-ghost use Rattle.std.specs.Prelude.{◌≡◌, ◌<◌, ◌*◌, ◌++◌, [], length, get_or, IfOk, MatchOption};
-ghost use Rattle.std.specs.List.Sorted.{IsStrictlySortedBy};
+ghost use Rattle.std.specs.{Prelude.{◌≡◌, ◌<◌, ◌*◌, ◌++◌, [], length, map, get_or, IfOk, MatchOption}, List.Sorted.IsStrictlySortedBy};
 ghost use Rattle.linear_law.specs.Names.{Among, Each};
 ghost use Rattle.simplicial_law.specs.Names.{simplex_cmp};
 ghost use Rattle.simplex_set.specs.Pieces.{pieces};
@@ -55,11 +54,11 @@ impl FlatLists {
     }
 
     // A list of simplices with `size` vertices each.
-    pub(crate) fn of(alloc: Global, all: &[Simplex], size: usize) -> Result<FlatLists, AllocError>
-        requires { Each (λ s. length s ≡ size) all.now }
-        ensures { IfOk result (λ l. l ≡ all.now) }
+    pub(crate) fn of(alloc: Global, all: &[&Simplex], size: usize) -> Result<FlatLists, AllocError>
+        requires { Each (λ s. length s ≡ size) (map (λ s. s.now) all.now) }
+        ensures { IfOk result (λ l. l ≡ map (λ s. s.now) all.now) }
     {
-        let mut numbers = Vec::new(alloc);
+        let mut numbers = Vec::with_capacity(alloc, all.len().saturating_mul(size))?;
         for simplex in all {
             numbers.extend_from_slice(simplex.vertices())?;
         }

@@ -1,20 +1,18 @@
-ghost use Rattle.std.specs.Prelude.{◌≡◌, ℕ, ◌==◌, length, IfOk};
-ghost use Rattle.std.specs.List.{filter};
-ghost use Rattle.simplex_set.specs.InOrder.{in_order};
-ghost use Rattle.simplex_set.specs.Levels.{AreLevelsOf, IsLargest};
+ghost use Rattle.std.specs.{Prelude.{◌≡◌, ℕ, ◌==◌, length, map, IfOk}, List.filter};
+ghost use Rattle.simplex_set.specs.{InOrder.in_order, Levels.{AreLevelsOf, IsLargest}};
 
 use crate::{FlatLists, Simplex};
 use indexmap::IndexSet;
 use std::alloc::{AllocError, Global};
 
-// Copies of those with `size` vertices.
-fn copies_of_size(alloc: Global, all: &[Simplex], size: usize) -> Result<Vec<Simplex>, AllocError>
-    ensures { IfOk result (λ v. v.items ≡ filter (λ s. length s == size) all.now) }
+// Those with `size` vertices.
+fn of_size(alloc: Global, all: &[Simplex], size: usize) -> Result<Vec<&Simplex>, AllocError>
+    ensures { IfOk result (λ v. map (λ s. s.now) v.items ≡ filter (λ s. length s == size) all.now) }
 {
     let mut found = Vec::new(alloc);
     for simplex in all {
         if simplex.vertices().len() == size {
-            found.push(Simplex::new(alloc, simplex.vertices())?)?;
+            found.push(simplex)?;
         }
     }
     Ok(found)
@@ -28,7 +26,7 @@ fn sorted_of_size(
 ) -> Result<FlatLists, AllocError>
     ensures { IfOk result (λ l. l ≡ filter (λ s. length s == size) (in_order set.now.keys)) }
 {
-    let mut found = copies_of_size(alloc, set.as_slice(), size)?;
+    let mut found = of_size(alloc, set.as_slice(), size)?;
     found.sort_unstable();
     FlatLists::of(alloc, &found, size)
 }

@@ -1,7 +1,6 @@
-ghost use Rattle.std.specs.Prelude.{◌≡◌, ◌≤◌, ◌<◌, ◌++◌, ◌∷◌, [], length, MatchResult, IfOk};
-ghost use Rattle.std.specs.List.{filter};
+ghost use Rattle.std.specs.{Prelude.{◌≡◌, ◌≤◌, ◌<◌, ◌++◌, ◌∷◌, [], length, MatchResult, IfOk}, List.filter};
 ghost use Rattle.simplicial_law.specs.ListedSimplices.{simplices};
-ghost use Rattle.simplex_set.specs.declared.open.FacetRefused.TheVariants.{OutOfMemory};
+ghost use Rattle.simplex_set.specs.{declared.open.FacetRefused.TheVariants.OutOfMemory, Refused.Refuses};
 
 use crate::closed::add_facet;
 use crate::levels::levels_of;
@@ -53,8 +52,6 @@ impl<T: Drop> From<AllocFailed<T>> for FacetRefused {
         FacetRefused::OutOfMemory
     }
 }
-
-ghost use Rattle.simplex_set.specs.Refused.{Refuses};
 
 impl OpenComplex {
     /// The complex with no facet.

@@ -1,12 +1,6 @@
-ghost use Rattle.std.specs.Prelude.{◌≡◌, ◌<◌, [], length, get_or, IfOk};
-ghost use Rattle.simplicial_law.specs.Names.{faces};
-ghost use Rattle.std.proofs.Common.{ap, rules};
-ghost use Rattle.simplicial_law.proofs.Names.{exact};
-ghost use Rattle.std.specs.Cmp.{Equal-is, partial_order_from_own_ties};
-ghost use Rattle.std.specs.Cmp.Rules.{comparing};
-ghost use Rattle.std.specs.Cmp.Lexicographic.{slice_cmp};
+ghost use Rattle.std.{specs.Prelude.{◌≡◌, ◌<◌, [], length, get_or, IfOk}, proofs.Common.{ap, rules}, specs.Cmp.{Equal-is, partial_order_from_own_ties}, specs.Cmp.Rules.comparing, specs.Cmp.Lexicographic.slice_cmp, specs.Ordering.{nat_cmp, eq_by_cmp, as_partial_cmp}};
+ghost use Rattle.simplicial_law.{specs.Names.faces, proofs.Names.exact};
 ghost use Rattle.std.specs.Hash as fed;
-ghost use Rattle.std.specs.Ordering.{nat_cmp, eq_by_cmp, as_partial_cmp};
 
 use smallvec::SmallVec;
 use std::alloc::{AllocError, Global};

@@ -1,6 +1,5 @@
 use Rattle.std.proofs.Common.{◌≡◌, [], arith, subst, sym, List, Vec, Global}
-use Rattle.complex_index.specs.Names.{list_at, Coface}
-use Rattle.complex_index.proofs.FacePlaces.{rows_push}
+use Rattle.complex_index.{specs.Names.{list_at, Coface}, proofs.FacePlaces.rows_push}
 use Rattle.complex_index.proofs.cofaces.empty_lists.Goals as goal
 
 pub loop-preserved : goal.loop-preserved

@@ -1,6 +1,5 @@
 use Rattle.std.proofs.Common.{arith, List, ℕ, []}
-use Rattle.linear_law.specs.Names.{Among}
-use Rattle.linear_law.proofs.Names.{each_get_or}
+use Rattle.linear_law.{specs.Names.Among, proofs.Names.each_get_or}
 use Rattle.simplicial_law.specs.Names.{faces}
 use Rattle.simplex_set.proofs.AddingFaces.{length_faces}
 use Rattle.complex_index.proofs.FacePlaces.{adding_all, adding_more, adding_none}

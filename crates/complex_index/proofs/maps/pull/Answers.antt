@@ -1,8 +1,7 @@
 use Rattle.std.proofs.Common.{◌≡◌, ◌∙◌, [], ap, get_or, List, ℕ}
 use Rattle.simplicial_law.specs.Names.{cochain_of, terms_of}
 use Rattle.steenrod_law.specs.Names.{pull_back}
-use Rattle.complex_index.specs.Names.{level}
-use Rattle.complex_index.proofs.Pulling.{all_pulled, nothing_pulled, one_more_value}
+use Rattle.complex_index.{specs.Names.level, proofs.Pulling.{all_pulled, nothing_pulled, one_more_value}}
 use Rattle.complex_index.proofs.maps.pull.Goals as goal
 
 pub returns-in_default-clause-values : goal.returns-in_default-clause-values

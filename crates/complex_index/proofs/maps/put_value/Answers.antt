@@ -1,6 +1,5 @@
 use Rattle.std.proofs.Common.{ap, ◌∙◌, List, ℕ}
-use Rattle.sparse_rows.specs.Rows.{value_in}
-use Rattle.sparse_rows.proofs.MergeLemmas.{put_sum, stay_below}
+use Rattle.sparse_rows.{specs.Rows.value_in, proofs.MergeLemmas.{put_sum, stay_below}}
 use Rattle.complex_index.proofs.maps.put_value.Goals as goal
 
 pub returns-in_ok-push_last-clause-sum : goal.returns-in_ok-push_last-clause-sum

@@ -1,9 +1,6 @@
 use Rattle.std.proofs.Common.{◌≡◌, ◌∙◌, ◌<◌, ◌≤◌, length, arith, rules, sym, ap}
-use Rattle.simplex_set.specs.InOrder.{in_order}
-use Rattle.simplex_set.proofs.AddingFaces.{adding_empty, adding_found, adding_face, adding_all, length_face, partly_start}
-use Rattle.simplex_set.proofs.Ordered.{found_in_order, one_inserted}
+use Rattle.simplex_set.{specs.InOrder.in_order, proofs.AddingFaces.{adding_empty, adding_found, adding_face, adding_all, length_face, partly_start}, proofs.Ordered.{found_in_order, one_inserted}, proofs.closed.+add_closed.Goals.{then-is_empty-via-then-is_empty, then-is_empty-via-else-is_empty+then-contains}}
 use Rattle.simplex_set.proofs.closed.+add_closed.Goals as goal
-use Rattle.simplex_set.proofs.closed.+add_closed.Goals.{then-is_empty-via-then-is_empty, then-is_empty-via-else-is_empty+then-contains}
 
 pub returns-then-is_empty : goal.returns-then-is_empty
 returns-then-is_empty t c = elim c.then-is_empty.branch [

@@ -1,6 +1,5 @@
 use Rattle.std.proofs.Common.{length}
-use Rattle.simplex_set.specs.InOrder.{in_order}
-use Rattle.simplex_set.proofs.AddingFaces.{IsPartly}
+use Rattle.simplex_set.{specs.InOrder.in_order, proofs.AddingFaces.IsPartly}
 use Rattle.simplex_set.proofs.closed.+add_closed.Given as goal
 
 abbrev pub decreases-add_closed : goal.decreases-add_closed

@@ -1,8 +1,5 @@
 use Rattle.std.proofs.Common.{arith, subst, List, ℕ}
-use Rattle.simplex_set.specs.InOrder.{in_order}
-use Rattle.simplex_set.specs.Levels.{IsLargest}
-use Rattle.simplex_set.proofs.Ordered.{largest_in_order}
-use Rattle.simplex_set.proofs.Sizes.{all_first}
+use Rattle.simplex_set.{specs.InOrder.in_order, specs.Levels.IsLargest, proofs.Ordered.largest_in_order, proofs.Sizes.all_first}
 use Rattle.simplex_set.proofs.levels.levels_of.Goals as goal
 
 pub returns : goal.returns

@@ -1,5 +1,4 @@
-use Rattle.simplex_set.specs.InOrder.{in_order}
-use Rattle.simplex_set.proofs.Sizes.{AreFirst}
+use Rattle.simplex_set.{specs.InOrder.in_order, proofs.Sizes.AreFirst}
 use Rattle.simplex_set.proofs.levels.levels_of.Given as goal
 
 abbrev pub invariant-loop-degree : goal.invariant-loop-degree

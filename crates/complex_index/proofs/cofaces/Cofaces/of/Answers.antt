@@ -1,7 +1,5 @@
 use Rattle.std.proofs.Common.{◌∙◌, ap, arith, subst, List, length, take}
-use Rattle.complex_index.specs.Names.{Coface, lists_of}
-use Rattle.complex_index.proofs.Bounds.{AreParts, parts_more}
-use Rattle.complex_index.proofs.FacePlaces.{lists_more}
+use Rattle.complex_index.{specs.Names.{Coface, lists_of}, proofs.Bounds.{AreParts, parts_more}, proofs.FacePlaces.lists_more}
 use Rattle.complex_index.proofs.cofaces.Cofaces.of.Goals as goal
 
 pub loop-list-preserved : goal.loop-list-preserved

@@ -1,6 +1,5 @@
 use Rattle.std.proofs.Common.{take}
-use Rattle.complex_index.specs.Names.{lists_of}
-use Rattle.complex_index.proofs.Bounds.{AreParts}
+use Rattle.complex_index.{specs.Names.lists_of, proofs.Bounds.AreParts}
 use Rattle.complex_index.proofs.cofaces.Cofaces.of.Given as goal
 
 abbrev pub invariant-loop-list : goal.invariant-loop-list

@@ -1,9 +1,7 @@
 use Rattle.std.proofs.Common.{◌≡◌, ◌∙◌, ap, sym, subst, length, arith, List, ℕ}
 use Rattle.fp_field.proofs.ServedLemmas.{served_large}
 use Rattle.sparse_rows.specs.Rows.{IsBelow}
-use Rattle.complex_index.specs.Names.{IsBoundaryOf, shrunk, faces_at, level}
-use Rattle.complex_index.proofs.LevelLemmas.{faces_count, nothing_past, part_is}
-use Rattle.complex_index.proofs.RowLemmas.{boundary_at, boundary_of_none, if_made}
+use Rattle.complex_index.{specs.Names.{IsBoundaryOf, shrunk, faces_at, level}, proofs.LevelLemmas.{faces_count, nothing_past, part_is}, proofs.RowLemmas.{boundary_at, boundary_of_none, if_made}}
 use Rattle.complex_index.proofs.indexed.Indexed.boundary_row.Goals as goal
 
 pub returns-then-degree-len : goal.returns-then-degree-len

@@ -1,9 +1,7 @@
 use Rattle.std.proofs.Common.{◌≡◌, ◌∙◌, ◌+◌, ap, sym, subst, length, arith, List, ℕ}
 use Rattle.fp_field.proofs.ServedLemmas.{served_large}
 use Rattle.sparse_rows.specs.Rows.{IsBelow}
-use Rattle.complex_index.specs.Names.{IsCoboundaryOf, spread, cofaces_at, level}
-use Rattle.complex_index.proofs.LevelLemmas.{cofaces_count, part_is}
-use Rattle.complex_index.proofs.RowLemmas.{coboundary_at, if_made}
+use Rattle.complex_index.{specs.Names.{IsCoboundaryOf, spread, cofaces_at, level}, proofs.LevelLemmas.{cofaces_count, part_is}, proofs.RowLemmas.{coboundary_at, if_made}}
 use Rattle.complex_index.proofs.indexed.Indexed.coboundary_row.Goals as goal
 
 pub coboundary_pairs-requires : goal.coboundary_pairs-requires

@@ -1,7 +1,6 @@
 use Rattle.std.proofs.Common.{◌+◌, ◌<◌, arith, length}
 use Rattle.fp_field.proofs.ServedLemmas.{served_large}
-use Rattle.complex_index.specs.Names.{level}
-use Rattle.complex_index.proofs.RowLemmas.{rows_inside, rows_push}
+use Rattle.complex_index.{specs.Names.level, proofs.RowLemmas.{rows_inside, rows_push}}
 use Rattle.complex_index.proofs.indexed.Indexed.coboundary_rows.Goals as goal
 
 pub loop-place-preserved : goal.loop-place-preserved

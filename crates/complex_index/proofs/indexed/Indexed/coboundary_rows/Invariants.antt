@@ -1,5 +1,4 @@
-use Rattle.std.proofs.Common.{◌+◌, length, map, take}
-use Rattle.std.specs.List.{AllZip}
+use Rattle.std.{proofs.Common.{◌+◌, length, map, take}, specs.List.AllZip}
 use Rattle.linear_law.specs.Names.{Each}
 use Rattle.simplicial_law.specs.Names.{IsCoboundaryRow}
 use Rattle.sparse_rows.specs.Rows.{IsBelow, value_in}

@@ -1,7 +1,5 @@
 use Rattle.std.proofs.Common.{◌<◌, ◌-◌, ◌∙◌, ap, arith, get_or, length, subst, sym, [], ℕ, List}
-use Rattle.complex_index.specs.Names.{ArePlaces, faces_at, level, lists}
-use Rattle.complex_index.proofs.Alternating.{places_at}
-use Rattle.complex_index.proofs.LevelLemmas.{faces_count, fits_at, inside_is, part_is}
+use Rattle.complex_index.{specs.Names.{ArePlaces, faces_at, level, lists}, proofs.Alternating.places_at, proofs.LevelLemmas.{faces_count, fits_at, inside_is, part_is}}
 use Rattle.complex_index.proofs.indexed.Indexed.faces.Goals as goal
 
 pub get-requires : goal.get-requires

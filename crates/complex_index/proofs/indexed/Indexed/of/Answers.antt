@@ -1,6 +1,5 @@
 use Rattle.std.proofs.Common.{sym, subst}
-use Rattle.complex_index.specs.Names.{IsIndexOf}
-use Rattle.complex_index.proofs.LevelLemmas.{index_is, index_made, levels_are}
+use Rattle.complex_index.{specs.Names.IsIndexOf, proofs.LevelLemmas.{index_is, index_made, levels_are}}
 use Rattle.complex_index.proofs.indexed.Indexed.of.Goals as goal
 
 pub levels_of-requires : goal.levels_of-requires

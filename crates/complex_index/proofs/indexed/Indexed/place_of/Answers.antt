@@ -1,11 +1,8 @@
-use Rattle.std.proofs.Common.{◌-◌, ap, sym, subst, length, arith, List, ℕ}
-use Rattle.std.specs.List.Sorted.{IsStrictlySortedBy}
+use Rattle.std.{proofs.Common.{◌-◌, ap, sym, subst, length, arith, List, ℕ}, specs.List.Sorted.IsStrictlySortedBy}
 use Rattle.linear_law.specs.Names.{Among}
 use Rattle.simplicial_law.specs.Names.{simplex_cmp}
-use Rattle.complex_index.specs.Names.{level}
-use Rattle.complex_index.proofs.LevelLemmas.{nowhere_else, part_is, sized_at}
+use Rattle.complex_index.{specs.Names.level, proofs.LevelLemmas.{nowhere_else, part_is, sized_at}, proofs.indexed.Indexed.place_of.Goals.{then-size-eq0-via-then-size-eq0, then-size-eq0-via-else-size-eq0+then-size-len}}
 use Rattle.complex_index.proofs.indexed.Indexed.place_of.Goals as goal
-use Rattle.complex_index.proofs.indexed.Indexed.place_of.Goals.{then-size-eq0-via-then-size-eq0, then-size-eq0-via-else-size-eq0+then-size-len}
 
 pub returns-then-size-eq0 : goal.returns-then-size-eq0
 returns-then-size-eq0 c = λ n m.

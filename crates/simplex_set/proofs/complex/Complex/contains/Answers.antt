@@ -1,13 +1,7 @@
-use Rattle.std.proofs.Common.{◌≡◌, ◌∙◌, ◌-◌, ◌<◌, arith, ap, length, refl, sym, subst, List, ℕ}
-use Rattle.std.specs.List.{list_any}
-use Rattle.std.specs.List.Sorted.{IsStrictlySortedBy}
-use Rattle.std.specs.Str.{bytes_eq}
-use Rattle.simplicial_law.specs.Names.{of_degree, simplex_cmp}
-use Rattle.simplicial_law.specs.ListedSimplices.{simplices}
-use Rattle.simplicial_law.proofs.Names.{of_degree_sorted}
-use Rattle.simplex_set.proofs.Sizes.{beyond, level_here, looked_up}
+use Rattle.std.{proofs.Common.{◌∙◌, ◌-◌, arith, ap, length, refl, sym, subst, List, ℕ}, specs.List.list_any, specs.List.Sorted.IsStrictlySortedBy, specs.Str.bytes_eq}
+use Rattle.simplicial_law.{specs.Names.simplex_cmp, specs.ListedSimplices.simplices, proofs.Names.of_degree_sorted}
+use Rattle.simplex_set.proofs.{Sizes.{beyond, level_here, looked_up}, complex.Complex.contains.Goals.{then-size-eq0-via-then-size-eq0, then-size-eq0-via-else-size-eq0+then-size-len}}
 use Rattle.simplex_set.proofs.complex.Complex.contains.Goals as goal
-use Rattle.simplex_set.proofs.complex.Complex.contains.Goals.{then-size-eq0-via-then-size-eq0, then-size-eq0-via-else-size-eq0+then-size-len}
 
 pub returns-then-size-eq0 : goal.returns-then-size-eq0
 returns-then-size-eq0 c =

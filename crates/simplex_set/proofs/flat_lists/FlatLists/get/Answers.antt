@@ -1,4 +1,4 @@
-use Rattle.std.proofs.Common.{◌≡◌, ◌≤◌, ◌+◌, ◌*◌, arith, ap, length, rules}
+use Rattle.std.proofs.Common.{◌≤◌, ◌+◌, ◌*◌, arith, ap, length, rules}
 use Rattle.simplex_set.proofs.InPieces.{piece_is, within_view}
 use Rattle.simplex_set.proofs.flat_lists.FlatLists.get.Goals as goal
 

@@ -1,6 +1,5 @@
-use Rattle.std.proofs.Common.{◌≡◌, ◌∙◌, ◌<◌, ◌+◌, ◌-◌, ◌/◌, ◌++◌, [], arith, ap, get_or, length, sym, ℕ, List, Ordering, Less, Equal, Greater}
-use Rattle.simplicial_law.specs.Names.{simplex_cmp}
-use Rattle.simplicial_law.proofs.Names.{exact}
+use Rattle.std.proofs.Common.{◌∙◌, ◌+◌, ◌-◌, ◌/◌, ◌++◌, [], arith, ap, get_or, sym, ℕ, List}
+use Rattle.simplicial_law.{specs.Names.simplex_cmp, proofs.Names.exact}
 use Rattle.simplex_set.proofs.InPieces.{between_all, between_high, between_low, nowhere}
 use Rattle.simplex_set.proofs.flat_lists.FlatLists.place_of.Goals as goal
 

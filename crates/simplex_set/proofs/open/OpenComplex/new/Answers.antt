@@ -1,7 +1,6 @@
 use Rattle.std.proofs.Common.{◌∙◌, ap, sym}
 use Rattle.simplicial_law.specs.ListedSimplices.{simplices}
-use Rattle.simplex_set.specs.InOrder.{in_order}
-use Rattle.simplex_set.proofs.AddingFaces.{simplices_none}
+use Rattle.simplex_set.{specs.InOrder.in_order, proofs.AddingFaces.simplices_none}
 use Rattle.simplex_set.proofs.open.OpenComplex.new.Goals as goal
 
 pub invariant_of-result : goal.invariant_of-result

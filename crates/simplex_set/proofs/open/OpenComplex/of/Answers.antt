@@ -1,9 +1,6 @@
 use Rattle.std.proofs.Common.{◌≡◌, ◌∙◌, List, ℕ, length, get_or, ap, arith, subst, sym, take, take_all}
-use Rattle.simplicial_law.specs.Names.{IsClosed}
-use Rattle.simplicial_law.specs.ListedSimplices.{simplices}
-use Rattle.simplicial_law.proofs.Names.{simplices_closed}
-use Rattle.simplex_set.specs.InOrder.{in_order}
-use Rattle.simplex_set.proofs.AddingFaces.{simplices_none, next_more}
+use Rattle.simplicial_law.{specs.Names.IsClosed, specs.ListedSimplices.simplices, proofs.Names.simplices_closed}
+use Rattle.simplex_set.{specs.InOrder.in_order, proofs.AddingFaces.{simplices_none, next_more}}
 use Rattle.simplex_set.proofs.open.OpenComplex.of.Goals as goal
 
 pub loop-facet-init : goal.loop-facet-init

@@ -1,10 +1,6 @@
 use Rattle.std.proofs.Common.{◌∙◌, ◌++◌, ◌∷◌, [], ap, sym, subst, length, arith, List, ℕ}
-use Rattle.simplicial_law.specs.Names.{IsClosed}
-use Rattle.simplicial_law.specs.ListedSimplices.{simplices}
-use Rattle.simplicial_law.proofs.Names.{simplices_closed}
-use Rattle.simplex_set.specs.InOrder.{in_order}
-use Rattle.simplex_set.proofs.AddingFaces.{one_more}
-use Rattle.simplex_set.proofs.Ordered.{length_in_order}
+use Rattle.simplicial_law.{specs.Names.IsClosed, specs.ListedSimplices.simplices, proofs.Names.simplices_closed}
+use Rattle.simplex_set.{specs.InOrder.in_order, proofs.AddingFaces.one_more, proofs.Ordered.length_in_order}
 use Rattle.simplex_set.proofs.open.OpenComplex.with_facet.Goals as goal
 
 pub add_facet-requires : goal.add_facet-requires

@@ -1,5 +1,4 @@
-use Rattle.std.proofs.Common.{◌≡◌, ◌∙◌, ◌++◌, ◌+◌, ap, ap₂, take, drop}
-use Rattle.std.proofs.lemmas.List.{take_rest}
+use Rattle.std.proofs.{Common.{◌≡◌, ◌∙◌, ◌++◌, ◌+◌, ap, ap₂, take, drop}, lemmas.List.take_rest}
 use Rattle.simplex_set.proofs.AddingFaces.{face_made}
 use Rattle.simplex_set.proofs.simplex.Simplex.face.Goals as goal
 
