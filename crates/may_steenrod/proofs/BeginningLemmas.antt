@@ -1,10 +1,5 @@
 -- Lists that begin with a list stand together behind it, and the search for the first of them.
-use Rattle.std.proofs.Common.{◌≡◌, ℕ, ◌+◌, ◌<◌, ◌≤◌, inl, inr, arith, refl, sym, ◌∙◌, ap, subst, List, [], ◌∷◌, length, take, drop, get_or, Ordering, Less, Equal, Greater}
-use Rattle.std.proofs.lemmas.Bool.{cases_eq}
-use Rattle.std.proofs.lemmas.Map.Lookups.{exact_unsigned}
-use Rattle.std.specs.Cmp.{nat_cmp_is}
-use Rattle.std.specs.Cmp.Lexicographic.{nat_list_cmp_total}
-use Rattle.std.specs.Ordering.{nat_cmp, ordering_then}
+use Rattle.std.{proofs.Common.{◌≡◌, ℕ, ◌+◌, ◌<◌, ◌≤◌, inl, inr, arith, refl, sym, ◌∙◌, ap, subst, List, [], ◌∷◌, length, take, drop, get_or, Ordering, Less, Equal, Greater}, proofs.lemmas.Bool.cases_eq, proofs.lemmas.Map.Lookups.exact_unsigned, specs.Cmp.nat_cmp_is, specs.Cmp.Lexicographic.nat_list_cmp_total, specs.Ordering.{nat_cmp, ordering_then}}
 use Rattle.simplicial_law.specs.Names.{simplex_cmp, IsInOrder}
 use Rattle.may_steenrod.specs.Fronts.{IsFirstFrom}
 

@@ -1,20 +1,13 @@
 -- The terms of a surjection, from its live cuts.
-use Rattle.std.proofs.Common.{◌≡◌, ℕ, zero, suc, ◌-◌, ◌*◌, ◌%◌, ◌<◌, ◌≤◌, List, [], ◌∷◌, map, length, arith, refl, sym, ap, subst, ◌∙◌, lit≤, ℤ, pos, ◌+ℤ◌, ◌*ℤ◌, IsSome, IsTrue, pred}
-use Rattle.fp_field.specs.Served.{served}
-use Rattle.fp_field.proofs.ServedLemmas.{for_served}
-use Rattle.std.proofs.lemmas.Int.{ints}
-use Rattle.signed_sum.specs.Names.{numbers_from, signed, total}
-use Rattle.signed_sum.proofs.Names.{mul-add, mul_comm, signed-mul, fun_ext}
-use Rattle.simplicial_law.specs.Names.{CongruentInt}
-use Rattle.simplicial_law.proofs.Names.{CongruentInt-scale, CongruentInt-sum, CongruentInt-times, CongruentInt_of, CongruentInt_refl, CongruentInt_trans}
+use Rattle.std.proofs.{Common.{◌≡◌, ℕ, zero, suc, ◌-◌, ◌*◌, ◌%◌, ◌<◌, ◌≤◌, List, [], ◌∷◌, map, length, arith, refl, sym, ap, subst, ◌∙◌, lit≤, ℤ, pos, ◌+ℤ◌, ◌*ℤ◌, IsSome, IsTrue, pred}, lemmas.Int.ints}
+use Rattle.fp_field.{specs.Served.served, proofs.ServedLemmas.for_served}
+use Rattle.signed_sum.{specs.Names.{numbers_from, signed, total}, proofs.Names.{mul-add, mul_comm, signed-mul, fun_ext}}
+use Rattle.simplicial_law.{specs.Names.CongruentInt, proofs.Names.{CongruentInt-scale, CongruentInt-sum, CongruentInt-times, CongruentInt_of, CongruentInt_refl, CongruentInt_trans}}
 use Rattle.surjection_law.specs.Names.{arity}
 use Rattle.interval_cut_law.specs.Names.{cut_faces, cuts, sign_exponent, vertex_at, operation_value, value_product}
-use Rattle.interval_cut.specs.Names.{LiveWalk, live_start, live_top, by_mask, signed_product, cut_of, next_walk, IsOfDegree}
-use Rattle.interval_cut.proofs.EvaluationLemmas.{ended, took}
-use Rattle.interval_cut.proofs.LiveValueLemmas.{live_part-start}
+use Rattle.interval_cut.{specs.Names.{LiveWalk, live_start, live_top, by_mask, signed_product, cut_of, next_walk, IsOfDegree}, proofs.EvaluationLemmas.{ended, took}, proofs.LiveValueLemmas.live_part-start}
 use Rattle.steenrod_law.specs.Names.{copies}
-use Rattle.may_steenrod.specs.FaceSums.{face_product, face_sum}
-use Rattle.may_steenrod.specs.Elements.{AddsTo}
+use Rattle.may_steenrod.specs.{FaceSums.{face_product, face_sum}, Elements.AddsTo}
 
 -- ---- products
 

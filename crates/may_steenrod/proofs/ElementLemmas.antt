@@ -1,27 +1,15 @@
 -- The terms of a sum of surjections, one surjection after the other.
-use Rattle.std.proofs.Common.{◌≡◌, ℕ, suc, ◌+◌, ◌-◌, ◌*◌, ◌/◌, ◌%◌, ◌<◌, ◌≤◌, ◌==◌, Bool, true, false, cond, List, [], ◌∷◌, ◌++◌, length, take, get_or, take_all, arith, refl, sym, ap, ap₂, subst, ◌∙◌, ℤ, pos, negsuc, ◌+ℤ◌, ◌*ℤ◌, ◌&&◌, Result, Ok, Err, eqb-true, eq-eqb}
-use Rattle.std.specs.Result.{OnOk}
-use Rattle.std.specs.Int.{int_rem_euclid}
-use Rattle.std.proofs.lemmas.Bool.{false≢true}
-use Rattle.std.proofs.lemmas.Int.{ints}
-use Rattle.std.proofs.lemmas.List.{take_more}
-use Rattle.signed_sum.specs.Names.{value_at}
-use Rattle.signed_sum.proofs.Names.{value_at-append}
-use Rattle.simplicial_law.specs.Names.{CongruentInt}
-use Rattle.simplicial_law.proofs.Names.{CongruentInt-sum, CongruentInt-times, CongruentInt_of, CongruentInt_refl, CongruentInt_trans}
-use Rattle.surjection_law.specs.Names.{caesura_count, IsOnto, IsSurjection, arity, surjection_degree}
-use Rattle.surjection_law.proofs.Caesuras.{caesura_law}
+use Rattle.std.{proofs.Common.{◌≡◌, ℕ, suc, ◌+◌, ◌-◌, ◌*◌, ◌/◌, ◌%◌, ◌<◌, ◌≤◌, ◌==◌, Bool, true, false, cond, List, [], ◌∷◌, ◌++◌, length, take, get_or, take_all, arith, refl, sym, ap, ap₂, subst, ◌∙◌, ℤ, pos, negsuc, ◌+ℤ◌, ◌*ℤ◌, ◌&&◌, Result, Ok, Err, eqb-true, eq-eqb}, specs.Result.OnOk, specs.Int.int_rem_euclid, proofs.lemmas.Bool.false≢true, proofs.lemmas.Int.ints, proofs.lemmas.List.take_more}
+use Rattle.signed_sum.{specs.Names.value_at, proofs.Names.value_at-append}
+use Rattle.simplicial_law.{specs.Names.CongruentInt, proofs.Names.{CongruentInt-sum, CongruentInt-times, CongruentInt_of, CongruentInt_refl, CongruentInt_trans}}
+use Rattle.surjection_law.{specs.Names.{caesura_count, IsOnto, IsSurjection, arity, surjection_degree}, proofs.Caesuras.caesura_law}
 use Rattle.surjection.specs.Names.{among, arity-is}
 use Rattle.interval_cut_law.specs.Names.{operation_value}
 use Rattle.operad_law.specs.FormalSums.{IsSameSum}
 use Rattle.table_reduction_law.specs.Names.{may_element}
-use Rattle.steenrod_law.specs.Names.{sum_value, copies}
-use Rattle.steenrod_law.proofs.Forms.{AreTerms}
-use Rattle.steenrod_law.proofs.MayFamily.{may_family}
-use Rattle.interval_cut.specs.Names.{IsOfDegree}
-use Rattle.interval_cut.proofs.ProductLemmas.{remainder}
-use Rattle.may_steenrod.specs.FaceSums.{face_sum}
-use Rattle.may_steenrod.specs.Elements.{AddsTo, tested_value}
+use Rattle.steenrod_law.{specs.Names.{sum_value, copies}, proofs.Forms.AreTerms, proofs.MayFamily.may_family}
+use Rattle.interval_cut.{specs.Names.IsOfDegree, proofs.ProductLemmas.remainder}
+use Rattle.may_steenrod.specs.{FaceSums.face_sum, Elements.{AddsTo, tested_value}}
 
 -- ---- the test of arity and degree
 

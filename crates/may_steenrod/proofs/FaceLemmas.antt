@@ -1,18 +1,11 @@
 -- Faces and terms by number.
-use Rattle.std.proofs.Common.{◌≡◌, ℕ, zero, suc, ◌+◌, ◌<◌, List, [], ◌∷◌, ◌++◌, map, length, take, get_or, slice_set, arith, refl, sym, ap, ap₂, subst, ◌∙◌, Vec, Global, add-one, ℤ, pos, ◌+ℤ◌, ◌*ℤ◌, length-append}
-use Rattle.std.proofs.lemmas.Int.{ints}
-use Rattle.std.proofs.lemmas.List.{map-append}
-use Rattle.std.proofs.Math.Seq.{take-suc-set}
-use Rattle.linear_law.specs.Names.{Each}
-use Rattle.linear_law.proofs.Names.{each_map, each_push}
-use Rattle.signed_sum.specs.Names.{numbers_from}
-use Rattle.signed_sum.proofs.Names.{total-append}
-use Rattle.simplicial_law.specs.Names.{CongruentInt}
-use Rattle.simplicial_law.proofs.Names.{CongruentInt_of}
+use Rattle.std.proofs.{Common.{◌≡◌, ℕ, zero, suc, ◌+◌, ◌<◌, List, [], ◌∷◌, ◌++◌, map, length, take, get_or, slice_set, arith, refl, sym, ap, ap₂, subst, ◌∙◌, Vec, Global, add-one, ℤ, pos, ◌+ℤ◌, ◌*ℤ◌, length-append}, lemmas.Int.ints, lemmas.List.map-append, Math.Seq.take-suc-set}
+use Rattle.linear_law.{specs.Names.Each, proofs.Names.{each_map, each_push}}
+use Rattle.signed_sum.{specs.Names.numbers_from, proofs.Names.total-append}
+use Rattle.simplicial_law.{specs.Names.CongruentInt, proofs.Names.CongruentInt_of}
 use Rattle.interval_cut_law.specs.Names.{cut_face, cut_faces}
 use Rattle.complex_index.specs.Names.{list_at}
-use Rattle.may_steenrod.specs.declared.face_sum.Term.{Term}
-use Rattle.may_steenrod.specs.FaceSums.{AreNumbered, Extends, face_product, face_sum, faces_of, terms_in}
+use Rattle.may_steenrod.specs.{declared.face_sum.Term.Term, FaceSums.{AreNumbered, Extends, face_product, face_sum, faces_of, terms_in}}
 
 pub Extends_refl : (fs : List (Vec ℕ Global)) → Extends fs fs
 Extends_refl fs = record { longer = omega arith; same = λ k h. refl }

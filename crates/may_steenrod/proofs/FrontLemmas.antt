@@ -1,14 +1,9 @@
 -- Products with the values on front faces, one front face after the other.
-use Rattle.std.proofs.Common.{◌≡◌, ◌≢◌, ℕ, suc, ◌+◌, ◌-◌, ◌*◌, ◌%◌, ◌<◌, ◌≤◌, inl, inr, List, [], ◌∷◌, length, take, drop, get_or, arith, refl, sym, ap, subst, ◌∙◌, Less}
-use Rattle.std.proofs.lemmas.Bool.{cases_eq, cases_lt}
-use Rattle.linear_law.specs.Names.{Congruent, sum_over, unit_vector}
-use Rattle.linear_law.proofs.Names.{Congruent_add, Congruent_mod, Congruent_of, Congruent_scale, Congruent_trans, unit_one, unit_other}
-use Rattle.simplicial_law.specs.Names.{cochain_of, Cochain, unit_cochain, terms_of, simplex_cmp, IsInOrder}
-use Rattle.simplicial_law.proofs.Names.{unit_away, unit_here}
-use Rattle.sparse_rows.specs.Rows.{IsBelow, value_in}
-use Rattle.sparse_rows.proofs.RowLemmas.{sum_take}
-use Rattle.may_steenrod.specs.Fronts.{AddsFront, AddsFronts, IsFirstFrom, front_product}
-use Rattle.may_steenrod.proofs.BeginningLemmas.{begins, none_before}
+use Rattle.std.proofs.{Common.{◌≡◌, ◌≢◌, ℕ, suc, ◌+◌, ◌-◌, ◌*◌, ◌%◌, ◌<◌, ◌≤◌, inl, inr, List, [], ◌∷◌, length, take, drop, get_or, arith, refl, sym, ap, subst, ◌∙◌, Less}, lemmas.Bool.{cases_eq, cases_lt}}
+use Rattle.linear_law.{specs.Names.{Congruent, sum_over, unit_vector}, proofs.Names.{Congruent_add, Congruent_mod, Congruent_of, Congruent_scale, Congruent_trans, unit_one, unit_other}}
+use Rattle.simplicial_law.{specs.Names.{cochain_of, Cochain, unit_cochain, terms_of, simplex_cmp, IsInOrder}, proofs.Names.{unit_away, unit_here}}
+use Rattle.sparse_rows.{specs.Rows.{IsBelow, value_in}, proofs.RowLemmas.sum_take}
+use Rattle.may_steenrod.{specs.Fronts.{AddsFront, AddsFronts, IsFirstFrom, front_product}, proofs.BeginningLemmas.{begins, none_before}}
 
 -- ---- one front face
 

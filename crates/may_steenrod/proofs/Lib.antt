@@ -5,8 +5,9 @@ pub mod ElementLemmas
 pub mod ValueLemmas
 pub mod PlaceLemmas
 pub mod CupLemmas
+mod BackLemmas
 mod BeginningLemmas
 pub mod FrontLemmas
 pub mod OperationLemmas
 pub mod PowerLemmas
-mod SquareLemmas
+pub mod SquareLemmas

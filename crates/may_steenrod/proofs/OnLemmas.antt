@@ -1,16 +1,11 @@
 -- A cochain of degree n by its row: it is 0 on lists that are no simplices of degree n of the complex.
-use Rattle.std.proofs.Common.{◌≡◌, ◌≢◌, ◌⊎◌, inl, inr, ℕ, zero, suc, ◌+◌, ◌*◌, ◌%◌, ◌<◌, ◌≤◌, List, [], ◌∷◌, length, get_or, cond, arith, refl, sym, ap, ap₂, subst, ◌∙◌, IsTrue}
-use Rattle.std.proofs.lemmas.Bool.{cases_Bool, cases_eq, cases_lt}
-use Rattle.fp_field.proofs.ServedLemmas.{served_large}
+use Rattle.std.proofs.{Common.{◌≡◌, ◌≢◌, ◌⊎◌, inl, inr, ℕ, zero, suc, ◌+◌, ◌*◌, ◌%◌, ◌<◌, ◌≤◌, List, [], ◌∷◌, length, get_or, cond, arith, refl, sym, ap, ap₂, subst, ◌∙◌, IsTrue}, lemmas.Bool.{cases_Bool, cases_eq, cases_lt}}
+use Rattle.fp_field.{proofs.ServedLemmas.served_large, specs.Served.served}
 use native.Mathlib.Nat.{zero-mod}
-use Rattle.fp_field.specs.Served.{served}
-use Rattle.linear_law.specs.Names.{Among, ListsAll, unit_vector}
-use Rattle.linear_law.proofs.Names.{each_get_or, each_itself, unit_one, unit_other}
+use Rattle.linear_law.{specs.Names.{Among, ListsAll, unit_vector}, proofs.Names.{each_get_or, each_itself, unit_one, unit_other}}
 use Rattle.signed_sum.proofs.Names.{is_same_list-true}
-use Rattle.simplicial_law.specs.Names.{IsSimplex, is_same_list, unit_cochain, cochain_of, terms_of}
-use Rattle.simplicial_law.proofs.Names.{simplex_at, unit_away, unit_here}
-use Rattle.sparse_rows.specs.Rows.{IsBelow, IsRow, value_in}
-use Rattle.sparse_rows.proofs.RowLemmas.{value_in-small}
+use Rattle.simplicial_law.{specs.Names.{IsSimplex, is_same_list, unit_cochain, cochain_of, terms_of}, proofs.Names.{simplex_at, unit_away, unit_here}}
+use Rattle.sparse_rows.{specs.Rows.{IsBelow, IsRow, value_in}, proofs.RowLemmas.value_in-small}
 use Rattle.complex_index.specs.Names.{IsComplexIndex, level}
 use Rattle.may_steenrod.specs.Cochains.{IsOn, cochain_in}
 

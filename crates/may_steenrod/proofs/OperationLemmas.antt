@@ -1,26 +1,15 @@
 -- Operations and products on cochains of a complex.
 use Rattle.std.proofs.Common.{◌≡◌, ℕ, suc, ◌+◌, ◌*◌, ◌%◌, ◌<◌, List, [], ◌∷◌, length, take, drop, get_or, arith, ap, ap₂, subst, ℤ, pos, ◌*ℤ◌, IsTrue}
-use Rattle.fp_field.specs.Served.{served}
-use Rattle.fp_field.proofs.ServedLemmas.{served_field, served_large}
-use Rattle.linear_law.specs.Names.{Congruent}
-use Rattle.linear_law.proofs.Names.{Congruent_mod, Congruent_mul, Congruent_of, Congruent_refl, Congruent_trans}
-use Rattle.simplicial_law.specs.Names.{CongruentInt, Cochain}
-use Rattle.simplicial_law.proofs.Names.{cocycles, residues, CongruentInt-scale, CongruentInt_of, CongruentInt_sym, CongruentInt_trans}
-use Rattle.complex_index.specs.declared.indexed.Cochain.{Cochain as ComplexCochain}
+use Rattle.fp_field.{specs.Served.served, proofs.ServedLemmas.{served_field, served_large}}
+use Rattle.linear_law.{specs.Names.Congruent, proofs.Names.{Congruent_mod, Congruent_mul, Congruent_of, Congruent_refl, Congruent_trans}}
+use Rattle.simplicial_law.{specs.Names.{CongruentInt, Cochain}, proofs.Names.{cocycles, residues, CongruentInt-scale, CongruentInt_of, CongruentInt_sym, CongruentInt_trans}}
+use Rattle.complex_index.specs.{declared.indexed.Cochain.{Cochain as ComplexCochain}, Names.{IsIndexOf, level}}
 use Rattle.sparse_rows.specs.Rows.{IsBelow, value_in}
-use Rattle.complex_index.specs.Names.{IsIndexOf, level}
 use Rattle.table_reduction_law.specs.Names.{may_element}
 use Rattle.interval_cut_law.specs.Names.{operation_value}
 use Rattle.interval_cut.specs.Names.{IsOfDegree}
-use Rattle.steenrod_law.specs.Names.{cup_product, extended, may_operation, scaled_operation, sum_value, copies}
-use Rattle.steenrod_law.proofs.Complexes.{residue_cochain-same}
-use Rattle.steenrod_law.proofs.LawProofs.{closed_law, product_law}
-use Rattle.may_steenrod.specs.Cochains.{HasValues, IsClosed, IsOn, IsRowOfFirst, cochain_in}
-use Rattle.may_steenrod.specs.FaceSums.{face_sum}
-use Rattle.may_steenrod.specs.Fronts.{AddsFronts}
-use Rattle.may_steenrod.proofs.CupLemmas.{at-faces}
-use Rattle.may_steenrod.proofs.FrontLemmas.{fronts-value}
-use Rattle.may_steenrod.proofs.PlaceLemmas.{extended-row, has_values, has_values_by_place, residue-value, row-degree, simplex-size}
+use Rattle.steenrod_law.{specs.Names.{cup_product, extended, may_operation, scaled_operation, sum_value, copies}, proofs.Complexes.residue_cochain-same, proofs.LawProofs.{closed_law, product_law}}
+use Rattle.may_steenrod.{specs.Cochains.{HasValues, IsClosed, IsOn, IsRowOfFirst, cochain_in}, specs.FaceSums.face_sum, specs.Fronts.AddsFronts, proofs.CupLemmas.at-faces, proofs.FrontLemmas.fronts-value, proofs.PlaceLemmas.{extended-row, has_values, has_values_by_place, residue-value, row-degree, simplex-size}}
 
 -- ---- operations
 

@@ -1,21 +1,13 @@
 -- Cochains from their values at the simplices of a degree.
-use Rattle.std.proofs.Common.{◌≡◌, ℕ, suc, ◌+◌, ◌*◌, ◌%◌, ◌<◌, ◌≤◌, Bool, true, false, cond, ◌==◌, not, List, [], ◌∷◌, ◌++◌, length, get_or, arith, refl, sym, ap, subst, ◌∙◌, inl, inr, eq-eqb, below_more, ℤ, pos, ◌*ℤ◌, ◌&&◌}
-use Rattle.std.proofs.lemmas.Bool.{and_cases, cases_Bool, false≢true}
-use Rattle.linear_law.specs.Names.{Congruent, unit_vector}
-use Rattle.linear_law.proofs.Names.{Congruent_of, Congruent_trans, get_before, get_last, length_push, unit_one, unit_other}
-use Rattle.interval_cut.proofs.ProductLemmas.{remainder}
-use Rattle.signed_sum.proofs.Names.{mul_comm, fun_ext}
-use Rattle.signed_sum.specs.Names.{is_degenerate}
-use Rattle.simplicial_law.specs.Names.{CongruentInt, Cochain}
-use Rattle.simplicial_law.proofs.Names.{residues, CongruentInt-scale, CongruentInt_of, CongruentInt_sym, CongruentInt_trans, agree_by_place, simplex_at}
-use Rattle.sparse_rows.specs.Rows.{IsBelow, value_in}
-use Rattle.sparse_rows.proofs.MergeLemmas.{put_below, put_sum, stay_below}
+use Rattle.std.proofs.{Common.{◌≡◌, ℕ, suc, ◌+◌, ◌*◌, ◌%◌, ◌<◌, ◌≤◌, Bool, true, false, cond, ◌==◌, not, List, [], ◌∷◌, ◌++◌, length, get_or, arith, refl, sym, ap, subst, ◌∙◌, inl, inr, eq-eqb, below_more, ℤ, pos, ◌*ℤ◌, ◌&&◌}, lemmas.Bool.{and_cases, cases_Bool, false≢true}}
+use Rattle.linear_law.{specs.Names.{Congruent, unit_vector}, proofs.Names.{Congruent_of, Congruent_trans, get_before, get_last, length_push, unit_one, unit_other}}
+use Rattle.interval_cut.{proofs.ProductLemmas.remainder, specs.Names.IsOfDegree}
+use Rattle.signed_sum.{proofs.Names.{mul_comm, fun_ext}, specs.Names.is_degenerate}
+use Rattle.simplicial_law.{specs.Names.{CongruentInt, Cochain}, proofs.Names.{residues, CongruentInt-scale, CongruentInt_of, CongruentInt_sym, CongruentInt_trans, agree_by_place, simplex_at}}
+use Rattle.sparse_rows.{specs.Rows.{IsBelow, value_in}, proofs.MergeLemmas.{put_below, put_sum, stay_below}}
 use Rattle.complex_index.specs.Names.{IsIndexOf, level}
-use Rattle.interval_cut.specs.Names.{IsOfDegree}
-use Rattle.steenrod_law.specs.Names.{extended, residue_cochain}
-use Rattle.steenrod_law.proofs.Complexes.{ascending-plain, residue_cochain-same}
-use Rattle.may_steenrod.specs.Cochains.{HasValues, IsOn, IsRowOfFirst, cochain_in}
-use Rattle.may_steenrod.proofs.OnLemmas.{value_by_place}
+use Rattle.steenrod_law.{specs.Names.{extended, residue_cochain}, proofs.Complexes.{ascending-plain, residue_cochain-same}}
+use Rattle.may_steenrod.{specs.Cochains.{HasValues, IsOn, IsRowOfFirst, cochain_in}, proofs.OnLemmas.value_by_place}
 
 -- ---- the row of a list of values
 

@@ -1,17 +1,10 @@
 -- Squares, powers and Bockstein powers from multiples of May operations.
-use Rattle.std.proofs.Common.{◌≡◌, ℕ, ◌+◌, ◌-◌, ◌*◌, ◌%◌, ◌<◌, ◌≤◌, List, arith, subst, Result, Ok, Err, IsTrue}
-use Rattle.linear_law.specs.Names.{negated}
-use Rattle.linear_law.proofs.Names.{Congruent_mod, Congruent_of, Congruent_trans}
-use Rattle.fp_field.specs.Element.{IsScale}
-use Rattle.complex_index.specs.Names.{IsIndexOf}
-use Rattle.steenrod_law.specs.Names.{IsBocksteinPower, IsPower, power_degree, scaled_operation}
-use Rattle.steenrod_law.proofs.LawProofs.{bockstein-degrees, power-degrees}
-use Rattle.may_steenrod.specs.Cochains.{HasValues, IsClosed, cochain_in}
-use Rattle.may_steenrod.proofs.OperationLemmas.{operation-closed, rescaled}
-use Rattle.std.specs.Result.{IfOk}
-use Rattle.std.specs.declared.alloc.AllocError.{AllocError}
-use Rattle.complex_index.specs.declared.indexed.Cochain.{Cochain as ComplexCochain}
-use Rattle.fp_field.specs.Served.{served}
+use Rattle.std.{proofs.Common.{◌≡◌, ℕ, ◌+◌, ◌-◌, ◌*◌, ◌%◌, ◌<◌, ◌≤◌, List, arith, subst, Result, Ok, Err, IsTrue}, specs.Result.IfOk, specs.declared.alloc.AllocError.AllocError}
+use Rattle.linear_law.{specs.Names.negated, proofs.Names.{Congruent_mod, Congruent_of, Congruent_trans}}
+use Rattle.fp_field.specs.{Element.IsScale, Served.served}
+use Rattle.complex_index.specs.{Names.IsIndexOf, declared.indexed.Cochain.{Cochain as ComplexCochain}}
+use Rattle.steenrod_law.{specs.Names.{IsBocksteinPower, IsPower, power_degree, scaled_operation}, proofs.LawProofs.{bockstein-degrees, power-degrees}}
+use Rattle.may_steenrod.{specs.Cochains.{HasValues, IsClosed, cochain_in}, proofs.OperationLemmas.{operation-closed, rescaled}}
 
 -- the degrees
 pub power-target : (p s q : ℕ) → 1 ≤ p → 2 * s ≤ q → p * q - power_degree p s q ≡ q + 2 * s * (p - 1)

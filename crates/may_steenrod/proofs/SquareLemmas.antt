@@ -1,29 +1,16 @@
 -- Squares from the values of the closed formula.
-use Rattle.std.proofs.Common.{◌≡◌, ℕ, zero, suc, ◌+◌, ◌-◌, ◌<◌, ◌≤◌, List, [], ◌∷◌, length, get_or, arith, refl, sym, ap, subst, ◌∙◌, ℤ, pos, ◌*ℤ◌, IsTrue}
-use Rattle.std.proofs.lemmas.Int.{ints}
-use Rattle.fp_field.specs.Served.{served}
-use Rattle.fp_field.proofs.ServedLemmas.{served_large}
-use Rattle.linear_law.proofs.Names.{Congruent_of, Congruent_trans}
-use Rattle.simplicial_law.specs.Names.{CongruentInt, Cochain}
-use Rattle.simplicial_law.proofs.Names.{CongruentInt_of, CongruentInt_trans}
+use Rattle.std.proofs.{Common.{◌≡◌, ℕ, zero, suc, ◌+◌, ◌-◌, ◌*◌, ◌<◌, ◌≤◌, List, [], ◌∷◌, length, get_or, arith, refl, sym, ap, subst, ◌∙◌, ℤ, pos, ◌*ℤ◌, IsTrue}, lemmas.Int.ints}
+use Rattle.fp_field.{specs.Served.served, proofs.ServedLemmas.served_large}
+use Rattle.linear_law.{specs.Names.Congruent, proofs.Names.{Congruent_multiple, Congruent_of, Congruent_sym, Congruent_trans}}
+use Rattle.simplicial_law.{specs.Names.{AgreesOnSimplices, CongruentInt, Cochain}, proofs.Names.{CongruentInt_of, CongruentInt_trans, whole}}
 use Rattle.interval_cut_law.specs.Names.{operation_value}
-use Rattle.table_reduction_law.specs.Names.{in_turn, may_element}
-use Rattle.table_reduction_law.proofs.MayTwo.{may_two_law}
+use Rattle.table_reduction_law.{specs.Names.{in_turn, may_element}, proofs.MayTwo.may_two_law}
 use Rattle.complex_index.specs.Names.{IsIndexOf, level}
-use Rattle.std.proofs.lemmas.Bool.{false≢true}
-use Rattle.linear_law.specs.Names.{IsAscending}
 use Rattle.signed_sum.specs.Names.{is_degenerate}
-use Rattle.steenrod_law.proofs.Complexes.{ascending-plain}
-use Rattle.cup_i_law.specs.ClosedFormula.{cup_i_value}
-use Rattle.cup_i_law.specs.SharedSums.{shared_sum}
-use Rattle.cup_i_law.proofs.CutSums.{closed_formula_law, formula-shared}
-use Rattle.cup_i_law.proofs.FormulaSums.{shared_sum-many}
-use Rattle.steenrod_law.specs.Names.{IsSquare, copies, cup_product, extended, may_operation, residue_cochain, sum_value}
-use Rattle.may_steenrod.specs.Cochains.{HasValues, IsClosed, IsOn, IsRowOfFirst, cochain_in}
-use Rattle.sparse_rows.specs.Rows.{IsBelow, IsRow, value_in}
-use Rattle.may_steenrod.proofs.OnLemmas.{is_on}
-use Rattle.may_steenrod.proofs.OperationLemmas.{operation-closed}
-use Rattle.may_steenrod.proofs.PlaceLemmas.{extended-row, has_values, has_values_by_place, residue-value, row-degree}
+use Rattle.steenrod_law.{proofs.Complexes.{ascending-plain, extended-cochain, extended-there}, specs.Names.{IsSquare, copies, cup_product, extended, may_operation, residue_cochain, sum_value}}
+use Rattle.cup_i_law.{specs.ClosedFormula.cup_i_value, specs.SharedSums.shared_sum, proofs.CutSums.{closed_formula_law, formula-shared}, proofs.FormulaSums.shared_sum-many}
+use Rattle.may_steenrod.{specs.Cochains.{HasValues, IsClosed, IsOn, IsRowOfFirst, cochain_in}, proofs.OperationLemmas.operation-closed, proofs.PlaceLemmas.{extended-row, has_values, residue-value, row-degree}}
+use Rattle.sparse_rows.specs.Rows.{IsBelow}
 
 -- the May element of degree d at 2 is the one list 1 2 1 ..
 at-two : (p d : ℕ) (g : List ℕ → ℤ) (s : List ℕ) → p ≡ 2 → operation_value 2 (in_turn 1 2 (d + 2)) (g ∷ g ∷ []) s ≡ sum_value p (may_element p d) (copies p g) s
@@ -85,45 +72,40 @@ shared-all h (v ∷ s) =
     let none = shared_sum-many (λ f g. h (v ∷ f) g) (suc (length s)) s (omega arith) in
     omega (arith, ints)
 
-square-bit : (v : ℕ) → v < 2 → pos v ≡ pos v *ℤ pos v
-square-bit zero l = refl
-square-bit (suc zero) l = refl
-square-bit (suc (suc v)) l = absurd (omega arith)
+-- a number and its square have one parity
+even-gap : (v : ℕ) → (c : ℕ) × (v * v ≡ v + 2 * c)
+even-gap zero = (0, refl)
+even-gap (suc v) = let r = even-gap v in (r.0 + v, omega (arith, r.1))
 
-whole-square : (p q : ℕ) (a : List ℕ → ℕ) (s : List ℕ) → p ≡ 2 → a s < p → length s ≡ suc q → ((t : List ℕ) → (IsAscending t → ⊥) → a t ≡ 0)
-    → CongruentInt p (pos (a s)) (operation_value 2 (in_turn 1 2 (q + 2)) ((λ f. pos (a f)) ∷ (λ f. pos (a f)) ∷ []) s)
-whole-square p q a s two small size ascending =
-    let g : List ℕ → ℤ = λ f. pos (a f) in
-    let some : 1 ≤ length s = omega (arith, size) in
-    let plain : (t : List ℕ) → IsTrue (is_degenerate t) → g t ≡ pos 0 = λ t d. ap pos (ascending t (λ up. false≢true (sym (ascending-plain t up) ∙ d))) in
-    let once : g s ≡ cup_i_value q g g s = square-bit (a s) (omega (arith, two, small)) ∙ sym (shared-all (λ f h. g f *ℤ g h) s)
-    ∙ ap (λ k. shared_sum (λ f h. g f *ℤ g h) k s) size ∙ sym (formula-shared q g g s some) in
-    subst (λ (n : ℕ). CongruentInt n (g s) (operation_value 2 (in_turn 1 2 (q + 2)) (g ∷ g ∷ []) s)) (sym two) (CongruentInt_trans (CongruentInt_of once) (closed_formula_law.value q g g s plain plain some))
+square-bit : (v : ℕ) → CongruentInt 2 (pos v) (pos v *ℤ pos v)
+square-bit v = let gap = even-gap v in whole 2 v (v * v) (Congruent_sym (subst (λ (n : ℕ). Congruent 2 n v) (sym gap.1) (Congruent_multiple 2 v gap.0)))
+
+-- on the simplices of its degree, a cochain is its own square of degree 0
+pub square-identity : (facets : List (List ℕ)) (q : ℕ) (a : Cochain) → AgreesOnSimplices facets q 2 a (may_operation 2 q q a)
+square-identity facets q a = record {
+  at = λ s on.
+      let g : List ℕ → ℤ = extended q a in
+      let size : length s ≡ suc q = omega (arith, on.size) in
+      let some : 1 ≤ length s = omega (arith, size) in
+      let plain : (t : List ℕ) → IsTrue (is_degenerate t) → g t ≡ pos 0 = (extended-cochain q a).plain in
+      let here : g s ≡ pos (a s) = extended-there q a s size (ascending-plain s on.ascending) in
+      let once : g s *ℤ g s ≡ cup_i_value q g g s = sym (shared-all (λ f h. g f *ℤ g h) s) ∙ ap (λ k. shared_sum (λ f h. g f *ℤ g h) k s) size ∙ sym (formula-shared q g g s some) in
+      residue-value 2 (a s) (sum_value 2 (may_element 2 q) (copies 2 g)) s (omega arith) some
+      (CongruentInt_trans (square-bit (a s)) (CongruentInt_trans (CongruentInt_of (ap (λ (z : ℤ). z *ℤ z) (sym here) ∙ once))
+      (CongruentInt_trans (closed_formula_law.value q g g s plain plain some) (CongruentInt_of (at-two 2 q g s refl)))));
+}
 
 module _ (p : ℕ) (levels : List (List (List ℕ))) (q : ℕ) (row : List (ℕ × ℕ)) (two : p ≡ 2) (inside : IsBelow (length (level levels q)) row) where
   abbrev a : Cochain
   a = cochain_in levels q row
 
-  itself : IsRow p row → HasValues p levels q (may_operation p q q a) row
-  itself pairs = record {
-    inside = inside;
-    values = λ facets i.
-        let prime : IsTrue (served p) = subst (λ m. IsTrue (served m)) (sym two) refl in
-        let on = is_on p levels q row prime (record { facets = facets; index = i }) pairs inside in
-        (has_values_by_place p levels q (may_operation p q q a) row inside
-        (λ x h size. (
-        let s : List ℕ = get_or (level levels q) x [] in
-        residue-value p (value_in row x) (sum_value p (may_element p q) (copies p (extended q a))) s (served_large p prime) (omega (arith, size))
-        (CongruentInt_trans (CongruentInt_of (ap pos (sym (on.here x h))))
-        (CongruentInt_trans (whole-square p q a s two (on.small s) size on.ascending)
-        (CongruentInt_of (ap (λ (g : List ℕ → ℤ). operation_value 2 (in_turn 1 2 (q + 2)) (g ∷ g ∷ []) s) (extended-row q a (row-degree p levels q row on))
-        ∙ at-two p q (extended q a) s two))))))).values facets i;
-  }
+  itself : HasValues p levels q (may_operation p q q a) row
+  itself = record { inside = inside; values = λ facets i. subst (λ (m : ℕ). AgreesOnSimplices facets q m a (may_operation m q q a)) (sym two) (square-identity facets q a) }
 
-  pub square-copy : (k : ℕ) (out : List (ℕ × ℕ)) → k ≡ 0 → out ≡ row → IsRow p out → HasValues p levels (q + k) (may_operation p (q - k) q a) out
-  square-copy k out none same pairs =
+  pub square-copy : (k : ℕ) (out : List (ℕ × ℕ)) → k ≡ 0 → out ≡ row → HasValues p levels (q + k) (may_operation p (q - k) q a) out
+  square-copy k out none same =
       let all : q ≡ q - k = omega arith in
       let there : q ≡ q + k = omega arith in
       subst (λ (n : ℕ). HasValues p levels n (may_operation p (q - k) q a) out) there
       (subst (λ (d : ℕ). HasValues p levels q (may_operation p d q a) out) all
-      (subst (λ (r : List (ℕ × ℕ)). HasValues p levels q (may_operation p q q a) r) (sym same) (itself (subst (IsRow p) same pairs))))
+      (subst (λ (r : List (ℕ × ℕ)). HasValues p levels q (may_operation p q q a) r) (sym same) itself))

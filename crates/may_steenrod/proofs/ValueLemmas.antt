@@ -1,17 +1,13 @@
 -- Values of the products and sums at a simplex.
-use Rattle.std.proofs.Common.{◌≡◌, ℕ, zero, suc, ◌+◌, ◌*◌, ◌%◌, ◌<◌, ◌≤◌, List, [], ◌∷◌, ◌++◌, map, length, take, take_all, drop, get_or, get_or-take, arith, refl, sym, ap, ap₂, subst, ◌∙◌, Vec, Global, pos, ◌+ℤ◌, ◌*ℤ◌, length-take-le, take-append-drop}
+use Rattle.std.proofs.{Common.{◌≡◌, ℕ, zero, suc, ◌+◌, ◌*◌, ◌%◌, ◌<◌, ◌≤◌, List, [], ◌∷◌, ◌++◌, map, length, take, take_all, drop, get_or, get_or-take, arith, refl, sym, ap, ap₂, subst, ◌∙◌, Vec, Global, pos, ◌+ℤ◌, ◌*ℤ◌, length-take-le, take-append-drop}, lemmas.List.{get_or_default, map-append, take_more}}
 use native.Mathlib.Nat.{zero-mod}
-use Rattle.std.proofs.lemmas.List.{get_or_default, map-append, take_more}
-use Rattle.simplicial_law.specs.Names.{CongruentInt}
-use Rattle.simplicial_law.proofs.Names.{CongruentInt_of, CongruentInt_trans}
+use Rattle.simplicial_law.{specs.Names.CongruentInt, proofs.Names.{CongruentInt_of, CongruentInt_trans}}
 use Rattle.interval_cut.proofs.ProductLemmas.{remainder}
-use Rattle.linear_law.specs.Names.{Congruent, sum_over, Each}
-use Rattle.linear_law.proofs.Names.{each_get_or, Congruent_add, Congruent_mod, Congruent_mul, Congruent_of, Congruent_refl, Congruent_trans}
+use Rattle.linear_law.{specs.Names.{Congruent, sum_over, Each}, proofs.Names.{each_get_or, Congruent_add, Congruent_mod, Congruent_mul, Congruent_of, Congruent_refl, Congruent_trans}}
 use Rattle.sparse_rows.proofs.RowLemmas.{sum_take}
 use Rattle.interval_cut_law.specs.Names.{vertex_at}
 use Rattle.complex_index.specs.Names.{list_at}
-use Rattle.may_steenrod.specs.declared.face_sum.Term.{Term}
-use Rattle.may_steenrod.specs.FaceSums.{AreNumbered, face_product, face_sum, product_at, term_product, terms_in, value_on_face}
+use Rattle.may_steenrod.specs.{declared.face_sum.Term.Term, FaceSums.{AreNumbered, face_product, face_sum, product_at, term_product, terms_in, value_on_face}}
 
 product-append : (vs xs ys : List ℕ) → product_at vs (xs ++ ys) ≡ product_at vs xs * product_at vs ys
 product-append vs [] ys = omega arith

@@ -1,6 +1,5 @@
 -- Sums of products of the values of one cochain on faces of a simplex.
-use Rattle.std.specs.Prelude.{◌≡◌, ◌<◌, ◌≤◌, ℕ, ◌*◌, List, [], ◌∷◌, map, take, length, get_or, ℤ, pos, ◌*ℤ◌, Vec}
-use Rattle.std.specs.declared.alloc.Global.{Global}
+use Rattle.std.specs.{Prelude.{◌≡◌, ◌<◌, ◌≤◌, ℕ, ◌*◌, List, [], ◌∷◌, map, take, length, get_or, ℤ, pos, ◌*ℤ◌, Vec}, declared.alloc.Global.Global}
 use Rattle.linear_law.specs.Names.{Each}
 use Rattle.signed_sum.specs.Names.{total}
 use Rattle.interval_cut_law.specs.Names.{vertex_at}

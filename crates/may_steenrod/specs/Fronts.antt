@@ -1,6 +1,5 @@
 -- Sums of products of values on front faces with values on back faces.
-use Rattle.std.specs.Prelude.{◌≡◌, ◌≤◌, ◌<◌, ◌+◌, ◌-◌, ◌*◌, ◌%◌, ℕ, List, [], length, take, drop, get_or}
-use Rattle.std.specs.declared.cmp.Ordering.TheVariants.{Less}
+use Rattle.std.specs.{Prelude.{◌≡◌, ◌≤◌, ◌<◌, ◌+◌, ◌-◌, ◌*◌, ◌%◌, ℕ, List, [], length, take, drop, get_or}, declared.cmp.Ordering.TheVariants.Less}
 use Rattle.linear_law.specs.Names.{sum_over}
 use Rattle.simplicial_law.specs.Names.{Cochain, unit_cochain, simplex_cmp}
 use Rattle.sparse_rows.specs.Rows.{IsBelow, value_in}

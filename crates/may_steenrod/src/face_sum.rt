@@ -12,8 +12,7 @@ ghost use Rattle.fp_field.specs.Served.{served};
 ghost use Rattle.operad_law.specs.FormalSums.{IsSameSum};
 ghost use Rattle.table_reduction_law.specs.Names.{may_element};
 ghost use Rattle.steenrod_law.specs.Names.{sum_value, copies};
-ghost use Rattle.may_steenrod.specs.Elements.{AddsTo, tested_value};
-ghost use Rattle.may_steenrod.specs.FaceSums.{AreNumbered, Extends, face_product, face_sum, product_at, term_product, terms_in, value_on_face};
+ghost use Rattle.may_steenrod.specs.{Elements.{AddsTo, tested_value}, FaceSums.{AreNumbered, Extends, face_product, face_sum, product_at, term_product, terms_in, value_on_face}};
 
 use complex_index::Indexed;
 use fp_field::Fp;

@@ -40,26 +40,8 @@ fn square_values<const P: u32, V: Values<P>>(
     Ok(values)
 }
 
-/// The row of the square by the closed formula, at each simplex of its degree.
-fn formula_row<const P: u32>(
-    alloc: Global,
-    index: &Indexed,
-    alpha: &Cochain<P>,
-    k: u32,
-) -> Result<Row<P>, AllocError>
-    requires two { P ≡ 2 }
-    requires low { alpha.now.degree ≤ 255 }
-    requires defined { k ≤ alpha.now.degree }
-    requires inside { IsBelow (length (level index.now alpha.now.degree)) alpha.now.row }
-    ensures { IfOk result (λ r. HasValues P index.now (alpha.now.degree + k) (may_operation P (alpha.now.degree - k) alpha.now.degree (cochain_in index.now alpha.now.degree alpha.now.row)) r) }
-{
-    let on = On::new(index, alpha);
-    let values = square_values(alloc, index, &on, alpha.degree - k, alpha.degree + k)?;
-    row_of(alloc, &values)
-}
-
-/// The row of the square: that of the cochain for k = 0, that of its cup square for k its degree, else by the closed formula.
-/// The first two take time that is linear in what is not 0.
+/// The row of the square: that of the cochain for k = 0, that of its cup square for k its degree, else by the closed formula at
+/// each simplex of its degree. The first two take time that is linear in what is not 0.
 fn square_row<const P: u32>(
     alloc: Global,
     index: &Indexed,
@@ -78,7 +60,9 @@ fn square_row<const P: u32>(
     if k == alpha.degree {
         return Ok(cup(alloc, index, alpha, alpha)?.row);
     }
-    formula_row(alloc, index, alpha, k)
+    let on = On::new(index, alpha);
+    let values = square_values(alloc, index, &on, alpha.degree - k, alpha.degree + k)?;
+    row_of(alloc, &values)
 }
 
 /// The square `Sq^k`, at 2, for k up to the degree of `alpha`. It raises the degree by k, and on a cocycle it

@@ -1,9 +1,6 @@
-use Rattle.std.proofs.Common.{◌≡◌, ◌∙◌, ◌+◌, get_or, subst, sym}
-use Rattle.std.proofs.lemmas.List.{get_or_default}
-use Rattle.may_steenrod.specs.Cochains.{IsRowOfFirst}
-use Rattle.may_steenrod.proofs.PlaceLemmas.{first-put, first-skip}
+use Rattle.std.proofs.{Common.{◌≡◌, ◌∙◌, ◌+◌, get_or, subst, sym}, lemmas.List.get_or_default}
+use Rattle.may_steenrod.{specs.Cochains.IsRowOfFirst, proofs.PlaceLemmas.{first-put, first-skip}, proofs.places.row_of.Goals.{then-not-is_zero+in_ok-push_last, else-not-is_zero}}
 use Rattle.may_steenrod.proofs.places.row_of.Goals as goal
-use Rattle.may_steenrod.proofs.places.row_of.Goals.{then-not-is_zero+in_ok-push_last, else-not-is_zero}
 
 pub loop-place-preserved : goal.loop-place-preserved
 loop-place-preserved g c =

@@ -1,6 +1,5 @@
 use Rattle.std.proofs.Common.{ℕ, List, ap, ◌∙◌}
-use Rattle.sparse_rows.specs.Rows.{value_in}
-use Rattle.sparse_rows.proofs.MergeLemmas.{put_sum}
+use Rattle.sparse_rows.{specs.Rows.value_in, proofs.MergeLemmas.put_sum}
 use Rattle.may_steenrod.proofs.product.put_value.Goals as goal
 
 pub returns-in_ok-push-clause-sum : goal.returns-in_ok-push-clause-sum

@@ -2,9 +2,7 @@ use Rattle.std.proofs.Common.{◌*◌, ◌-◌, ◌∙◌, ℕ, List, sym, pos, 
 use Rattle.surjection_law.specs.Names.{caesura_count}
 use Rattle.interval_cut_law.specs.Names.{operation_value}
 use Rattle.steenrod_law.specs.Names.{copies}
-use Rattle.may_steenrod.specs.Elements.{AddsTo, tested_value}
-use Rattle.may_steenrod.specs.FaceSums.{terms_in}
-use Rattle.may_steenrod.proofs.ElementLemmas.{adds-form, adds-none, on_ok-map}
+use Rattle.may_steenrod.{specs.Elements.{AddsTo, tested_value}, specs.FaceSums.terms_in, proofs.ElementLemmas.{adds-form, adds-none, on_ok-map}}
 use Rattle.may_steenrod.proofs.face_sum.FaceSum.add_term.Goals as goal
 
 pub returns-then-has_form-clause-sum : goal.returns-then-has_form-clause-sum

@@ -1,7 +1,6 @@
 use Rattle.std.proofs.Common.{◌≡◌, ◌∙◌, ◌<◌, arith, length, length-set}
 use Rattle.interval_cut.specs.Names.{cut_of}
-use Rattle.may_steenrod.proofs.CutLemmas.{at-most-five}
-use Rattle.may_steenrod.proofs.FaceLemmas.{Extends_trans, numbers_step}
+use Rattle.may_steenrod.proofs.{CutLemmas.at-most-five, FaceLemmas.{Extends_trans, numbers_step}}
 use Rattle.may_steenrod.proofs.face_sum.FaceSum.numbers_of.Goals as goal
 
 pub loop-k-preserved : goal.loop-k-preserved

@@ -1,9 +1,6 @@
-use Rattle.std.proofs.Common.{◌*◌, ◌-◌, ◌<◌, ◌≤◌, ℕ, List, arith, length, rules, subst, sym, ap, FitsSigned, w64, ℤ}
-use Rattle.std.proofs.lemmas.Int.{to_z-of_z}
+use Rattle.std.proofs.{Common.{◌*◌, ◌-◌, ◌<◌, ◌≤◌, ℕ, List, arith, length, rules, subst, sym, ap, FitsSigned, w64, ℤ}, lemmas.Int.to_z-of_z}
 use Rattle.fp_field.proofs.ServedLemmas.{served_large}
-use Rattle.may_steenrod.specs.declared.face_sum.Term.{Term}
-use Rattle.may_steenrod.specs.FaceSums.{AreNumbered, terms_in}
-use Rattle.may_steenrod.proofs.ElementLemmas.{coefficient, element-end, element-start, element-step}
+use Rattle.may_steenrod.{specs.declared.face_sum.Term.Term, specs.FaceSums.{AreNumbered, terms_in}, proofs.ElementLemmas.{coefficient, element-end, element-start, element-step}}
 use Rattle.may_steenrod.proofs.face_sum.FaceSum.of_element.Goals as goal
 
 pub loop-k-init : goal.loop-k-init
