@@ -1,14 +1,7 @@
 -- One more item of a text that is written item by item.
-use Rattle.std.proofs.Common.{◌≡◌, ◌∙◌, ℕ, ◌+◌, ◌<◌, List, [], ◌∷◌, ◌++◌, length, take, get_or, ap, refl, sym, arith, append_assoc, flat_map, map, append-nil, length-take}
-use Rattle.std.proofs.lemmas.List.{take_more, map-append}
-use Rattle.report.specs.declared.columns.Column.{Column}
-use Rattle.report.specs.declared.complex.DegreePart.{DegreePart}
-use Rattle.report.specs.declared.form.Form.{Form}
-use Rattle.report_text_law.specs.declared.line.Line.{Line}
-use Rattle.report_text_law.specs.Names.{columns_from, degrees_from, degree_lines, shown}
-use Rattle.report_text_law.specs.declared.line.Line.TheVariants.{Column as column_line, With as with_line}
-use Rattle.std.proofs.lemmas.Grind.{flat_map-append}
-use Rattle.report_text_law.proofs.Written.{columns_apart, degrees_apart}
+use Rattle.std.proofs.{Common.{◌≡◌, ◌∙◌, ℕ, ◌+◌, ◌<◌, List, [], ◌∷◌, ◌++◌, length, take, get_or, ap, refl, sym, arith, append_assoc, flat_map, map, append-nil, length-take}, lemmas.List.{take_more, map-append}, lemmas.Grind.flat_map-append}
+use Rattle.report.specs.declared.{columns.Column.Column, complex.DegreePart.DegreePart, form.Form.Form}
+use Rattle.report_text_law.{specs.declared.line.Line.Line, specs.Names.{columns_from, degrees_from, degree_lines, shown}, specs.declared.line.Line.TheVariants.{Column as column_line, With as with_line}, proofs.Written.{columns_apart, degrees_apart}}
 
 pub flat_more : {X Y : Type 0} (f : X → List Y) (xs : List X) (i : ℕ) (d : X) → i < length xs → flat_map f (take (i + 1) xs) ≡ flat_map f (take i xs) ++ f (get_or xs i d)
 flat_more {Y = Y} f xs i d lt = ap (flat_map f) (take_more xs i d lt) ∙ flat_map-append f (take i xs) (get_or xs i d ∷ []) ∙ ap (λ (t : List Y). flat_map f (take i xs) ++ t) (append-nil (f (get_or xs i d)))

@@ -1,7 +1,5 @@
 ghost use Rattle.std.specs.Prelude.{◌≡◌, ◌++◌, ◌∷◌, [], OnOk};
-ghost use Rattle.report_text_law.specs.Names.{shown, cartan_front};
-ghost use Rattle.report_text_law.specs.declared.line.Line.TheVariants.{Heading as heading_line, Prime as prime_line, Complex as complex_line, Facet as facet_line, Below as below_line, Class as class_line, With as with_line, Column as column_line, CartanYes as cartan_yes, CartanNo as cartan_no, Cycle as cycle_line, End as end_line, Map as map_line, Send as send_line, Done as done_line};
-ghost use Rattle.report_text_law.specs.declared.line.Line.TheVariants.{Degree as degree_line, Product as product_line, Pair as pair_line, Operation as operation_line, Induced as induced_line};
+ghost use Rattle.report_text_law.specs.{Names.{shown, cartan_front}, declared.line.Line.TheVariants.{Heading as heading_line, Prime as prime_line, Complex as complex_line, Facet as facet_line, Below as below_line, Class as class_line, With as with_line, Column as column_line, CartanYes as cartan_yes, CartanNo as cartan_no, Cycle as cycle_line, End as end_line, Map as map_line, Send as send_line, Done as done_line, Degree as degree_line, Product as product_line, Pair as pair_line, Operation as operation_line, Induced as induced_line}};
 
 use crate::form::{has_details, has_tables};
 use crate::word::{add_chain, add_next, add_number, add_numbers, add_op};

@@ -1,6 +1,5 @@
 ghost use Rattle.std.specs.Prelude.{◌≡◌, ◌++◌, ◌∷◌, [], OnOk, map, flat_map};
-ghost use Rattle.report_text_law.specs.Names.{columns_from, degree_lines, degrees_from, pair_lines, product_lines, operation_lines, cartan_lines, complex_lines, table_lines, send_of, induced_lines, map_lines, printed};
-ghost use Rattle.report_text_law.specs.declared.line.Line.TheVariants.{Facet as facet_line, Below as below_line, Class as class_line};
+ghost use Rattle.report_text_law.specs.{Names.{columns_from, degree_lines, degrees_from, pair_lines, product_lines, operation_lines, cartan_lines, complex_lines, table_lines, send_of, induced_lines, map_lines, printed}, declared.line.Line.TheVariants.{Facet as facet_line, Below as below_line, Class as class_line}};
 
 use crate::line::{
     add_below, add_class, add_column, add_cycle, add_degree, add_end, add_facet, add_induced,

@@ -1,14 +1,17 @@
-ghost use Rattle.std.specs.Prelude.{◌≡◌, ◌++◌, ◌∷◌, [], OnOk, flat_map, map};
-ghost use Rattle.std.specs.Fmt.{decimal};
+ghost use Rattle.std.specs.{Prelude.{◌≡◌, ◌++◌, ◌∷◌, [], OnOk, flat_map, map}, Fmt.decimal};
 ghost use Rattle.report_text_law.specs.Names.{behind, joined, term_word, chain_words, ended, op_word};
 
 use comch_io::Bytes;
 use report::{Chain, OpWord, Term};
 use std::alloc::{AllocError, Global};
 
+// A number in decimal digits. One digit takes no memory of its own.
 pub fn add_number(alloc: Global, text: &mut Bytes, n: u64) -> Result<(), AllocError>
     ensures { OnOk result (text.new ≡ text.old ++ decimal n) }
 {
+    if n < 10 {
+        return text.push(b'0' + n as u8);
+    }
     let digits = n.to_string(alloc)?;
     text.extend(digits.as_bytes())
 }

@@ -1,6 +1,5 @@
 use Rattle.std.proofs.Common.{◌≡◌, ◌++◌, take, map}
-use Rattle.report_text_law.specs.Names.{printed}
-use Rattle.report_text_law.specs.declared.line.Line.TheVariants.{Facet as facet_line}
+use Rattle.report_text_law.specs.{Names.printed, declared.line.Line.TheVariants.{Facet as facet_line}}
 use Rattle.report_text.proofs.section.add_facets.Given as goal
 
 abbrev pub invariant-loop-facet : goal.invariant-loop-facet
