@@ -1,14 +1,9 @@
 -- What is asked of each part of a report that certifies.
-use Rattle.std.proofs.Common.{◌≡◌, ℕ, zero, suc, ◌+◌, ◌<◌, inl, inr, subst, sym, arith, Bool, true, List, [], ◌∷◌, ◌++◌, length, map, get_or}
-use Rattle.std.specs.List.{list_all}
-use Rattle.linear_law.specs.Names.{Among, Each}
-use Rattle.linear_law.proofs.Names.{each_unmap, each_zip}
+use Rattle.std.{proofs.Common.{◌≡◌, ℕ, zero, suc, ◌+◌, ◌<◌, inl, inr, subst, sym, arith, Bool, true, List, [], ◌∷◌, ◌++◌, length, map, get_or}, specs.List.list_all}
+use Rattle.linear_law.{specs.Names.{Among, Each}, proofs.Names.{each_unmap, each_zip}}
 use Rattle.report_law.proofs.Names.{each-all}
-use Rattle.certificate_law.specs.Types.{ComplexPart, Report, MapPart, TextLine as Line}
-use Rattle.report_text_law.specs.Names.{is_line}
-use Rattle.report_text_law.specs.WellFormed.{is_well_formed}
-use Rattle.certificate_law.specs.Names.{Certifies, Asks, line_said, Stated, behind, cartan_stated, complex_ends, complex_stated, degree_stated, facet_stands, map_stated, numbered, operation_stated, product_stated, stated}
-use Rattle.certificate_law.proofs.StatedLines.{stated_lines_law}
+use Rattle.certificate_law.{specs.Types.{ComplexPart, Report, MapPart, TextLine as Line}, specs.Names.{Certifies, Asks, line_said, Stated, behind, cartan_stated, complex_ends, complex_stated, degree_stated, facet_stands, map_stated, numbered, operation_stated, product_stated, stated}, proofs.StatedLines.stated_lines_law}
+use Rattle.report_text_law.specs.{Names.is_line, WellFormed.is_well_formed}
 
 -- ---- lists
 

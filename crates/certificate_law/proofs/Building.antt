@@ -1,10 +1,7 @@
 -- What is asked of numbered lines, put together.
-use Rattle.std.proofs.Common.{◌≡◌, ℕ, suc, ◌+◌, ◌<◌, sym, ◌∙◌, ap, subst, arith, List, [], ◌∷◌, ◌++◌, length, map, get_or, slice_get, Some}
-use Rattle.std.specs.List.{AllZip}
-use Rattle.linear_law.specs.Names.{Each}
-use Rattle.linear_law.proofs.Names.{each_append}
-use Rattle.certificate_law.specs.Names.{Stated, behind, numbered}
-use Rattle.certificate_law.proofs.Places.{EachAt}
+use Rattle.std.{proofs.Common.{◌≡◌, ℕ, suc, ◌+◌, ◌<◌, sym, ◌∙◌, ap, subst, arith, List, [], ◌∷◌, ◌++◌, length, map, get_or, slice_get, Some}, specs.List.AllZip}
+use Rattle.linear_law.{specs.Names.Each, proofs.Names.each_append}
+use Rattle.certificate_law.{specs.Names.{Stated, behind, numbered}, proofs.Places.EachAt}
 
 -- ---- places
 

@@ -1,19 +1,9 @@
 -- Canonical primitives and classes pass the tests.
-use Rattle.std.proofs.Common.{◌≡◌, ℕ, zero, suc, ◌+◌, ◌<◌, ◌≤◌, ◌⊎◌, inl, inr, subst, ap, sym, arith, List, [], ◌∷◌, ◌++◌, length, map, get_or, length-append}
-use Rattle.std.specs.List.{AllZip}
-use Rattle.std.specs.Cmp.Lexicographic.{nat_list_cmp_total}
-use Rattle.std.proofs.lemmas.Bool.{cases_lt}
-use Rattle.linear_law.specs.Names.{IsField, Among, Each, IsApart, IsAscending, IsCanonical}
-use Rattle.linear_law.proofs.Names.{Congruent_of, Congruent_sym, apart_short, least_or_zero, among_left, among_right, each_among, each_append, each_map, each_zip, length_alike, not_zero, one-nonzero, each_of_index}
-use Rattle.simplicial_law.specs.Names.{IsInOrder, IsSimplex, Precedes, AgreesOnSimplices, Chain, Cochain, IsCoboundary, IsCocycle, coboundary, IsCanonicalClass, IsCoboundaryPivot, IsCocyclePivot, AreCanonicalClasses, AreTerms, cochain_of, cochain_at, of_degree}
-use Rattle.simplicial_law.specs.ListedSimplices.{simplices}
-use Rattle.simplicial_law.proofs.Names.{bounds_close, no_bounds, listed_simplices_law, place_of_among, lists_compare, lists_strict, agree_by_place, cochain_at-value, lead_up}
-use Rattle.report_law.specs.Names.{ArePrimitives, IsPrimitiveAt}
-use Rattle.report_law.proofs.Names.{among_or_not}
-use Rattle.certificate_law.specs.Names.{HasNewLeast, IsLeastSimplex, IsOnBelow, coboundaries_of, simplex_count}
-use Rattle.certificate_law.proofs.ListedBases.{EachAfter, IsListedWell, apart_append}
-use Rattle.certificate_law.proofs.PivotBases.{alike_lead}
-use Rattle.certificate_law.proofs.PivotCounts.{pivot_lists, simplex_same_or_not}
+use Rattle.std.{proofs.Common.{◌≡◌, ℕ, zero, suc, ◌+◌, ◌<◌, ◌≤◌, ◌⊎◌, inl, inr, subst, ap, sym, arith, List, [], ◌∷◌, ◌++◌, length, map, get_or, length-append}, specs.List.AllZip, specs.Cmp.Lexicographic.nat_list_cmp_total, proofs.lemmas.Bool.cases_lt}
+use Rattle.linear_law.{specs.Names.{IsField, Among, Each, IsApart, IsAscending, IsCanonical}, proofs.Names.{Congruent_of, Congruent_sym, apart_short, least_or_zero, among_left, among_right, each_among, each_append, each_map, each_zip, length_alike, not_zero, one-nonzero, each_of_index}}
+use Rattle.simplicial_law.{specs.Names.{IsInOrder, IsSimplex, Precedes, AgreesOnSimplices, Chain, Cochain, IsCoboundary, IsCocycle, coboundary, IsCanonicalClass, IsCoboundaryPivot, IsCocyclePivot, AreCanonicalClasses, AreTerms, cochain_of, cochain_at, of_degree}, specs.ListedSimplices.simplices, proofs.Names.{bounds_close, no_bounds, listed_simplices_law, place_of_among, lists_compare, lists_strict, agree_by_place, cochain_at-value, lead_up}}
+use Rattle.report_law.{specs.Names.{ArePrimitives, IsPrimitiveAt}, proofs.Names.among_or_not}
+use Rattle.certificate_law.{specs.Names.{HasNewLeast, IsLeastSimplex, IsOnBelow, coboundaries_of, simplex_count}, proofs.ListedBases.{EachAfter, IsListedWell, apart_append}, proofs.PivotBases.alike_lead, proofs.PivotCounts.{pivot_lists, simplex_same_or_not}}
 
 -- ---- lists
 

@@ -1,14 +1,10 @@
 -- Cartan verdicts: a coboundary pairs to zero with each cycle.
 use Rattle.std.proofs.Common.{◌≡◌, ℕ, zero, suc, ◌+◌, ◌*◌, refl, sym, ◌∙◌, ap₂, subst, arith, inl, inr, List, [], ◌∷◌, map, get_or, flat_map}
-use Rattle.linear_law.specs.Names.{Congruent, negated, sum_over, Each, IsAscending, unit_sum_from}
-use Rattle.linear_law.proofs.Names.{Congruent_add, Congruent_from, Congruent_of, Congruent_refl, Congruent_scale, Congruent_trans, each_append, each_map, sum_append, sum_map, unit_sum-values}
-use Rattle.simplicial_law.specs.Names.{IsSimplex, AgreesOnSimplices, Chain, Cochain, IsCoboundary, alternating_chain, boundary, coboundary, faces, pairing, unit_cochain, cochain_of, cochain_at, of_degree}
-use Rattle.simplicial_law.specs.ListedSimplices.{simplices}
-use Rattle.simplicial_law.proofs.Names.{face_simplex, listed_simplices_law, unit_away, unit_here}
+use Rattle.linear_law.{specs.Names.{Congruent, negated, sum_over, Each, IsAscending, unit_sum_from}, proofs.Names.{Congruent_add, Congruent_from, Congruent_of, Congruent_refl, Congruent_scale, Congruent_trans, each_append, each_map, sum_append, sum_map, unit_sum-values}}
+use Rattle.simplicial_law.{specs.Names.{IsSimplex, AgreesOnSimplices, Chain, Cochain, IsCoboundary, alternating_chain, boundary, coboundary, faces, pairing, unit_cochain, cochain_of, cochain_at, of_degree}, specs.ListedSimplices.simplices, proofs.Names.{face_simplex, listed_simplices_law, unit_away, unit_here}}
 use Rattle.steenrod_law.proofs.ClassLaws.{coboundary-vertex}
 use Rattle.report_law.specs.Names.{boundary_coefficient}
-use Rattle.certificate_law.specs.Names.{IsOn}
-use Rattle.certificate_law.proofs.PivotCounts.{simplex_same_or_not}
+use Rattle.certificate_law.{specs.Names.IsOn, proofs.PivotCounts.simplex_same_or_not}
 
 -- ---- pairing
 

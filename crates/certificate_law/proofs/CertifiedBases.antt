@@ -1,15 +1,9 @@
 -- Where a report certifies, the printed classes are bases of cohomology.
-use Rattle.std.proofs.Common.{◌≡◌, ℕ, ◌+◌, ◌<◌, ◌≤◌, sym, subst, arith, List, [], ◌∷◌, ◌++◌, length, map, get_or}
-use Rattle.std.proofs.lemmas.List.{length-map}
+use Rattle.std.proofs.{Common.{◌≡◌, ℕ, ◌+◌, ◌<◌, ◌≤◌, sym, subst, arith, List, [], ◌∷◌, ◌++◌, length, map, get_or}, lemmas.List.length-map}
 use Rattle.linear_law.specs.Names.{IsField, Each, IsAscending}
-use Rattle.simplicial_law.specs.Names.{Chain, IsCocycle, cochain_of}
-use Rattle.simplicial_law.proofs.Names.{listed_simplices_law}
-use Rattle.certificate_law.specs.Types.{ComplexPart, DegreePart}
-use Rattle.report_law.specs.Names.{classes_in, below_in, classes_of}
-use Rattle.report_law.proofs.Names.{AreBases, bases-from, get_or-map, get_or-past}
-use Rattle.certificate_law.specs.Names.{HasNewLeast, IsCounted, IsOn, IsOnBelow, coboundaries_of, after, below_stands, class_stands, degree_stated}
-use Rattle.certificate_law.proofs.Asked.{ComplexAsked, IsAsAsked, each_left, each_right, numbered_at}
-use Rattle.certificate_law.proofs.ListedBases.{EachAfter, IsListedWell, listed_basis}
+use Rattle.simplicial_law.{specs.Names.{Chain, IsCocycle, cochain_of}, proofs.Names.listed_simplices_law}
+use Rattle.certificate_law.{specs.Types.{ComplexPart, DegreePart}, specs.Names.{HasNewLeast, IsCounted, IsOn, IsOnBelow, coboundaries_of, after, below_stands, class_stands, degree_stated}, proofs.Asked.{ComplexAsked, IsAsAsked, each_left, each_right, numbered_at}, proofs.ListedBases.{EachAfter, IsListedWell, listed_basis}}
+use Rattle.report_law.{specs.Names.{classes_in, below_in, classes_of}, proofs.Names.{AreBases, bases-from, get_or-map, get_or-past}}
 
 module _ (p : ℕ) (c : ComplexPart) (n : ℕ) where
   below_on : (before ys : List Chain) → Each (IsAsAsked p) (after (λ before y. below_stands c n before y ∷ []) before ys) → Each (IsOnBelow c.facets n) ys

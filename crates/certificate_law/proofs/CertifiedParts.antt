@@ -1,26 +1,13 @@
 -- Where a report certifies, the headline holds of what it lists.
-use Rattle.std.proofs.Common.{◌≡◌, ℕ, ◌<◌, ◌≤◌, ◌||◌, Bool, true, false, cond, IsTrue, inl, inr, refl, sym, ◌∙◌, subst, arith, mod-eq_of_lt, List, [], ◌∷◌, ◌++◌, length, map, slice_get, Some}
+use Rattle.std.{proofs.Common.{◌≡◌, ℕ, ◌<◌, ◌≤◌, ◌||◌, Bool, true, false, cond, IsTrue, inl, inr, refl, sym, ◌∙◌, subst, arith, mod-eq_of_lt, List, [], ◌∷◌, ◌++◌, length, map, slice_get, Some}, specs.Str.bytes_eq}
 use native.Mathlib.Nat.{zero-mod}
-use Rattle.std.specs.Str.{bytes_eq}
-use Rattle.fp_field.specs.Served.{served}
-use Rattle.fp_field.proofs.ServedLemmas.{served_field}
-use Rattle.linear_law.specs.Names.{Congruent, IsField, Among, Each, IsAscending}
-use Rattle.linear_law.proofs.Names.{Congruent_sym, Congruent_trans, among_map, each_among, each_of_index}
+use Rattle.fp_field.{specs.Served.served, proofs.ServedLemmas.served_field}
+use Rattle.linear_law.{specs.Names.{Congruent, IsField, Among, Each, IsAscending}, proofs.Names.{Congruent_sym, Congruent_trans, among_map, each_among, each_of_index}}
 use Rattle.simplicial_law.specs.Names.{AgreesOnSimplices, Cochain, coboundary, cochain_of}
-use Rattle.certificate_law.specs.Types.{Sent, CartanAnswer, Yes, No, CartanPart, OperationPart, ProductPart, ComplexPart, Certificate, Report, InducedPart, MapPart, Line}
+use Rattle.certificate_law.{specs.Types.{Sent, CartanAnswer, Yes, No, CartanPart, OperationPart, ProductPart, ComplexPart, Certificate, Report, InducedPart, MapPart, Line}, specs.Names.{Certifies, IsRightAnswer, complex_names, CertifiedLaw, MapShown, line_said, verdict_said, complex_named, itself, rank_in, answer_stated, behind, cartan_stated, facet_stands, induced_stated, map_ends, map_stated, numbered, operation_stated, product_stated, send_stands}, proofs.Asked.{ComplexAsked, IsAsAsked, complex_asked, each_left, each_right, lines_asked, map_asked, numbered_part}, proofs.CartanVerdicts.{coboundary_pairs, pairing_alike}, proofs.CertifiedBases.printed_bases, proofs.Columns.{induced_part, operation_part, product_part}, proofs.ListedBases.nowhere, proofs.Places.{numbered_heads, placed_from_start}, proofs.WellFormed.{are_terms, are_terms_below, facet_ascends, value_bounds}}
 use Rattle.complex_file.specs.Names.{has_name}
-use Rattle.report_law.specs.Names.{CartanPromise, ComplexPromise, ProductPromise, Says, blocks, induced_degrees, lines, IsLineDifference, class_at, line_degree, block_of, classes_of, line_of, number_pairs, ranks_of, IsInducedPart, IsOperationPart}
-use Rattle.report_law.proofs.Names.{bases_promise, operation_promises, product_promise, AreBases, agrees-sym, simplicial, induced_promise, difference-once, of-lines}
-use Rattle.report_text_law.specs.Names.{is_line}
-use Rattle.report_text_law.specs.WellFormed.{is_well_formed}
-use Rattle.certificate_law.specs.Names.{Certifies, IsRightAnswer, complex_names, CertifiedLaw, MapShown, line_said, verdict_said, complex_named, itself, rank_in, answer_stated, behind, cartan_stated, facet_stands, induced_stated, map_ends, map_stated, numbered, operation_stated, product_stated, send_stands}
-use Rattle.certificate_law.proofs.Asked.{ComplexAsked, IsAsAsked, complex_asked, each_left, each_right, lines_asked, map_asked, numbered_part}
-use Rattle.certificate_law.proofs.CartanVerdicts.{coboundary_pairs, pairing_alike}
-use Rattle.certificate_law.proofs.CertifiedBases.{printed_bases}
-use Rattle.certificate_law.proofs.Columns.{induced_part, operation_part, product_part}
-use Rattle.certificate_law.proofs.ListedBases.{nowhere}
-use Rattle.certificate_law.proofs.Places.{numbered_heads, placed_from_start}
-use Rattle.certificate_law.proofs.WellFormed.{are_terms, are_terms_below, facet_ascends, value_bounds}
+use Rattle.report_law.{specs.Names.{CartanPromise, ComplexPromise, ProductPromise, Says, blocks, induced_degrees, lines, IsLineDifference, class_at, line_degree, block_of, classes_of, line_of, number_pairs, ranks_of, IsInducedPart, IsOperationPart}, proofs.Names.{bases_promise, operation_promises, product_promise, AreBases, agrees-sym, simplicial, induced_promise, difference-once, of-lines}}
+use Rattle.report_text_law.specs.{Names.is_line, WellFormed.is_well_formed}
 
 -- ---- complexes
 

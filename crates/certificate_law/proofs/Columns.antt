@@ -1,24 +1,12 @@
 -- The columns that certify are coordinates: the blocks of a certificate are those of the listed classes.
-use Rattle.std.proofs.Common.{◌≡◌, ℕ, suc, ◌+◌, ◌-◌, ◌<◌, ◌≤◌, refl, sym, ◌∙◌, ap, ap₂, subst, arith, ◌&&◌, true, false, List, [], ◌∷◌, ◌++◌, length, map, get_or, flat_map, slice_get, Some}
-use Rattle.std.specs.List.{AllZip}
-use Rattle.std.proofs.lemmas.Bool.{and_parts}
-use Rattle.std.proofs.lemmas.List.{length-map, map-append}
-use Rattle.std.proofs.lemmas.List.Folds.{flat_map-map}
-use Rattle.std.proofs.lemmas.Simd.{map-map}
+use Rattle.std.{proofs.Common.{◌≡◌, ℕ, suc, ◌+◌, ◌-◌, ◌<◌, ◌≤◌, refl, sym, ◌∙◌, ap, ap₂, subst, arith, ◌&&◌, true, false, List, [], ◌∷◌, ◌++◌, length, map, get_or, flat_map, slice_get, Some}, specs.List.AllZip, proofs.lemmas.Bool.and_parts, proofs.lemmas.List.{length-map, map-append}, proofs.lemmas.List.Folds.flat_map-map, proofs.lemmas.Simd.map-map}
 use Rattle.signed_sum.specs.Names.{numbers_from}
-use Rattle.linear_law.specs.Names.{Each, combination}
-use Rattle.linear_law.proofs.Names.{Congruent_from, Congruent_refl, add-negated, zip_left}
+use Rattle.linear_law.{specs.Names.{Each, combination}, proofs.Names.{Congruent_from, Congruent_refl, add-negated, zip_left}}
 use Rattle.simplicial_law.specs.Names.{AgreesOnSimplices, Chain, Cochain, cochain_of}
 use Rattle.steenrod_law.specs.Names.{cochain_products, cup_product, pull_back}
-use Rattle.certificate_law.specs.Types.{Column, OperationPart, PairColumn, ProductPart, ComplexPart, InducedPart, MapPart, column_line, pair_line}
-use Rattle.report_law.specs.Names.{IsColumn, listed, IsOperationColumn, class_at, classes_in, block_of, classes_of, number_pairs, numbers_of, unnumbered, IsInducedPart, IsOperationPart, IsProductPart}
-use Rattle.report_law.proofs.Names.{coordinates-alike}
+use Rattle.certificate_law.{specs.Types.{Column, OperationPart, PairColumn, ProductPart, ComplexPart, InducedPart, MapPart, column_line, pair_line}, specs.Names.{column_sum, IsOnBelow, rank_in, sent_by, induced_column, induced_stated, operation_column, operation_stated, product_column, product_stated, with_stands}, proofs.Asked.IsAsAsked, proofs.ListedBases.nowhere, proofs.Places.{at_each, at_map, at_start, each_at, placed_from_start, zip_places_of}, proofs.WellFormed.values_below}
+use Rattle.report_law.{specs.Names.{IsColumn, listed, IsOperationColumn, class_at, classes_in, block_of, classes_of, number_pairs, numbers_of, unnumbered, IsInducedPart, IsOperationPart, IsProductPart}, proofs.Names.coordinates-alike}
 use Rattle.report_text_law.specs.Names.{are_values, is_line, is_u32}
-use Rattle.certificate_law.specs.Names.{column_sum, IsOnBelow, rank_in, sent_by, induced_column, induced_stated, operation_column, operation_stated, product_column, product_stated, with_stands}
-use Rattle.certificate_law.proofs.Asked.{IsAsAsked}
-use Rattle.certificate_law.proofs.ListedBases.{nowhere}
-use Rattle.certificate_law.proofs.Places.{at_each, at_map, at_start, each_at, placed_from_start, zip_places_of}
-use Rattle.certificate_law.proofs.WellFormed.{values_below}
 
 -- ---- lists by numbers
 

@@ -1,26 +1,11 @@
 -- Canonical data pass the conditions on the lines of a complex.
-use Rattle.std.proofs.Common.{◌≡◌, ℕ, zero, suc, ◌+◌, ◌-◌, ◌<◌, ◌≤◌, ◌==◌, nat_le, true, IsTrue, refl, sym, ◌∙◌, ap, subst, arith, List, [], ◌∷◌, ◌++◌, length, map, get_or, slice_get, Some, eqb-true}
-use Rattle.std.specs.List.{AllZip}
-use Rattle.std.proofs.lemmas.Bool.{and_parts}
-use Rattle.std.proofs.lemmas.List.{length-map}
-use Rattle.fp_field.proofs.ServedLemmas.{served_field}
-use Rattle.fp_field.specs.Served.{served}
-use Rattle.linear_law.specs.Names.{IsField, Among, Each, IsAscending, combination}
-use Rattle.linear_law.proofs.Names.{Congruent_add, Congruent_from, Congruent_of, Congruent_sym, Congruent_trans, add-negated, among_map, each_among, each_append, each_get_or, each_map, length_alike, each_of_index}
-use Rattle.simplicial_law.specs.Names.{IsSimplex, AgreesOnSimplices, Chain, Cochain, IsCocycle, coboundary, cochain_of, of_degree}
-use Rattle.simplicial_law.specs.ListedSimplices.{simplices}
-use Rattle.simplicial_law.proofs.Names.{coboundary_zero, listed_simplices_law}
+use Rattle.std.{proofs.Common.{◌≡◌, ℕ, zero, suc, ◌+◌, ◌-◌, ◌<◌, ◌≤◌, ◌==◌, nat_le, true, IsTrue, refl, sym, ◌∙◌, ap, subst, arith, List, [], ◌∷◌, ◌++◌, length, map, get_or, slice_get, Some, eqb-true}, specs.List.AllZip, proofs.lemmas.Bool.and_parts, proofs.lemmas.List.length-map}
+use Rattle.fp_field.{proofs.ServedLemmas.served_field, specs.Served.served}
+use Rattle.linear_law.{specs.Names.{IsField, Among, Each, IsAscending, combination}, proofs.Names.{Congruent_add, Congruent_from, Congruent_of, Congruent_sym, Congruent_trans, add-negated, among_map, each_among, each_append, each_get_or, each_map, length_alike, each_of_index}}
+use Rattle.simplicial_law.{specs.Names.{IsSimplex, AgreesOnSimplices, Chain, Cochain, IsCocycle, coboundary, cochain_of, of_degree}, specs.ListedSimplices.simplices, proofs.Names.{coboundary_zero, listed_simplices_law}}
 use Rattle.steenrod_law.specs.Names.{cochain_products, cup_product}
-use Rattle.certificate_law.specs.Types.{CartanAnswer, Yes, No, CartanPart, Column, OperationPart, PairColumn, ProductPart, ComplexPart, DegreePart, Block, Op, Square}
-use Rattle.report_law.specs.Names.{IsAnswer, IsColumn, IsPrimitive, IsCartanDifference, IsOperation, listed, blocks, is_defined, lines, products, target_degree, IsOperationColumn, class_at, classes_in, line_degree, below_in, block_of, classes_of, line_of, number_pairs, numbers_of, op_of, product_of, ranks_of, unnumbered, AreTables, IsCartanPart, IsComplexPart, IsOperationPart, IsProductPart}
-use Rattle.report_law.proofs.Names.{of-blocks, is_cycle, reads}
-use Rattle.certificate_law.specs.Names.{HasItsDegrees, IsBlockLine, IsCartanLine, IsClassLine, IsCoboundaryLine, IsCocycleLine, IsColumnAt, IsColumnLine, IsComplexWhole, IsCountLine, IsInducedLine, IsNewComplex, IsProductColumn, IsRightAnswer, IsRightOperation, IsRightProduct, column_sum, HasNewLeast, IsOn, IsOnBelow, coboundaries_of, simplex_count, itself, rank_in, Stated, after, answer_stated, behind, below_stands, cartan_stated, class_stands, complex_ends, complex_stated, degree_stated, facet_stands, numbered, operation_column, operation_stated, product_column, product_stated, with_stands}
-use Rattle.certificate_law.proofs.Building.{at_both, at_index, at_of_each, each_numbered, placed, zip_places}
-use Rattle.certificate_law.proofs.CanonicalData.{canonical_listed}
-use Rattle.certificate_law.proofs.CertifiedBases.{below_at, below_past, classes_at, no_degree}
-use Rattle.certificate_law.proofs.Columns.{products_by_pairs}
-use Rattle.certificate_law.proofs.ListedBases.{EachAfter, IsListedWell}
-use Rattle.certificate_law.proofs.Places.{EachAt, at_map}
+use Rattle.certificate_law.{specs.Types.{CartanAnswer, Yes, No, CartanPart, Column, OperationPart, PairColumn, ProductPart, ComplexPart, DegreePart, Block, Op, Square}, specs.Names.{HasItsDegrees, IsBlockLine, IsCartanLine, IsClassLine, IsCoboundaryLine, IsCocycleLine, IsColumnAt, IsColumnLine, IsComplexWhole, IsCountLine, IsInducedLine, IsNewComplex, IsProductColumn, IsRightAnswer, IsRightOperation, IsRightProduct, column_sum, HasNewLeast, IsOn, IsOnBelow, coboundaries_of, simplex_count, itself, rank_in, Stated, after, answer_stated, behind, below_stands, cartan_stated, class_stands, complex_ends, complex_stated, degree_stated, facet_stands, numbered, operation_column, operation_stated, product_column, product_stated, with_stands}, proofs.Building.{at_both, at_index, at_of_each, each_numbered, placed, zip_places}, proofs.CanonicalData.canonical_listed, proofs.CertifiedBases.{below_at, below_past, classes_at, no_degree}, proofs.Columns.products_by_pairs, proofs.ListedBases.{EachAfter, IsListedWell}, proofs.Places.{EachAt, at_map}}
+use Rattle.report_law.{specs.Names.{IsAnswer, IsColumn, IsPrimitive, IsCartanDifference, IsOperation, listed, blocks, is_defined, lines, products, target_degree, IsOperationColumn, class_at, classes_in, line_degree, below_in, block_of, classes_of, line_of, number_pairs, numbers_of, op_of, product_of, ranks_of, unnumbered, AreTables, IsCartanPart, IsComplexPart, IsOperationPart, IsProductPart}, proofs.Names.{of-blocks, is_cycle, reads}}
 
 -- what the conditions ask of a line
 abbrev pub IsRight : ℕ → Stated → Type 0

@@ -1,19 +1,12 @@
 -- Canonical data certify.
-use Rattle.std.proofs.Common.{◌≡◌, ℕ, zero, suc, ◌+◌, ◌-◌, ◌^◌, ◌<◌, None, true, IsTrue, refl, ◌∙◌, ap, subst, arith, List, [], ◌∷◌, ◌++◌, length, map, get_or, slice_get, Some}
-use Rattle.std.proofs.lemmas.List.{length-map}
-use Rattle.fp_field.specs.Served.{served}
-use Rattle.fp_field.proofs.ServedLemmas.{served_field}
-use Rattle.linear_law.specs.Names.{Each}
-use Rattle.linear_law.proofs.Names.{each_append, each_map, length_alike}
+use Rattle.std.proofs.{Common.{◌≡◌, ℕ, zero, suc, ◌+◌, ◌-◌, ◌^◌, ◌<◌, None, true, IsTrue, refl, ◌∙◌, ap, subst, arith, List, [], ◌∷◌, ◌++◌, length, map, get_or, slice_get, Some}, lemmas.List.length-map}
+use Rattle.fp_field.{specs.Served.served, proofs.ServedLemmas.served_field}
+use Rattle.linear_law.{specs.Names.Each, proofs.Names.{each_append, each_map, length_alike}}
 use Rattle.simplicial_law.specs.Names.{Chain, Cochain, cochain_of}
 use Rattle.steenrod_law.specs.Names.{pull_back}
-use Rattle.certificate_law.specs.Types.{Sent, Column, ComplexPart, Report, InducedPart, MapPart}
+use Rattle.certificate_law.{specs.Types.{Sent, Column, ComplexPart, Report, InducedPart, MapPart}, specs.Names.{Certifies, Asks, IsColumnAt, IsMapWhole, IsNewMap, IsRightPullBack, rank_in, sent_by, Stated, behind, complex_stated, finish, induced_column, induced_stated, map_between, map_ends, map_stated, numbered, send_stands, stated}, proofs.Building.{at_both, at_of_each, each_numbered, placed, zip_places}, proofs.Places.at_map, proofs.CompleteComplexes.{IsRight, column_same, columns_right, primitive_on}}
 use Rattle.complex_file.specs.Names.{end_fault}
 use Rattle.report_law.specs.Names.{IsColumn, listed, induced_degrees, classes_in, classes_of, ranks_of, IsInducedPart, passing_sum, sizes_of}
-use Rattle.certificate_law.specs.Names.{Certifies, Asks, IsColumnAt, IsMapWhole, IsNewMap, IsRightPullBack, rank_in, sent_by, Stated, behind, complex_stated, finish, induced_column, induced_stated, map_between, map_ends, map_stated, numbered, send_stands, stated}
-use Rattle.certificate_law.proofs.Building.{at_both, at_of_each, each_numbered, placed, zip_places}
-use Rattle.certificate_law.proofs.Places.{at_map}
-use Rattle.certificate_law.proofs.CompleteComplexes.{IsRight, column_same, columns_right, primitive_on}
 
 -- ---- a map
 

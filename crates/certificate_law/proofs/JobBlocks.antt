@@ -1,23 +1,10 @@
 -- The blocks of the certificate of a job have no fault.
-use Rattle.std.proofs.Common.{◌≡◌, ℕ, ◌+◌, ◌-◌, ◌<◌, ◌≤◌, inl, inr, ◌&&◌, ◌==◌, nat_le, Bool, true, false, not, cond, refl, sym, ◌∙◌, ap, ap₂, subst, arith, List, [], ◌∷◌, ◌++◌, length, map, None, Some, append_assoc, nat_lt, eqb-true, le-ltb, ltb-false}
-use Rattle.std.specs.List.{list_all, list_any}
-use Rattle.std.specs.Str.{bytes_eq}
-use Rattle.std.proofs.lemmas.Bool.{and_parts, false_from_ne_true}
-use Rattle.linear_law.specs.Names.{Among, Each, IsAscending}
-use Rattle.linear_law.proofs.Names.{apart_short, among_left, among_right, each_unmap, each_of_index}
-use Rattle.simplicial_law.specs.Names.{subsets}
-use Rattle.simplicial_law.specs.ListedSimplices.{simplices}
-use Rattle.simplicial_law.proofs.Names.{all_put, of_all, simplices_sorted, simplices_sound, simplices_whole, sorted_in_order}
-use Rattle.certificate_law.specs.Types.{Sent, FacetTooWide, ImageNotASimplex, NotOrderPreserving, TooManySimplices, VertexNotSent, VertexSentTwice, VertexUnknown, ComplexPart}
+use Rattle.std.{proofs.Common.{◌≡◌, ℕ, ◌+◌, ◌-◌, ◌<◌, ◌≤◌, inl, inr, ◌&&◌, ◌==◌, nat_le, Bool, true, false, not, cond, refl, sym, ◌∙◌, ap, ap₂, subst, arith, List, [], ◌∷◌, ◌++◌, length, map, None, Some, append_assoc, nat_lt, eqb-true, le-ltb, ltb-false}, specs.List.{list_all, list_any}, specs.Str.bytes_eq, proofs.lemmas.Bool.{and_parts, false_from_ne_true}}
+use Rattle.linear_law.{specs.Names.{Among, Each, IsAscending}, proofs.Names.{apart_short, among_left, among_right, each_unmap, each_of_index}}
+use Rattle.simplicial_law.{specs.Names.subsets, specs.ListedSimplices.simplices, proofs.Names.{all_put, of_all, simplices_sorted, simplices_sound, simplices_whole, sorted_in_order}}
+use Rattle.certificate_law.{specs.Types.{Sent, FacetTooWide, ImageNotASimplex, NotOrderPreserving, TooManySimplices, VertexNotSent, VertexSentTwice, VertexUnknown, ComplexPart}, specs.Names.{behind, facet_stands, send_stands}, proofs.CanonicalData.in_order_apart, proofs.CompleteComplexes.IsRight, proofs.JobMaps.{among-any, any_from, any_gives, any_sent, eqb_same, sent_among}, proofs.Places.in_append, proofs.PivotCounts.simplex_same_or_not, proofs.SameSimplices.SameSimplices}
 use Rattle.complex_file.specs.Names.{ascending, facet_fault, first_facet_fault, has_vertex, end_fault, first_send_fault, image, image_of_facet, is_sent, is_vertex, keeps_edge, keeps_order, keeps_simplices, send_fault, sends_each}
 use Rattle.report_law.proofs.Names.{all-among, any-among, no-earlier}
-use Rattle.certificate_law.specs.Names.{behind, facet_stands, send_stands}
-use Rattle.certificate_law.proofs.CanonicalData.{in_order_apart}
-use Rattle.certificate_law.proofs.CompleteComplexes.{IsRight}
-use Rattle.certificate_law.proofs.JobMaps.{among-any, any_from, any_gives, any_sent, eqb_same, sent_among}
-use Rattle.certificate_law.proofs.Places.{in_append}
-use Rattle.certificate_law.proofs.PivotCounts.{simplex_same_or_not}
-use Rattle.certificate_law.proofs.SameSimplices.{SameSimplices}
 
 -- ---- facets
 

@@ -1,28 +1,12 @@
 -- The certificate of a job certifies.
-use Rattle.std.proofs.Common.{◌≡◌, ℕ, zero, suc, ◌+◌, ◌-◌, ◌^◌, ◌<◌, ◌≤◌, ◌&&◌, nat_le, true, false, None, IsTrue, inl, inr, refl, sym, ◌∙◌, ap, ap₂, subst, arith, List, [], ◌∷◌, ◌++◌, length, map, get_or, leb-true, length-append, is_none}
-use Rattle.std.specs.List.{AllZip, list_all}
-use Rattle.std.proofs.lemmas.Bool.{and_parts, false_from_ne_true}
-use Rattle.std.proofs.lemmas.List.{map-append}
+use Rattle.std.{proofs.Common.{◌≡◌, ℕ, zero, suc, ◌+◌, ◌-◌, ◌^◌, ◌<◌, ◌≤◌, ◌&&◌, nat_le, true, false, None, IsTrue, inl, inr, refl, sym, ◌∙◌, ap, ap₂, subst, arith, List, [], ◌∷◌, ◌++◌, length, map, get_or, leb-true, length-append, is_none}, specs.List.{AllZip, list_all}, proofs.lemmas.Bool.{and_parts, false_from_ne_true}, proofs.lemmas.List.map-append}
 use Rattle.signed_sum.specs.Names.{numbers_from}
 use Rattle.fp_field.specs.Served.{served}
-use Rattle.linear_law.specs.Names.{Among, Each, IsApart, IsAscending}
-use Rattle.linear_law.proofs.Names.{among_left, among_right, each_among, each_append, each_map, each_zip, zip_change, zip_each, each_of_index}
-use Rattle.simplicial_law.specs.Names.{of_degree}
-use Rattle.simplicial_law.specs.ListedSimplices.{simplices}
-use Rattle.simplicial_law.proofs.Names.{simplices_sorted, simplices_sound, simplices_whole, sorted_in_order}
-use Rattle.certificate_law.specs.Types.{ComplexBlock, MapBlock, Sent, ComplexPart, MapPart, Sizes}
-use Rattle.complex_file.specs.Names.{complex_fault, is_complex, is_facet, Spelled, are_distinct, block_names, facets_at, has_name, is_map, end_fault, image, is_vertex, is_name, name_at}
-use Rattle.complex_file.specs.Jobs.{is_job}
-use Rattle.report_law.specs.Names.{induced_degrees, Classes, ranks, classes_of, part_at, ranks_of, IsComplexPart, IsInducedPart, IsMapPart, IsMaximal, AreSizes, passing_sum, sizes_of}
-use Rattle.report_law.proofs.Names.{classes-at, IsMapOf, any-among, each-all, job-complexes, job-maps, job-prime, no-end-fault, no-fault, sizes_law, same-order}
-use Rattle.certificate_law.specs.Names.{complex_names, map_names, CompleteLaw, complex_named, itself, sent_by, behind, complex_stated, map_stated}
-use Rattle.certificate_law.proofs.CompleteComplexes.{IsRight, complex_right}
-use Rattle.certificate_law.proofs.CompleteReports.{all_right, map_right}
-use Rattle.certificate_law.proofs.JobBlocks.{FacetsFit, end_there, facet_lines, facets_fit, known_vertices, send_lines, vertex_there}
-use Rattle.certificate_law.proofs.JobMaps.{among-any, distinct_apart, induced_there, is_function, name_among, named_at, same_image}
-use Rattle.certificate_law.proofs.MaximalFacets.{own_facets, same_simplices}
-use Rattle.certificate_law.proofs.Places.{in_append}
-use Rattle.certificate_law.proofs.SameSimplices.{SameSimplices}
+use Rattle.linear_law.{specs.Names.{Among, Each, IsApart, IsAscending}, proofs.Names.{among_left, among_right, each_among, each_append, each_map, each_zip, zip_change, zip_each, each_of_index}}
+use Rattle.simplicial_law.{specs.Names.of_degree, specs.ListedSimplices.simplices, proofs.Names.{simplices_sorted, simplices_sound, simplices_whole, sorted_in_order}}
+use Rattle.certificate_law.{specs.Types.{ComplexBlock, MapBlock, Sent, ComplexPart, MapPart, Sizes}, specs.Names.{complex_names, map_names, CompleteLaw, complex_named, itself, sent_by, behind, complex_stated, map_stated}, proofs.CompleteComplexes.{IsRight, complex_right}, proofs.CompleteReports.{all_right, map_right}, proofs.JobBlocks.{FacetsFit, end_there, facet_lines, facets_fit, known_vertices, send_lines, vertex_there}, proofs.JobMaps.{among-any, distinct_apart, induced_there, is_function, name_among, named_at, same_image}, proofs.MaximalFacets.{own_facets, same_simplices}, proofs.Places.in_append, proofs.SameSimplices.SameSimplices}
+use Rattle.complex_file.specs.{Names.{complex_fault, is_complex, is_facet, Spelled, are_distinct, block_names, facets_at, has_name, is_map, end_fault, image, is_vertex, is_name, name_at}, Jobs.is_job}
+use Rattle.report_law.{specs.Names.{induced_degrees, Classes, ranks, classes_of, part_at, ranks_of, IsComplexPart, IsInducedPart, IsMapPart, IsMaximal, AreSizes, passing_sum, sizes_of}, proofs.Names.{classes-at, IsMapOf, any-among, each-all, job-complexes, job-maps, job-prime, no-end-fault, no-fault, sizes_law, same-order}}
 
 -- ---- what a job keeps
 

@@ -1,18 +1,11 @@
 -- The complexes of a job by their names, and the maps between them, as a certificate lists them.
-use Rattle.std.proofs.Common.{◌≡◌, ℕ, zero, suc, ◌+◌, ◌<◌, ◌⊎◌, inl, inr, ◌&&◌, ◌||◌, ◌==◌, Bool, true, false, not, cond, refl, sym, ◌∙◌, ap, ap₂, subst, arith, List, [], ◌∷◌, ◌++◌, length, map, None, Some, if◌then◌else◌, eq-eqb, eqb-true, true≢false}
-use Rattle.std.specs.List.{AllZip, list_any}
-use Rattle.std.specs.Str.{bytes_eq}
-use Rattle.std.proofs.lemmas.Bool.{and_parts, cases_Bool, false_from_ne_true, not-true}
-use Rattle.linear_law.specs.Names.{Among, IsApart}
-use Rattle.linear_law.proofs.Names.{among_left, among_right, each_among, zip_change}
+use Rattle.std.{proofs.Common.{◌≡◌, ℕ, zero, suc, ◌+◌, ◌<◌, ◌⊎◌, inl, inr, ◌&&◌, ◌||◌, ◌==◌, Bool, true, false, not, cond, refl, sym, ◌∙◌, ap, ap₂, subst, arith, List, [], ◌∷◌, ◌++◌, length, map, None, Some, if◌then◌else◌, eq-eqb, eqb-true, true≢false}, specs.List.{AllZip, list_any}, specs.Str.bytes_eq, proofs.lemmas.Bool.{and_parts, cases_Bool, false_from_ne_true, not-true}}
+use Rattle.linear_law.{specs.Names.{Among, IsApart}, proofs.Names.{among_left, among_right, each_among, zip_change}}
 use Rattle.simplicial_law.specs.Names.{Cochain}
 use Rattle.steenrod_law.specs.Names.{pull_back}
-use Rattle.certificate_law.specs.Types.{ComplexBlock, Sent, VertexSentTwice, VertexUnknown, Column, ComplexPart, InducedPart}
+use Rattle.certificate_law.{specs.Types.{ComplexBlock, Sent, VertexSentTwice, VertexUnknown, Column, ComplexPart, InducedPart}, specs.Names.complex_named, proofs.SameSimplices.{SameSimplices, column_there}}
 use Rattle.complex_file.specs.Names.{are_distinct, has_name, first_send_fault, image, is_sent, is_vertex, send_fault, name_at}
-use Rattle.report_law.specs.Names.{IsColumn, Classes, cochains_in, part_at, AreOrderedSends, IsComplexPart, IsInducedPart}
-use Rattle.report_law.proofs.Names.{no-earlier, same-bytes}
-use Rattle.certificate_law.specs.Names.{complex_named}
-use Rattle.certificate_law.proofs.SameSimplices.{SameSimplices, column_there}
+use Rattle.report_law.{specs.Names.{IsColumn, Classes, cochains_in, part_at, AreOrderedSends, IsComplexPart, IsInducedPart}, proofs.Names.{no-earlier, same-bytes}}
 
 -- ---- names
 

@@ -1,16 +1,8 @@
 -- Listed classes that pass the tests are a basis of cohomology.
-use Rattle.std.proofs.Common.{◌≡◌, ℕ, zero, suc, ◌+◌, ◌<◌, ◌≤◌, inl, inr, subst, refl, ap, sym, arith, List, [], ◌∷◌, ◌++◌, length, map, length-append}
-use Rattle.std.specs.List.{AllZip}
-use Rattle.std.proofs.lemmas.Bool.{cases_lt}
-use Rattle.std.proofs.lemmas.List.{length-map}
-use Rattle.linear_law.specs.Names.{IsField, Among, Each, IsApart, IsAscending, IsPivot}
-use Rattle.linear_law.proofs.Names.{Congruent_refl, each_among, each_append, each_map, each_of_map, length_alike}
-use Rattle.simplicial_law.specs.Names.{IsSimplex, Precedes, Chain, Cochain, IsCoboundary, IsCocycle, IsCohomologyBasis, coboundary, unit_cochain, IsCoboundaryPivot, IsCocyclePivot, cochain_of}
-use Rattle.simplicial_law.proofs.Names.{bounds_close, no_bounds, unit_away}
-use Rattle.certificate_law.specs.Names.{HasNewLeast, IsCounted, IsLeastSimplex, IsOn, IsOnBelow, coboundaries_of, simplex_count}
-use Rattle.certificate_law.proofs.PivotCounts.{all_coboundary_pivots, all_cocycle_pivots}
-use Rattle.certificate_law.proofs.Places.{in_append}
-use Rattle.certificate_law.proofs.CohomologyBases.{complementary_basis, zip_among}
+use Rattle.std.{proofs.Common.{◌≡◌, ℕ, zero, suc, ◌+◌, ◌<◌, ◌≤◌, inl, inr, subst, refl, ap, sym, arith, List, [], ◌∷◌, ◌++◌, length, map, length-append}, specs.List.AllZip, proofs.lemmas.Bool.cases_lt, proofs.lemmas.List.length-map}
+use Rattle.linear_law.{specs.Names.{IsField, Among, Each, IsApart, IsAscending, IsPivot}, proofs.Names.{Congruent_refl, each_among, each_append, each_map, each_of_map, length_alike}}
+use Rattle.simplicial_law.{specs.Names.{IsSimplex, Precedes, Chain, Cochain, IsCoboundary, IsCocycle, IsCohomologyBasis, coboundary, unit_cochain, IsCoboundaryPivot, IsCocyclePivot, cochain_of}, proofs.Names.{bounds_close, no_bounds, unit_away}}
+use Rattle.certificate_law.{specs.Names.{HasNewLeast, IsCounted, IsLeastSimplex, IsOn, IsOnBelow, coboundaries_of, simplex_count}, proofs.PivotCounts.{all_coboundary_pivots, all_cocycle_pivots}, proofs.Places.in_append, proofs.CohomologyBases.{complementary_basis, zip_among}}
 
 -- ---- what the conditions on degrees ask
 

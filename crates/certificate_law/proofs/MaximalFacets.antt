@@ -1,13 +1,8 @@
 -- The facets that lie in no other have the same simplices as all facets.
-use Rattle.std.proofs.Common.{◌≡◌, ℕ, zero, suc, ◌+◌, ◌<◌, ◌≤◌, ◌⊎◌, inl, inr, refl, sym, ap, ap₂, subst, arith, true, List, [], ◌∷◌, length}
-use Rattle.std.proofs.lemmas.Bool.{cases_eq, cases_lt}
-use Rattle.linear_law.specs.Names.{sum_over, Among, Each, IsAscending}
-use Rattle.linear_law.proofs.Names.{apart_all, each_among, each_map, each_of_index}
-use Rattle.certificate_law.specs.Types.{ComplexBlock, ComplexPart}
+use Rattle.std.proofs.{Common.{◌≡◌, ℕ, zero, suc, ◌+◌, ◌<◌, ◌≤◌, ◌⊎◌, inl, inr, refl, sym, ap, ap₂, subst, arith, true, List, [], ◌∷◌, length}, lemmas.Bool.{cases_eq, cases_lt}}
+use Rattle.linear_law.{specs.Names.{sum_over, Among, Each, IsAscending}, proofs.Names.{apart_all, each_among, each_map, each_of_index}}
+use Rattle.certificate_law.{specs.Types.{ComplexBlock, ComplexPart}, specs.Names.itself, proofs.PivotCounts.ascending_apart, proofs.SameSimplices.{SameSimplices, are_primitives, classes_there, tables_there}}
 use Rattle.report_law.specs.Names.{below_in, classes_of, AreMaximalFacets, IsComplexPart, IsMaximal, IsWithin}
-use Rattle.certificate_law.specs.Names.{itself}
-use Rattle.certificate_law.proofs.PivotCounts.{ascending_apart}
-use Rattle.certificate_law.proofs.SameSimplices.{SameSimplices, are_primitives, classes_there, tables_there}
 
 among_or_not : (v : ℕ) (f : List ℕ) → Among v f ⊎ (Among v f → ⊥)
 among_or_not v [] = inr (λ m. m)

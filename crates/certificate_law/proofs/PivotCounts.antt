@@ -1,12 +1,8 @@
 -- The pivots of the cocycles of one degree and of the coboundaries of the next: together they are no more
 -- than the simplices of that degree.
-use Rattle.std.proofs.Common.{◌≡◌, ℕ, ◌+◌, ◌<◌, ◌≤◌, ◌≢◌, ◌⊎◌, inl, inr, ap, ◌∙◌, arith, List, [], ◌∷◌, length, map, get_or}
-use Rattle.std.proofs.lemmas.List.{length-map}
-use Rattle.linear_law.specs.Names.{IsField, Among, Each, IsApart, IsAscending, ImageVector, IsImage, IsInKernel, KernelVector, ListsAll, LeadsAt, image_place, kernel_place, CountedWalk}
-use Rattle.linear_law.proofs.Names.{Congruent_refl, each_among, each_map, each_of_map, each_zip, same_or_not, apart_all, apart_short, image_pivot, kernel_leads, lead_pivot, counted_walk}
-use Rattle.simplicial_law.specs.Names.{IsInOrder, IsSimplex, Precedes, IsCoboundary, IsCocycle, coboundary, IsCoboundaryPivot, IsCocyclePivot, IsCoboundaryByPlace, cochain_at, of_degree}
-use Rattle.simplicial_law.specs.ListedSimplices.{simplices}
-use Rattle.simplicial_law.proofs.Names.{listed_simplices_law, lists_compare, lists_strict, pivot_down, pivot_up, coboundary_down, coboundary_up, cocycle_down, cocycle_up, linear}
+use Rattle.std.proofs.{Common.{◌≡◌, ℕ, ◌+◌, ◌<◌, ◌≤◌, ◌≢◌, ◌⊎◌, inl, inr, ap, ◌∙◌, arith, List, [], ◌∷◌, length, map, get_or}, lemmas.List.length-map}
+use Rattle.linear_law.{specs.Names.{IsField, Among, Each, IsApart, IsAscending, ImageVector, IsImage, IsInKernel, KernelVector, ListsAll, LeadsAt, image_place, kernel_place, CountedWalk}, proofs.Names.{Congruent_refl, each_among, each_map, each_of_map, each_zip, same_or_not, apart_all, apart_short, image_pivot, kernel_leads, lead_pivot, counted_walk}}
+use Rattle.simplicial_law.{specs.Names.{IsInOrder, IsSimplex, Precedes, IsCoboundary, IsCocycle, coboundary, IsCoboundaryPivot, IsCocyclePivot, IsCoboundaryByPlace, cochain_at, of_degree}, specs.ListedSimplices.simplices, proofs.Names.{listed_simplices_law, lists_compare, lists_strict, pivot_down, pivot_up, coboundary_down, coboundary_up, cocycle_down, cocycle_up, linear}}
 use Rattle.certificate_law.specs.Names.{simplex_count}
 
 among_through : {X Y Z : Type 0} (f : X → Y) (g : Y → Z) (y : Y) (z : Z) (xs : List X) → Among y (map f xs) → g y ≡ z → Among z (map (λ x. g (f x)) xs)

@@ -1,9 +1,7 @@
 -- Elements at their places: what is asked of numbered lines, what stands in filtered and joined lists.
-use Rattle.std.proofs.Common.{◌≡◌, ℕ, suc, ◌+◌, ◌-◌, ◌<◌, ◌≤◌, inl, inr, refl, sym, ◌∙◌, ap, ap₂, subst, arith, List, [], ◌∷◌, ◌++◌, length, map, get_or, slice_get, Some, None, Option, ◌⊎◌}
-use Rattle.std.specs.List.{AllZip}
+use Rattle.std.{proofs.Common.{◌≡◌, ℕ, suc, ◌+◌, ◌-◌, ◌<◌, ◌≤◌, inl, inr, refl, sym, ◌∙◌, ap, ap₂, subst, arith, List, [], ◌∷◌, ◌++◌, length, map, get_or, slice_get, Some, None, Option, ◌⊎◌}, specs.List.AllZip}
 use Rattle.linear_law.specs.Names.{Among, Each}
-use Rattle.certificate_law.specs.Names.{Stated, numbered}
-use Rattle.certificate_law.proofs.Asked.{each_left, each_right}
+use Rattle.certificate_law.{specs.Names.{Stated, numbered}, proofs.Asked.{each_left, each_right}}
 
 -- ---- each element with its place, from k on
 

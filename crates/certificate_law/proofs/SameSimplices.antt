@@ -1,7 +1,6 @@
 -- Two lists of facets with the same simplices: what holds of one complex holds of the other.
 use Rattle.std.proofs.Common.{ℕ, zero, suc, ◌+◌, Bool, List, map}
-use Rattle.linear_law.specs.Names.{IsCanonical, IsPivot}
-use Rattle.linear_law.proofs.Names.{zip_change, each_map}
+use Rattle.linear_law.{specs.Names.{IsCanonical, IsPivot}, proofs.Names.{zip_change, each_map}}
 use Rattle.simplicial_law.specs.Names.{IsSimplex, Precedes, AgreesOnSimplices, Chain, Cochain, HasCoordinates, IsCoboundary, IsCocycle, coboundary, IsCanonicalClass, IsCanonicalCoboundary, IsCoboundaryPivot, IsCocyclePivot, AreCanonicalClasses, AreTerms, cochain_of}
 use Rattle.certificate_law.specs.Types.{CartanAnswer, Yes, No, CartanPart, OperationPart, Column, ProductPart, ComplexPart, Op, Square}
 use Rattle.report_law.specs.Names.{ArePivots, ArePrimitives, IsAnswer, IsColumn, IsCycleAt, IsPrimitive, IsPrimitiveAt, IsCartanDifference, IsCartanProduct, IsOperation, cartan_op, cartan_pairs, target_degree, AreClasses, Classes, IsOperationColumn, classes_in, cochains_in, line_degree, block_of, line_of, unnumbered, AreTables, IsCartanPart, IsOperationPart, IsProductPart}

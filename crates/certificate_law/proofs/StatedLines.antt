@@ -1,10 +1,7 @@
 -- The lines of which something is asked are those of the certificate, in their order.
-use Rattle.std.proofs.Common.{◌≡◌, ℕ, ◌+◌, refl, ◌∙◌, ap, ap₂, List, [], ◌∷◌, ◌++◌, map, flat_map}
-use Rattle.std.proofs.lemmas.List.{map-append}
-use Rattle.std.proofs.lemmas.List.Concat.{flat_map_single}
+use Rattle.std.proofs.{Common.{◌≡◌, ℕ, ◌+◌, refl, ◌∙◌, ap, ap₂, List, [], ◌∷◌, ◌++◌, map, flat_map}, lemmas.List.map-append, lemmas.List.Concat.flat_map_single}
 use Rattle.simplicial_law.specs.Names.{Chain}
-use Rattle.certificate_law.specs.Types.{Sent, CartanAnswer, Yes, No, CartanPart, Column, ComplexPart, DegreePart, MapPart, TextLine as Line, below_line, class_line, column_line, facet_line}
-use Rattle.certificate_law.specs.Names.{StatedLinesLaw, line_said, verdict_said, complex_named, Stated, complex_opens, degree_opens, heading, induced_opens, map_opens, operation_opens, prime_is, product_opens, after, answer_stated, behind, below_stands, cartan_stated, class_stands, complex_ends, complex_stated, degree_stated, facet_stands, finish, induced_column, induced_stated, map_between, map_ends, map_stated, numbered, operation_column, operation_stated, product_column, product_stated, send_stands, with_stands}
+use Rattle.certificate_law.specs.{Types.{Sent, CartanAnswer, Yes, No, CartanPart, Column, ComplexPart, DegreePart, MapPart, TextLine as Line, below_line, class_line, column_line, facet_line}, Names.{StatedLinesLaw, line_said, verdict_said, complex_named, Stated, complex_opens, degree_opens, heading, induced_opens, map_opens, operation_opens, prime_is, product_opens, after, answer_stated, behind, below_stands, cartan_stated, class_stands, complex_ends, complex_stated, degree_stated, facet_stands, finish, induced_column, induced_stated, map_between, map_ends, map_stated, numbered, operation_column, operation_stated, product_column, product_stated, send_stands, with_stands}}
 use Rattle.report_text_law.specs.Names.{answer_lines, cartan_lines, columns_from, complex_lines, degrees_from, induced_lines, map_lines, operation_lines, pair_lines, product_lines, send_of}
 
 abbrev said : List Stated → List Line

@@ -1,20 +1,11 @@
 -- What well-formed lines tell: facets ascend, values are below the prime, and chains are terms in order.
-use Rattle.std.proofs.Common.{◌≡◌, ℕ, zero, suc, ◌<◌, ◌&&◌, Bool, true, refl, sym, ◌∙◌, ap, subst, arith, List, [], ◌∷◌, map, nat_lt, ltb-true}
-use Rattle.std.specs.List.{list_all}
-use Rattle.std.specs.Ordering.{is_lt}
-use Rattle.std.specs.declared.cmp.Ordering.{Ordering}
-use Rattle.std.specs.declared.cmp.Ordering.TheVariants.{Less}
-use Rattle.std.specs.Cmp.Lexicographic.{nat_list_cmp_total}
-use Rattle.std.proofs.lemmas.Bool.{and_parts}
-use Rattle.linear_law.specs.Names.{Each, IsAscending}
-use Rattle.linear_law.proofs.Names.{each_get_or, each_map, each_of_map}
+use Rattle.std.{proofs.Common.{◌≡◌, ℕ, zero, suc, ◌<◌, ◌&&◌, Bool, true, refl, sym, ◌∙◌, ap, subst, arith, List, [], ◌∷◌, map, nat_lt, ltb-true}, specs.List.list_all, specs.Ordering.is_lt, specs.declared.cmp.Ordering.Ordering, specs.declared.cmp.Ordering.TheVariants.Less, specs.Cmp.Lexicographic.nat_list_cmp_total, proofs.lemmas.Bool.and_parts}
+use Rattle.linear_law.{specs.Names.{Each, IsAscending}, proofs.Names.{each_get_or, each_map, each_of_map}}
 use Rattle.simplicial_law.specs.Names.{IsInOrder, IsSimplex, Precedes, Chain, AreTerms, simplex_cmp}
 use Rattle.complex_file.specs.Names.{is_ascending}
-use Rattle.report_law.specs.Names.{AreTermsBelow}
-use Rattle.report_law.proofs.Names.{ascends as ascending-list, each-all}
-use Rattle.certificate_law.specs.Types.{cartan_no}
+use Rattle.report_law.{specs.Names.AreTermsBelow, proofs.Names.{ascends as ascending-list, each-all}}
+use Rattle.certificate_law.specs.{Types.cartan_no, Names.{IsOn, IsOnBelow}}
 use Rattle.report_text_law.specs.Names.{are_values, ascends, is_chain, is_line, is_simplex, is_u32, is_term, is_unit, is_vertex, terms_ascend}
-use Rattle.certificate_law.specs.Names.{IsOn, IsOnBelow}
 
 same_test : (vs : List ℕ) → ascends vs ≡ is_ascending vs
 same_test (v ∷ w ∷ ws) = ap (λ (b : Bool). nat_lt v w && b) (same_test (w ∷ ws))

@@ -1,32 +1,15 @@
--- The certificate of a job is well formed: so it is spelled, and read back.
-use Rattle.std.proofs.Common.{◌≡◌, ℕ, zero, suc, ◌+◌, ◌*◌, ◌^◌, not, ◌<◌, ◌≤◌, ◌==◌, ◌&&◌, nat_le, true, IsTrue, inl, inr, refl, sym, ◌∙◌, ap, subst, arith, List, [], ◌∷◌, ◌++◌, length, map, get_or, flat_map, nat_lt, is_none, leb-true, lt-ltb, ltb-false, ltb-true}
-use Rattle.std.specs.List.{AllZip, list_all}
-use Rattle.std.specs.Ordering.{is_lt}
-use Rattle.std.proofs.lemmas.Bool.{and_from, and_parts, cases_eq, cases_lt}
-use Rattle.std.proofs.lemmas.List.{length-map}
+-- The certificate of a job is well formed: so it is spelled, and read back. It has fewer than 2^64 lines.
+use Rattle.std.{proofs.Common.{◌≡◌, ℕ, zero, suc, ◌+◌, ◌*◌, ◌^◌, not, ◌<◌, ◌≤◌, ◌==◌, ◌-◌, ◌&&◌, nat_le, true, IsTrue, inl, inr, refl, sym, ◌∙◌, ap, subst, arith, List, [], ◌∷◌, ◌++◌, length, map, get_or, flat_map, nat_lt, is_none, leb-true, length-append, lt-ltb, ltb-false, ltb-true}, specs.List.{AllZip, list_all}, specs.Ordering.is_lt, proofs.lemmas.Bool.{and_from, and_parts, cases_eq, cases_lt}, proofs.lemmas.List.length-map}
 use Rattle.fp_field.specs.Served.{served}
-use Rattle.signed_sum.specs.Names.{numbers_from}
-use Rattle.linear_law.specs.Names.{Among, Each, IsAscending}
-use Rattle.linear_law.proofs.Names.{apart_short, among_map, each_among, each_append, each_get_or, each_map, each_of_map, each_right, length_alike, each_of_index}
-use Rattle.simplicial_law.specs.Names.{IsInOrder, IsSimplex, Precedes, Chain, Cochain, IsCanonicalClass, AreCanonicalClasses, AreTerms, cochain_of, simplex_cmp}
-use Rattle.simplicial_law.specs.ListedSimplices.{simplices}
-use Rattle.simplicial_law.proofs.Names.{simplices_whole}
+use Rattle.signed_sum.{specs.Names.numbers_from, proofs.Names.length-numbers_from}
+use Rattle.linear_law.{specs.Names.{Among, Each, IsAscending}, proofs.Names.{apart_short, among_map, each_among, each_append, each_get_or, each_map, each_of_map, each_right, length_alike, each_of_index}}
+use Rattle.simplicial_law.{specs.Names.{IsInOrder, IsSimplex, Precedes, Chain, Cochain, IsCanonicalClass, AreCanonicalClasses, AreTerms, cochain_of, simplex_cmp}, specs.ListedSimplices.simplices, proofs.Names.simplices_whole}
 use Rattle.steenrod_law.specs.Names.{pull_back}
-use Rattle.certificate_law.specs.Types.{ComplexBlock, MapBlock, Sent, CartanAnswer, Yes, No, CartanPart, Column, OpWord, OperationPart, ProductPart, ComplexPart, DegreePart, InducedPart, MapPart, Block, Line as CartanLine, Product, TextLine as Line, below_line, class_line, facet_line, done_line, end_line}
-use Rattle.complex_file.specs.Names.{complex_fault, is_ascending, is_complex, is_facet, Spelled, image, is_vertex as is_vertex_of, are_distinct, facets_at, block_names, is_map, is_name, is_not_empty, name_at}
-use Rattle.complex_file.specs.Jobs.{is_job}
+use Rattle.certificate_law.{specs.Types.{ComplexBlock, MapBlock, Sent, CartanAnswer, Yes, No, CartanPart, Column, OpWord, OperationPart, ProductPart, ComplexPart, DegreePart, InducedPart, MapPart, Certificate, Report, Block, Line as CartanLine, Product, TextLine as Line, below_line, class_line, facet_line, done_line, end_line}, specs.Names.{FewLinesLaw, WellFormedLaw}, proofs.Building.at_index, proofs.CanonicalData.in_order_apart, proofs.CertifiedBases.{below_at, classes_at, no_degree}, proofs.FewLines.{AreFew, ascending_short, columns_long, few_blocks, few_lines_of, few_pairs, few_products, filter_short, flat_most, same_length, some_vertex}, proofs.JobBlocks.{FacetsFit, all_of, facets_fit, known_vertices, vertex_in}, proofs.JobLaw.kept_of, proofs.Places.EachAt, proofs.PivotCounts.{ascending_apart, simplex_same_or_not}}
+use Rattle.complex_file.specs.{Names.{complex_fault, is_ascending, is_complex, is_facet, Spelled, image, is_vertex as is_vertex_of, are_distinct, facets_at, block_names, is_map, is_name, is_not_empty, name_at}, Jobs.is_job}
 use Rattle.report.specs.declared.columns.OpWord.TheVariants as word
-use Rattle.report_law.specs.Names.{IsAnswer, IsColumn, IsPrimitive, IsPrimitiveAt, all_lines, blocks, class_numbers, degrees, has_class, is_defined, lines, lines_of_pair, products, Classes, IsOperationColumn, classes_in, cochains_in, line_degree, ranks, below_in, block_of, classes_of, op_named, op_of, line_of, number_pairs, numbers_of, product_of, ranks_of, unnumbered, AreTables, IsCartanPart, IsComplexPart, IsInducedPart, IsMapPart, IsMaximal, IsOperationPart, IsProductPart}
-use Rattle.report_law.proofs.Names.{has-degree, of-blocks, rank-of, get_or-past, of-filter, of-flat_map, of-map, of-numbers, IsMapOf, all-among, each-all, rest_in_order, ascends as ascending-list, complex-ascends, job-maps, no-fault}
-use Rattle.report_text_law.specs.Names.{certificate_lines, complex_lines, degree_lines, degrees_from, columns_from, pair_lines, product_lines, operation_lines, answer_lines, cartan_lines, table_lines, send_of, induced_lines, map_lines, are_values, ascends, is_chain, is_line, is_simplex, is_u32, is_term, is_unit, is_vertex, terms_ascend}
-use Rattle.report_text_law.specs.WellFormed.{is_well_formed}
-use Rattle.certificate_law.specs.Names.{WellFormedLaw}
-use Rattle.certificate_law.proofs.Building.{at_index}
-use Rattle.certificate_law.proofs.CanonicalData.{in_order_apart}
-use Rattle.certificate_law.proofs.CertifiedBases.{below_at, classes_at, no_degree}
-use Rattle.certificate_law.proofs.JobBlocks.{FacetsFit, all_of, facets_fit, known_vertices, vertex_in}
-use Rattle.certificate_law.proofs.Places.{EachAt}
-use Rattle.certificate_law.proofs.PivotCounts.{ascending_apart, simplex_same_or_not}
+use Rattle.report_law.{specs.Names.{IsAnswer, IsColumn, IsPrimitive, IsPrimitiveAt, all_lines, blocks, class_numbers, degrees, has_class, is_defined, lines, lines_of_pair, products, Classes, IsOperationColumn, classes_in, cochains_in, line_degree, ranks, below_in, block_of, classes_of, op_named, op_of, line_of, number_pairs, numbers_of, product_of, ranks_of, unnumbered, AreTables, IsCartanPart, IsComplexPart, IsInducedPart, IsMapPart, IsMaximal, IsOperationPart, IsProductPart, IsReportOf}, proofs.Names.{has-degree, of-blocks, rank-of, get_or-past, of-filter, of-flat_map, of-map, of-numbers, IsMapOf, all-among, each-all, rest_in_order, ascends as ascending-list, complex-ascends, job-maps, no-fault}}
+use Rattle.report_text_law.specs.{Names.{certificate_lines, complex_lines, degree_lines, degrees_from, columns_from, pair_lines, product_lines, operation_lines, answer_lines, cartan_lines, send_of, induced_lines, map_lines, are_values, ascends, is_chain, is_line, is_simplex, is_u32, is_term, is_unit, is_vertex, terms_ascend}, WellFormed.is_well_formed}
 
 -- ---- lists of lines
 
@@ -40,8 +23,25 @@ each_flat : {X : Type 0} (P : Line → Type 0) (f : X → List Line) (xs : List 
 each_flat P f [] h = tt
 each_flat P f (x ∷ xs) h = each_append P (f x) (flat_map f xs) (h x (inl refl)) (each_flat P f xs (λ y m. h y (inr m)))
 
-flat_parts : {X : Type 0} (p : ℕ) (P : X → Type 0) (f : X → List Line) (xs : List X) → ((x : X) → Among x xs → P x → Each (IsFine p) (f x)) → Each P xs → Each (IsFine p) (flat_map f xs)
-flat_parts p P f xs g h = each_flat (IsFine p) f xs (λ x m. g x m (each_among P x xs h m))
+-- the lines are well formed, and at most so many
+record Written (p most : ℕ) (ls : List Line) : Type 0 where
+  fine : Each (IsFine p) ls
+  few : length ls ≤ most
+
+written_append : (p a b : ℕ) (xs ys : List Line) → Written p a xs → Written p b ys → Written p (a + b) (xs ++ ys)
+written_append p a b xs ys v w = record {
+  fine = each_append (IsFine p) xs ys v.fine w.fine;
+  few = let e = length-append xs ys in let x = v.few in let y = w.few in omega (arith, e, x, y);
+}
+
+written_flat : {X : Type 0} (p k : ℕ) (P : X → Type 0) (f : X → List Line) (xs : List X) → ((x : X) → Among x xs → P x → Written p k (f x)) → Each P xs → Written p (k * length xs) (flat_map f xs)
+written_flat p k P f xs g h = record {
+  fine = each_flat (IsFine p) f xs (λ x m. (g x m (each_among P x xs h m)).fine);
+  few = flat_most f k xs (λ x m. (g x m (each_among P x xs h m)).few);
+}
+
+written_end : (p : ℕ) → Written p 1 (end_line ∷ [])
+written_end p = record { fine = (refl, tt); few = omega arith }
 
 -- ---- numbers
 
@@ -115,11 +115,6 @@ fine_columns p j (y ∷ ys) few h =
     (and_from (is_u32 j) (are_values p y.values) (small j (omega (arith, few))) h.0.0, (h.0.1, fine_columns p (j + 1) ys (omega (arith, few)) h.1))
 
 -- ---- live blocks and lines
-
--- at most 16 degrees, each with at most 100,000 classes
-pub record AreFew (ranks : List ℕ) : Type 0 where
-  pub degrees : length ranks ≤ 16
-  pub classes : (n : ℕ) → get_or ranks n 0 ≤ 100000
 
 low_product : (ranks : List ℕ) (x : Product) → Among x (products ranks) → (x.a < length ranks) × (x.b < length ranks)
 low_product ranks x m =
@@ -224,14 +219,30 @@ module _ (p : ℕ) (b : ComplexBlock) (c : ComplexPart) (good : Each (λ f. is_f
     classes = λ n. let l = few_classes n in let e = rank-of (classes_of c) n in omega (arith, l, e);
   }
 
-  fine_facets : Each (IsFine p) (map facet_line c.facets)
-  fine_facets = each_of_map (IsFine p) facet_line c.facets (each_map (λ f k. facet_fine f k) c.facets (part.facets refl).each)
+  written_facets : Written p 100000 (map facet_line c.facets)
+  written_facets = record {
+    fine = each_of_map (IsFine p) facet_line c.facets (each_map (λ f k. fine_facet f (each_among (λ f. is_facet f ≡ true) f b.facets good k.given)) c.facets (part.facets refl).each);
+    few = let l = few_maximal c.facets (part.facets refl).in_order (part.facets refl).each in let e = length-map c.facets facet_line in omega (arith, l, e);
+  }
     where
-      facet_fine : (f : List ℕ) → IsMaximal b.facets f → is_simplex f ≡ true
-      facet_fine f k = fine_facet f (each_among (λ f. is_facet f ≡ true) f b.facets good k.given)
+      few_maximal : (fs : List (List ℕ)) → IsInOrder fs → Each (IsMaximal b.facets) fs → length fs ≤ 100000
+      few_maximal [] order each = omega arith
+      few_maximal (f ∷ fs) order each =
+          let whole : (g : List ℕ) → Among g (f ∷ fs) → Among g (simplices b.facets) = λ g m.
+          let given = (each_among (IsMaximal b.facets) g (f ∷ fs) each m).given in
+          simplices_whole b.facets (length g - 1) g ascending (record {
+            ascending = each_among IsAscending g b.facets ascending given;
+            size = let l = some_vertex g (each_among (λ f. is_facet f ≡ true) g b.facets good given) in omega (arith, l);
+            facet = g;
+            listed = given;
+            within = each_of_index (λ (v : ℕ). Among v g) g (λ v k. k);
+          }) in
+          let l = apart_short simplex_same_or_not (f ∷ fs) (simplices b.facets) (in_order_apart (f ∷ fs) order) (each_of_index (λ (g : List ℕ). Among g (simplices b.facets)) (f ∷ fs) whole) in
+          let k = fit.few f each.0.given in
+          omega (arith, l, k)
 
-  fine_degree : (n : ℕ) → n < length c.degrees → Each (IsFine p) (degree_lines n (get_or c.degrees n no_degree))
-  fine_degree n l =
+  written_degree : (n : ℕ) → n < length c.degrees → Written p 200001 (degree_lines n (get_or c.degrees n no_degree))
+  written_degree n l =
       let d : DegreePart = get_or c.degrees n no_degree in
       let top = few_degrees in
       let h = few_classes n in
@@ -244,37 +255,56 @@ module _ (p : ℕ) (b : ComplexBlock) (c : ComplexPart) (good : Each (λ f. is_f
       (each_right R (λ ts. is_chain p ts ≡ true) (λ s ts q. fine_primitive b.facets low n p q.bound ts q.primitive) y.pivots (below_in c n) y.primitives) in
       let classes : Each (λ ts. is_chain p ts ≡ true) d.classes = subst (λ (zs : List Chain). Each (λ ts. is_chain p ts ≡ true) zs) (sym (classes_at c n))
       (each_map (λ ts q. fine_chain b.facets low n p ts q) (classes_in (classes_of c) n) z.terms) in
-      let rank : length d.classes ≤ 200000 = (let e = ap (λ (zs : List Chain). length zs) (classes_at c n) in omega (arith, h, e)) in (
-        and_from (is_u32 (n + 1)) (is_u32 (length d.classes)) (small (n + 1) (omega (arith, here, top))) (small (length d.classes) rank),
-        each_append (IsFine p) (map below_line d.below) (map class_line d.classes) (each_of_map (IsFine p) below_line d.below belows) (each_of_map (IsFine p) class_line d.classes classes),
-      )
+      let pivots = few_simplices n y.pivots y.are.in_order (each_map (λ s q. q.lead.on) y.pivots y.are.each) in
+      let short = length_alike R y.pivots (below_in c n) y.primitives in
+      let under = ap (λ (ys : List Chain). length ys) (below_at c n) in
+      let rank = ap (λ (zs : List Chain). length zs) (classes_at c n) in
+      let e = length-append (map below_line d.below) (map class_line d.classes) in
+      let f = length-map d.below below_line in
+      let g = length-map d.classes class_line in
+      record {
+        fine = (
+          and_from (is_u32 (n + 1)) (is_u32 (length d.classes)) (small (n + 1) (omega (arith, here, top))) (small (length d.classes) (omega (arith, h, rank))),
+          each_append (IsFine p) (map below_line d.below) (map class_line d.classes) (each_of_map (IsFine p) below_line d.below belows) (each_of_map (IsFine p) class_line d.classes classes),
+        );
+        few = omega (arith, h, pivots, short, under, rank, e, f, g);
+      }
 
-  fine_degrees : (n : ℕ) (ds : List DegreePart) → EachAt (λ n d. Each (IsFine p) (degree_lines n d)) n ds → Each (IsFine p) (degrees_from n ds)
+  written_degrees : (n : ℕ) (ds : List DegreePart) → EachAt (λ n d. Written p 200001 (degree_lines n d)) n ds → Written p (200001 * length ds) (degrees_from n ds)
   unfolding EachAt
-  fine_degrees n [] h = tt
-  fine_degrees n (d ∷ ds) h = each_append (IsFine p) (degree_lines n d) (degrees_from (n + 1) ds) h.0 (fine_degrees (n + 1) ds h.1)
+  written_degrees n [] h = record { fine = tt; few = omega arith }
+  written_degrees n (d ∷ ds) h =
+      let all = written_append p 200001 (200001 * length ds) (degree_lines n d) (degrees_from (n + 1) ds) h.0 (written_degrees (n + 1) ds h.1) in
+      record { fine = all.fine; few = let l = all.few in omega (arith, l) }
 
-  fine_product : (x : ProductPart) → Among x c.products → IsProductPart true b.facets p (classes_of c) x → Each (IsFine p) (product_lines x)
-  fine_product x m h =
+  written_product : (x : ProductPart) → Among x c.products → IsProductPart true b.facets p (classes_of c) x → Written p 30000000000 (product_lines x)
+  written_product x m h =
       let at = low_product (ranks_of c) (product_of x) (subst (λ (xs : List Product). Among (product_of x) xs) tables.products (among_map product_of x (product_of x) c.products m refl)) in
       let top = few.degrees in
       let n : ℕ = x.a + x.b in
       let R : Cochain → Column → Type 0 = λ z y. IsColumn true b.facets n p (cochains_in (classes_of c) n) z y.values y.primitive in
       let columns = each_right R (IsFineColumn p) (λ z y q. fine_column b.facets low n p (cochains_in (classes_of c) n) z y q) _ (map unnumbered x.columns) h.block in
       let left = few_classes x.a in
-      let right = few_classes x.b in (
-        and_from (is_u32 x.a) (is_u32 x.b) (small x.a (let l = at.0 in omega (arith, l, top))) (small x.b (let l = at.1 in omega (arith, l, top))),
-        each_flat (IsFine p) pair_lines x.columns (λ y k.
-            let t = low_pair (length (classes_in (classes_of c) x.a)) (length (classes_in (classes_of c) x.b)) (numbers_of y)
-            (subst (λ (ts : List (ℕ × ℕ)). Among (numbers_of y) ts) h.numbers (among_map numbers_of y (numbers_of y) x.columns k refl)) in
-            let f : IsFineColumn p (unnumbered y) = each_among (IsFineColumn p) (unnumbered y) (map unnumbered x.columns) columns (among_map unnumbered y (unnumbered y) x.columns k refl) in
-            let i = t.0 in
-            let j = t.1 in
-            (and_from (is_u32 y.i) (is_u32 y.j && are_values p y.values) (small y.i (omega (arith, i, left))) (and_from (is_u32 y.j) (are_values p y.values) (small y.j (omega (arith, j, right))) f.0), (f.1, tt))),
-      )
+      let right = few_classes x.b in
+      let e = same_length numbers_of x.columns _ h.numbers in
+      let many = few_pairs (length (classes_in (classes_of c) x.a)) (length (classes_in (classes_of c) x.b)) left right in
+      let two = flat_most pair_lines 2 x.columns (λ y m. omega arith) in
+      record {
+        fine = (
+          and_from (is_u32 x.a) (is_u32 x.b) (small x.a (let l = at.0 in omega (arith, l, top))) (small x.b (let l = at.1 in omega (arith, l, top))),
+          each_flat (IsFine p) pair_lines x.columns (λ y k.
+              let t = low_pair (length (classes_in (classes_of c) x.a)) (length (classes_in (classes_of c) x.b)) (numbers_of y)
+              (subst (λ (ts : List (ℕ × ℕ)). Among (numbers_of y) ts) h.numbers (among_map numbers_of y (numbers_of y) x.columns k refl)) in
+              let f : IsFineColumn p (unnumbered y) = each_among (IsFineColumn p) (unnumbered y) (map unnumbered x.columns) columns (among_map unnumbered y (unnumbered y) x.columns k refl) in
+              let i = t.0 in
+              let j = t.1 in
+              (and_from (is_u32 y.i) (is_u32 y.j && are_values p y.values) (small y.i (omega (arith, i, left))) (and_from (is_u32 y.j) (are_values p y.values) (small y.j (omega (arith, j, right))) f.0), (f.1, tt))),
+        );
+        few = omega (arith, e, many, two);
+      }
 
-  fine_operation : (x : OperationPart) → Among x c.operations → IsOperationPart true b.facets p (classes_of c) x → Each (IsFine p) (operation_lines x)
-  fine_operation x m h =
+  written_operation : (x : OperationPart) → Among x c.operations → IsOperationPart true b.facets p (classes_of c) x → Written p 200001 (operation_lines x)
+  written_operation x m h =
       let live : Among (block_of x) (blocks p (ranks_of c)) = subst (λ (bs : List Block). Among (block_of x) bs) tables.operations (among_map block_of x (block_of x) c.operations m refl) in
       let at = low_block p (ranks_of c) (block_of x) live in
       let k = low_number p x.from x (of-blocks p (ranks_of c) (block_of x) live).defined in
@@ -284,15 +314,20 @@ module _ (p : ℕ) (b : ComplexBlock) (c : ComplexPart) (good : Each (λ f. is_f
       let f = length-map (classes_in (classes_of c) x.from) cochain_of in
       let r = few_classes x.from in
       let from = at.0 in
-      let to = at.1 in (
-        and_from (is_u32 x.number) (is_u32 x.from && is_u32 x.to) (small x.number (omega (arith, k, from, top)))
-            (and_from (is_u32 x.from) (is_u32 x.to) (small x.from (omega (arith, from, top))) (small x.to (omega (arith, to, top)))),
-        fine_columns p 1 x.columns (omega (arith, e, f, r))
-            (each_right R (IsFineColumn p) (λ z y q. fine_column b.facets low x.to p (cochains_in (classes_of c) x.to) q.result y q.is_column) (cochains_in (classes_of c) x.from) x.columns h),
-      )
+      let to = at.1 in
+      let l = columns_long 1 x.columns in
+      record {
+        fine = (
+          and_from (is_u32 x.number) (is_u32 x.from && is_u32 x.to) (small x.number (omega (arith, k, from, top)))
+              (and_from (is_u32 x.from) (is_u32 x.to) (small x.from (omega (arith, from, top))) (small x.to (omega (arith, to, top)))),
+          fine_columns p 1 x.columns (omega (arith, e, f, r))
+              (each_right R (IsFineColumn p) (λ z y q. fine_column b.facets low x.to p (cochains_in (classes_of c) x.to) q.result y q.is_column) (cochains_in (classes_of c) x.from) x.columns h),
+        );
+        few = omega (arith, e, f, r, l);
+      }
 
-  fine_cartan : (x : CartanPart) → Among x c.cartans → IsCartanPart true b.facets p (classes_of c) x → Each (IsFine p) (cartan_lines x)
-  fine_cartan x m h =
+  written_cartan : (x : CartanPart) → Among x c.cartans → IsCartanPart true b.facets p (classes_of c) x → Written p 2 (cartan_lines x)
+  written_cartan x m h =
       let at = low_line p (ranks_of c) (line_of x) (subst (λ (ls : List CartanLine). Among (line_of x) ls) tables.cartans (among_map line_of x (line_of x) c.cartans m refl)) in
       let top = few.degrees in
       let left = few.classes x.a in
@@ -308,28 +343,44 @@ module _ (p : ℕ) (b : ComplexBlock) (c : ComplexPart) (good : Each (λ f. is_f
       degree = line_degree p (line_of x)
 
       fine_answer : is_u32 x.a ≡ true → is_u32 x.i ≡ true → is_u32 x.b ≡ true → is_u32 x.j ≡ true → is_u32 x.n ≡ true → (answer : CartanAnswer)
-          → IsAnswer true b.facets degree p (classes_in (classes_of c) degree) h.difference answer → Each (IsFine p) (answer_lines x.a x.i x.b x.j x.n answer)
-      fine_answer a i e j n (Yes primitive) k = (
-        and_from (is_u32 x.a) _ a (and_from (is_u32 x.i) _ i (and_from (is_u32 x.b) _ e (and_from (is_u32 x.j) (is_u32 x.n) j n))),
-        (fine_primitive b.facets low degree p h.difference primitive (k.1 refl), tt),
-      )
+          → IsAnswer true b.facets degree p (classes_in (classes_of c) degree) h.difference answer → Written p 2 (answer_lines x.a x.i x.b x.j x.n answer)
+      fine_answer a i e j n (Yes primitive) k = record {
+        fine = (and_from (is_u32 x.a) _ a (and_from (is_u32 x.i) _ i (and_from (is_u32 x.b) _ e (and_from (is_u32 x.j) (is_u32 x.n) j n))), (fine_primitive b.facets low degree p h.difference primitive (k.1 refl), tt));
+        few = omega arith;
+      }
       fine_answer a i e j n (No value cycle) k =
           let least : 0 < value = k.first.nonzero in
-          let most : value < p = subst (λ (v : ℕ). v < p) k.first.here (each_get_or (λ v. v < p) k.values k.place 0 k.first.inside k.coordinates.small) in (
-            and_from (is_u32 x.a) _ a (and_from (is_u32 x.i) _ i (and_from (is_u32 x.b) _ e (and_from (is_u32 x.j) _ j (and_from (is_u32 x.n) (is_unit p value) n
-                (and_from (nat_lt 0 value) (nat_lt value p) (lt-ltb 0 value least) (lt-ltb value p most)))))),
-            (fine_chain b.facets low degree p cycle (k.cycle_of refl).cycle_at.terms_are, tt),
-          )
+          let most : value < p = subst (λ (v : ℕ). v < p) k.first.here (each_get_or (λ v. v < p) k.values k.place 0 k.first.inside k.coordinates.small) in
+          record {
+            fine = (
+              and_from (is_u32 x.a) _ a (and_from (is_u32 x.i) _ i (and_from (is_u32 x.b) _ e (and_from (is_u32 x.j) _ j (and_from (is_u32 x.n) (is_unit p value) n
+                  (and_from (nat_lt 0 value) (nat_lt value p) (lt-ltb 0 value least) (lt-ltb value p most)))))),
+              (fine_chain b.facets low degree p cycle (k.cycle_of refl).cycle_at.terms_are, tt),
+            );
+            few = omega arith;
+          }
 
-  pub fine_complex : is_name b.name ≡ true → Each (IsFine p) (complex_lines c)
-  fine_complex named = (
-    ap is_name part.name ∙ named,
-    each_append (IsFine p) (map facet_line c.facets) (degrees_from 0 c.degrees ++ table_lines c) fine_facets
-        (each_append (IsFine p) (degrees_from 0 c.degrees) (table_lines c) (fine_degrees 0 c.degrees (at_index (λ n d. Each (IsFine p) (degree_lines n d)) no_degree c.degrees fine_degree))
-        (each_append (IsFine p) (flat_map product_lines c.products) _ (flat_parts p (IsProductPart true b.facets p (classes_of c)) product_lines c.products fine_product tables.product_parts)
-        (each_append (IsFine p) (flat_map operation_lines c.operations) _ (flat_parts p (IsOperationPart true b.facets p (classes_of c)) operation_lines c.operations fine_operation tables.operation_parts)
-        (each_append (IsFine p) (flat_map cartan_lines c.cartans) (end_line ∷ []) (flat_parts p (IsCartanPart true b.facets p (classes_of c)) cartan_lines c.cartans fine_cartan tables.cartan_parts) (refl, tt))))),
-  )
+  written_complex : is_name b.name ≡ true → Written p 170000000000000 (complex_lines c)
+  written_complex named =
+      let degrees : Written p (200001 * length c.degrees) (degrees_from 0 c.degrees) = written_degrees 0 c.degrees (at_index (λ n d. Written p 200001 (degree_lines n d)) no_degree c.degrees written_degree) in
+      let products = written_flat p 30000000000 (IsProductPart true b.facets p (classes_of c)) product_lines c.products written_product tables.product_parts in
+      let operations = written_flat p 200001 (IsOperationPart true b.facets p (classes_of c)) operation_lines c.operations written_operation tables.operation_parts in
+      let cartans = written_flat p 2 (IsCartanPart true b.facets p (classes_of c)) cartan_lines c.cartans written_cartan tables.cartan_parts in
+      let rest = written_append p 100000 _ (map facet_line c.facets) _ written_facets
+      (written_append p (200001 * length c.degrees) _ (degrees_from 0 c.degrees) _ degrees
+      (written_append p (30000000000 * length c.products) _ (flat_map product_lines c.products) _ products
+      (written_append p (200001 * length c.operations) _ (flat_map operation_lines c.operations) _ operations
+      (written_append p (2 * length c.cartans) 1 (flat_map cartan_lines c.cartans) (end_line ∷ []) cartans (written_end p))))) in
+      let all = rest.few in
+      let d = few_degrees in
+      let k = count in
+      let x = same_length product_of c.products _ tables.products in
+      let o = same_length block_of c.operations _ tables.operations in
+      let l = same_length line_of c.cartans _ tables.cartans in
+      let xs = few_products (ranks_of c) few in
+      let os = few_blocks (ranks_of c) few p in
+      let ls = few_lines_of (ranks_of c) few p in
+      record { fine = (ap is_name part.name ∙ named, rest.fine); few = omega (arith, all, d, k, x, o, l, xs, os, ls) }
 
 -- ---- a job
 
@@ -406,7 +457,7 @@ few_degrees_at p (b ∷ bs) (c ∷ cs) zero h z = few p b c h.0.good h.0.low h.0
 few_degrees_at p (b ∷ bs) (c ∷ cs) (suc k) h z = few_degrees_at p bs cs k h.1 z.1
 few_degrees_at p _ _ k h z = absurd z
 
-module _ (job : Spelled) (kept : IsWritable job) (cs : List ComplexPart) (all : AllZip (IsComplexPart true true job.prime) job.complexes cs) (b : MapBlock) (m : MapPart) (named : is_name b.name ≡ true) (is : IsMapOf job.complexes b)
+module _ (job : Spelled) (kept : IsWritable job) (cs : List ComplexPart) (all_parts : AllZip (IsComplexPart true true job.prime) job.complexes cs) (b : MapBlock) (m : MapPart) (named : is_name b.name ≡ true) (is : IsMapOf job.complexes b)
     (part : IsMapPart true job (map classes_of cs) b m) where
   abbrev from_classes : Classes
   from_classes = get_or (map classes_of cs) b.from []
@@ -422,62 +473,100 @@ module _ (job : Spelled) (kept : IsWritable job) (cs : List ComplexPart) (all : 
       (each_among (λ (s : Sent). Among s b.sends) s m.sends (part.sends refl).each k) in
       and_from (is_vertex s.from) (is_vertex s.to) (low_from F (low_facets job.complexes b.from kept.complexes) s.from known.0) (low_from G (low_facets job.complexes b.to kept.complexes) s.to known.1)
 
-  fine_induced : (x : InducedPart) → Among x m.induced → IsInducedPart true (image b.sends) (facets_at job.complexes b.from) job.prime from_classes to_classes x → Each (IsFine job.prime) (induced_lines x)
-  fine_induced x k h =
+  written_induced : (x : InducedPart) → Among x m.induced → IsInducedPart true (image b.sends) (facets_at job.complexes b.from) job.prime from_classes to_classes x → Written job.prime 200001 (induced_lines x)
+  written_induced x k h =
       let p : ℕ = job.prime in
       let live = of-filter (λ q. has_class (ranks from_classes) q && has_class (ranks to_classes) q) (degrees (ranks from_classes)) x.q
       (subst (λ (qs : List ℕ). Among x.q qs) part.induced (among_map (λ (x : InducedPart). x.q) x x.q m.induced k refl)) in
       let q = of-numbers x.q 0 (length (ranks from_classes)) live.0 in
-      let top = (few_degrees_at p job.complexes cs b.from kept.complexes all).degrees in
-      let rank = (few_degrees_at p job.complexes cs b.to kept.complexes all).classes x.q in
+      let top = (few_degrees_at p job.complexes cs b.from kept.complexes all_parts).degrees in
+      let rank = (few_degrees_at p job.complexes cs b.to kept.complexes all_parts).classes x.q in
       let r = rank-of to_classes x.q in
       let f = facets_at job.complexes b.from in
       let R : Cochain → Column → Type 0 = λ z y. IsColumn true f x.q p (cochains_in from_classes x.q) (pull_back (image b.sends) z) y.values y.primitive in
       let e = length_alike R (cochains_in to_classes x.q) x.columns h in
-      let n = length-map (classes_in to_classes x.q) cochain_of in (
-        small x.q (omega (arith, q, top)),
-        fine_columns p 1 x.columns (omega (arith, e, n, r, rank))
-            (each_right R (IsFineColumn p) (λ z y q. fine_column f (low_facets job.complexes b.from kept.complexes) x.q p (cochains_in from_classes x.q) _ y q) (cochains_in to_classes x.q) x.columns h),
-      )
+      let n = length-map (classes_in to_classes x.q) cochain_of in
+      let l = columns_long 1 x.columns in
+      record {
+        fine = (
+          small x.q (omega (arith, q, top)),
+          fine_columns p 1 x.columns (omega (arith, e, n, r, rank))
+              (each_right R (IsFineColumn p) (λ z y q. fine_column f (low_facets job.complexes b.from kept.complexes) x.q p (cochains_in from_classes x.q) _ y q) (cochains_in to_classes x.q) x.columns h),
+        );
+        few = omega (arith, e, n, r, rank, l);
+      }
 
-  fine_map : Each (IsFine job.prime) (map_lines m)
-  fine_map = (
-    and_from (is_name m.name) (is_name m.from && is_name m.to) (ap is_name part.name ∙ named)
-        (and_from (is_name m.from) (is_name m.to) (ap is_name part.from_name ∙ name_good job.complexes b.from is.from kept.complexes) (ap is_name part.to_name ∙ name_good job.complexes b.to is.to kept.complexes)),
-    each_append (IsFine job.prime) (map send_of m.sends) (flat_map induced_lines m.induced ++ end_line ∷ []) (each_of_map (IsFine job.prime) send_of m.sends (each_of_index (λ (s : Sent). IsFine job.prime (send_of s)) m.sends fine_send))
-        (each_append (IsFine job.prime) (flat_map induced_lines m.induced) (end_line ∷ [])
-        (flat_parts job.prime (IsInducedPart true (image b.sends) (facets_at job.complexes b.from) job.prime from_classes to_classes) induced_lines m.induced fine_induced part.induced_parts) (refl, tt)),
-  )
+  few_sends : length m.sends ≤ 1000000
+  few_sends =
+      let low = each_of_map (λ v. v < 1000000) (λ (s : Sent). s.from) m.sends (each_of_index (λ (s : Sent). s.from < 1000000) m.sends (λ s k.
+      let v = leb-true s.from 999999 (and_parts (is_vertex s.from) (is_vertex s.to) (fine_send s k)).0 in omega (arith, v))) in
+      let l = ascending_short 1000000 (map (λ (s : Sent). s.from) m.sends) (part.sends refl).ascending low in
+      let e = length-map m.sends (λ (s : Sent). s.from) in
+      omega (arith, l, e)
+
+  written_map : Written job.prime 5000000 (map_lines m)
+  written_map =
+      let p : ℕ = job.prime in
+      let sends : Written p 1000000 (map send_of m.sends) = record {
+        fine = each_of_map (IsFine p) send_of m.sends (each_of_index (λ (s : Sent). IsFine p (send_of s)) m.sends fine_send);
+        few = let l = few_sends in let s = length-map m.sends send_of in omega (arith, l, s);
+      } in
+      let blocks = written_flat p 200001 (IsInducedPart true (image b.sends) (facets_at job.complexes b.from) p from_classes to_classes) induced_lines m.induced written_induced part.induced_parts in
+      let rest = written_append p 1000000 _ (map send_of m.sends) _ sends (written_append p (200001 * length m.induced) 1 (flat_map induced_lines m.induced) (end_line ∷ []) blocks (written_end p)) in
+      let all = rest.few in
+      let e = same_length (λ (x : InducedPart). x.q) m.induced _ part.induced in
+      let f = filter_short (λ q. has_class (ranks from_classes) q && has_class (ranks to_classes) q) (degrees (ranks from_classes)) in
+      let n = length-numbers_from 0 (length (ranks from_classes)) in
+      let top = (few_degrees_at p job.complexes cs b.from kept.complexes all_parts).degrees in
+      record {
+        fine = (
+          and_from (is_name m.name) (is_name m.from && is_name m.to) (ap is_name part.name ∙ named)
+              (and_from (is_name m.from) (is_name m.to) (ap is_name part.from_name ∙ name_good job.complexes b.from is.from kept.complexes) (ap is_name part.to_name ∙ name_good job.complexes b.to is.to kept.complexes)),
+          rest.fine,
+        );
+        few = omega (arith, all, e, f, n, top);
+      }
 
 -- ---- the report
 
 module _ (job : Spelled) (kept : IsWritable job) (cs : List ComplexPart) (all : AllZip (IsComplexPart true true job.prime) job.complexes cs) where
-  fine_complexes : (bs : List ComplexBlock) (ds : List ComplexPart) → Each IsSound bs → AllZip (IsComplexPart true true job.prime) bs ds → Each (IsFine job.prime) (flat_map complex_lines ds)
-  fine_complexes [] [] s h = tt
-  fine_complexes (b ∷ bs) (d ∷ ds) s h =
-      each_append (IsFine job.prime) (complex_lines d) (flat_map complex_lines ds) (fine_complex job.prime b d s.0.good s.0.low s.0.fit s.0.ascending h.0 s.0.named) (fine_complexes bs ds s.1 h.1)
-  fine_complexes _ _ s h = absurd h
+  written_complexes : (bs : List ComplexBlock) (ds : List ComplexPart) → Each IsSound bs → AllZip (IsComplexPart true true job.prime) bs ds → Written job.prime (170000000000000 * length bs) (flat_map complex_lines ds)
+  written_complexes [] [] s h = record { fine = tt; few = omega arith }
+  written_complexes (b ∷ bs) (d ∷ ds) s h =
+      let both = written_append job.prime 170000000000000 _ (complex_lines d) (flat_map complex_lines ds) (written_complex job.prime b d s.0.good s.0.low s.0.fit s.0.ascending h.0 s.0.named) (written_complexes bs ds s.1 h.1) in
+      record { fine = both.fine; few = let l = both.few in omega (arith, l) }
+  written_complexes _ _ s h = absurd h
 
-  fine_maps : (bs : List MapBlock) (ms : List MapPart) → list_all is_name (map (λ m. m.name) bs) ≡ true → Each (IsMapOf job.complexes) bs → AllZip (IsMapPart true job (map classes_of cs)) bs ms
-      → Each (IsFine job.prime) (flat_map map_lines ms)
-  fine_maps [] [] n s h = tt
-  fine_maps (b ∷ bs) (m ∷ ms) n s h =
+  written_maps : (bs : List MapBlock) (ms : List MapPart) → list_all is_name (map (λ m. m.name) bs) ≡ true → Each (IsMapOf job.complexes) bs → AllZip (IsMapPart true job (map classes_of cs)) bs ms
+      → Written job.prime (5000000 * length bs) (flat_map map_lines ms)
+  written_maps [] [] n s h = record { fine = tt; few = omega arith }
+  written_maps (b ∷ bs) (m ∷ ms) n s h =
       let names = and_parts (is_name b.name) (list_all is_name (map (λ (m : MapBlock). m.name) bs)) n in
-      each_append (IsFine job.prime) (map_lines m) (flat_map map_lines ms) (fine_map job kept cs all b m names.0 s.0 h.0) (fine_maps bs ms names.1 s.1 h.1)
-  fine_maps _ _ n s h = absurd h
+      let both = written_append job.prime 5000000 _ (map_lines m) (flat_map map_lines ms) (written_map job kept cs all b m names.0 s.0 h.0) (written_maps bs ms names.1 s.1 h.1) in
+      record { fine = both.fine; few = let l = both.few in omega (arith, l) }
+  written_maps _ _ n s h = absurd h
+
+written_job : (job : Spelled) (r : Report) → is_job job.prime job.complexes job.maps ≡ true → IsReportOf Certificate job r
+    → Written job.prime (170000000000000 * length job.complexes + (5000000 * length job.maps + 3)) (certificate_lines job.prime r.complexes r.maps)
+written_job job r is h =
+    let p : ℕ = job.prime in
+    let kept = writable job is in
+    let done : Written p 1 (done_line ∷ []) = record { fine = (refl, tt); few = omega arith } in
+    let rest = written_append p _ _ (flat_map complex_lines r.complexes) _ (written_complexes job kept r.complexes h.complexes job.complexes r.complexes kept.complexes h.complexes)
+    (written_append p _ 1 (flat_map map_lines r.maps) (done_line ∷ []) (written_maps job kept r.complexes h.complexes job.maps r.maps kept.names (job-maps p job.complexes job.maps is) (h.maps refl)) done) in
+    let all = rest.few in
+    record { fine = (refl, (kept.prime, rest.fine)); few = omega (arith, all) }
 
 pub well_formed_law : WellFormedLaw
 unfolding is_well_formed
 well_formed_law job r is h =
-    let p : ℕ = job.prime in
-    let kept = writable job is in
-    let complexes = fine_complexes job kept r.complexes h.complexes job.complexes r.complexes kept.complexes h.complexes in
-    let maps = fine_maps job kept r.complexes h.complexes job.maps r.maps kept.names (job-maps p job.complexes job.maps is) (h.maps refl) in
-    let lines : Each (IsFine p) (certificate_lines p r.complexes r.maps) = (
-      refl,
-      (
-        kept.prime,
-        each_append (IsFine p) (flat_map complex_lines r.complexes) (flat_map map_lines r.maps ++ done_line ∷ []) complexes (each_append (IsFine p) (flat_map map_lines r.maps) (done_line ∷ []) maps (refl, tt)),
-      ),
-    ) in
-    subst (λ (q : ℕ). list_all (is_line q) (certificate_lines q r.complexes r.maps) ≡ true) (sym h.prime) (all_fine p (certificate_lines p r.complexes r.maps) lines)
+    subst (λ (q : ℕ). list_all (is_line q) (certificate_lines q r.complexes r.maps) ≡ true) (sym h.prime)
+    (all_fine job.prime (certificate_lines job.prime r.complexes r.maps) (written_job job r is h).fine)
+
+pub few_lines_law : FewLinesLaw
+few_lines_law job r is h =
+    let counts = kept_of job.prime job.complexes job.maps is in
+    let a = counts.complexes in
+    let b = counts.maps in
+    let all = (written_job job r is h).few in
+    omega (arith, all, a, b)

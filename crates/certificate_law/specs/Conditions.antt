@@ -4,11 +4,8 @@ use Rattle.linear_law.specs.Names.{Congruent, Each, combination}
 use Rattle.simplicial_law.specs.Names.{IsSimplex, AgreesOnSimplices, Chain, Cochain, IsCocycle, coboundary, pairing, cochain_of}
 use Rattle.steenrod_law.specs.Names.{cup_product, pull_back}
 use Rattle.complex_file.specs.Names.{facet_fault, has_name, end_fault, send_fault}
-use Rattle.certificate_law.specs.Types.{CartanAnswer, Yes, No, CartanPart, Column, OperationPart, PairColumn, ProductPart, ComplexPart, InducedPart, MapPart}
+use Rattle.certificate_law.specs.{Types.{CartanAnswer, Yes, No, CartanPart, Column, OperationPart, PairColumn, ProductPart, ComplexPart, InducedPart, MapPart}, ListedDegrees.{HasNewLeast, IsCounted, IsOn, IsOnBelow, coboundaries_of, simplex_count}, Parts.{rank_in, sent_by}, Stated.{Stated, complex_opens, facet_stands, degree_opens, below_stands, class_stands, product_opens, product_column, operation_opens, operation_column, cartan_stands, complex_ends, map_opens, send_stands, induced_opens, induced_column, map_ends, finish}}
 use Rattle.report_law.specs.Names.{IsOperation, boundary_coefficient, listed, blocks, induced_degrees, lines, products, IsLineDifference, class_at, line_degree, below_in, block_of, classes_of, line_of, number_pairs, numbers_of, op_of, product_of, ranks_of, passing_sum, sizes_of}
-use Rattle.certificate_law.specs.ListedDegrees.{HasNewLeast, IsCounted, IsOn, IsOnBelow, coboundaries_of, simplex_count}
-use Rattle.certificate_law.specs.Parts.{rank_in, sent_by}
-use Rattle.certificate_law.specs.Stated.{Stated, complex_opens, facet_stands, degree_opens, below_stands, class_stands, product_opens, product_column, operation_opens, operation_column, cartan_stands, complex_ends, map_opens, send_stands, induced_opens, induced_column, map_ends, finish}
 
 -- ---- 1: the blocks are those of a job
 

@@ -1,15 +1,10 @@
 -- The laws of certificates.
 use Rattle.std.specs.Prelude.{◌≡◌, ℕ, ◌+◌, ◌<◌, ◌^◌, true, map, length}
 use Rattle.linear_law.specs.Names.{Each}
-use Rattle.complex_file.specs.Names.{Spelled}
-use Rattle.complex_file.specs.Jobs.{is_job}
-use Rattle.certificate_law.specs.Types.{CartanAnswer, Yes, No, CartanPart, Certificate, Report, MapPart, TextLine as Line, below_line, cartan_no, cartan_yes, class_line, column_line, complex_line, cycle_line, done_line, end_line, facet_line, heading_line, map_line, prime_line, with_line, degree_line, induced_line, operation_line, pair_line, product_line}
+use Rattle.complex_file.specs.{Names.Spelled, Jobs.is_job}
+use Rattle.certificate_law.specs.{Types.{CartanAnswer, Yes, No, CartanPart, Certificate, Report, MapPart, TextLine as Line, below_line, cartan_no, cartan_yes, class_line, column_line, complex_line, cycle_line, done_line, end_line, facet_line, heading_line, map_line, prime_line, with_line, degree_line, induced_line, operation_line, pair_line, product_line}, Certifies.{Certifies, FailsFirst}, Parts.{complex_named, itself, sent_by}, Stated.{Stated, stated, heading, prime_is, complex_opens, facet_stands, degree_opens, below_stands, class_stands, product_opens, product_column, operation_opens, operation_column, cartan_stands, with_stands, cycle_stands, complex_ends, map_opens, send_stands, induced_opens, induced_column, map_ends, finish}}
 use Rattle.report_law.specs.Names.{ComplexPromise, InducedPromise, IsReportOf, IsWithinLimit}
-use Rattle.report_text_law.specs.Names.{certificate_lines, send_of}
-use Rattle.report_text_law.specs.WellFormed.{is_well_formed}
-use Rattle.certificate_law.specs.Certifies.{Certifies, FailsFirst}
-use Rattle.certificate_law.specs.Parts.{complex_named, itself, sent_by}
-use Rattle.certificate_law.specs.Stated.{Stated, stated, heading, prime_is, complex_opens, facet_stands, degree_opens, below_stands, class_stands, product_opens, product_column, operation_opens, operation_column, cartan_stands, with_stands, cycle_stands, complex_ends, map_opens, send_stands, induced_opens, induced_column, map_ends, finish}
+use Rattle.report_text_law.specs.{Names.{certificate_lines, send_of}, WellFormed.is_well_formed}
 
 -- A report that certifies has no failure, and no report has two first failures.
 pub record FirstFailureLaw : Type 0 where

@@ -1,8 +1,7 @@
 -- Listed cochains and classes of a complex: least simplices, degrees and counts, which are tested without eliminating anything.
 use Rattle.std.specs.Prelude.{◌≡◌, ℕ, ◌+◌, List, map, length}
 use Rattle.linear_law.specs.Names.{Each, IsLead}
-use Rattle.simplicial_law.specs.Names.{IsSimplex, Precedes, Chain, Cochain, coboundary, cochain_of, of_degree}
-use Rattle.simplicial_law.specs.ListedSimplices.{simplices}
+use Rattle.simplicial_law.specs.{Names.{IsSimplex, Precedes, Chain, Cochain, coboundary, cochain_of, of_degree}, ListedSimplices.simplices}
 
 -- s is the least simplex of degree n at which z is not zero
 abbrev pub IsLeastSimplex : List (List ℕ) → ℕ → ℕ → Cochain → List ℕ → Type 0

@@ -1,6 +1,5 @@
 -- What is read off a report: ranks, the complexes of its maps, and where its maps send a vertex.
-use Rattle.std.specs.Prelude.{ℕ, if◌then◌else◌, List, [], ◌∷◌, length}
-use Rattle.std.specs.Str.{bytes_eq}
+use Rattle.std.specs.{Prelude.{ℕ, if◌then◌else◌, List, [], ◌∷◌, length}, Str.bytes_eq}
 use Rattle.certificate_law.specs.Types.{ComplexBlock, ComplexPart, MapPart}
 use Rattle.complex_file.specs.Names.{image}
 use Rattle.report_law.specs.Names.{classes_in, classes_of}

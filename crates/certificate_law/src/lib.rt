@@ -4,11 +4,13 @@
 ghost use Rattle.certificate_law.specs.Names.{CertifiedLaw, CompleteLaw, FewLinesLaw, FirstFailureLaw, StatedLinesLaw, WellFormedLaw, SectionLaw};
 
 /// A report that certifies does not fail, and no report fails first at two lines or at two conditions.
+#[tactic(auto, using(crate::proofs::Failures::first_failure_law))]
 pub fn first_failure_law()
     ensures { FirstFailureLaw }
 {}
 
 /// Where a report certifies, the headline holds of what it lists.
+#[tactic(auto, using(crate::proofs::CertifiedParts::certified_law))]
 pub fn certified_law()
     ensures { CertifiedLaw }
 {}
@@ -19,6 +21,7 @@ pub fn stated_lines_law()
 {}
 
 /// Lines that are walked in two sections.
+#[tactic(auto, using(crate::proofs::Sections::section_law))]
 pub fn section_law()
     ensures { SectionLaw }
 {}

@@ -1,13 +1,9 @@
 -- What the listed blocks are, and the matrices of those that are not listed.
-use Rattle.std.proofs.Common.{◌≡◌, ℕ, suc, ◌+◌, ◌*◌, ◌<◌, ◌≤◌, ◌⊎◌, inl, inr, ◌&&◌, ◌==◌, Bool, true, not, cond, List, [], ◌∷◌, map, length, get_or, arith, refl, sym, ap, subst, ◌∙◌, flat_map, nat_le, nat_lt, eqb-true, leb-true, ltb-true, lt-ltb, true≢false}
-use Rattle.std.proofs.lemmas.Bool.{and_from, and_parts, cases_Bool, cases_lt}
+use Rattle.std.proofs.{Common.{◌≡◌, ℕ, suc, ◌+◌, ◌*◌, ◌<◌, ◌≤◌, ◌⊎◌, inl, inr, ◌&&◌, ◌==◌, Bool, true, not, cond, List, [], ◌∷◌, map, length, get_or, arith, refl, sym, ap, subst, ◌∙◌, flat_map, nat_le, nat_lt, eqb-true, leb-true, ltb-true, lt-ltb, true≢false}, lemmas.Bool.{and_from, and_parts, cases_Bool, cases_lt}}
 use Rattle.signed_sum.specs.Names.{numbers_from}
-use Rattle.linear_law.specs.Names.{Among}
-use Rattle.linear_law.proofs.Names.{among_map}
+use Rattle.linear_law.{specs.Names.Among, proofs.Names.among_map}
 use Rattle.simplicial_law.specs.Names.{Chain}
-use Rattle.report_law.specs.Types.{OperationPart, InducedPart, Block, Op, Square, Power, BocksteinPower}
-use Rattle.report_law.specs.Names.{block_on, blocks, degrees, has_class, induced_degrees, is_defined, operations, target_degree, Classes, classes_in, ranks, block_of, induced_matrix_among, is_same_op, matrix_of, op_of, operation_matrix_among}
-use Rattle.report_law.proofs.Lists.{get_or-past, in-filter, in-flat_map, in-numbers, of-filter, of-flat_map, of-map}
+use Rattle.report_law.{specs.Types.{OperationPart, InducedPart, Block, Op, Square, Power, BocksteinPower}, specs.Names.{block_on, blocks, degrees, has_class, induced_degrees, is_defined, operations, target_degree, Classes, classes_in, ranks, block_of, induced_matrix_among, is_same_op, matrix_of, op_of, operation_matrix_among}, proofs.Lists.{get_or-past, in-filter, in-flat_map, in-numbers, of-filter, of-flat_map, of-map}}
 
 -- ---- live blocks
 

@@ -1,10 +1,7 @@
 -- The coboundaries of one degree have reduced rows, in every complex.
 use Rattle.std.proofs.Common.{◌≡◌, ℕ, zero, suc, ◌+◌, ◌<◌, inl, inr, List, [], ◌∷◌, map, length, get_or, arith, sym, ap, subst, ◌∙◌}
-use Rattle.linear_law.specs.Names.{Congruent, IsField, IsImage, IsLinear, ListsAll, Among, Each, IsAscending, IsReduced, IsReducedBasis, CountedWalk, HasReducedBasis, PlacedVector, image_place, place_of}
-use Rattle.linear_law.proofs.Names.{Congruent_refl, each_of_map, each_zip, unit_sum-spans, image_basis, image_pivot, counted_walk}
-use Rattle.simplicial_law.specs.Names.{IsInOrder, IsSimplex, Cochain, IsCoboundary, coboundary, unit_cochain, IsCoboundaryPivot, of_degree, IsCoboundaryByPlace, cochain_at}
-use Rattle.simplicial_law.specs.ListedSimplices.{simplices}
-use Rattle.simplicial_law.proofs.Names.{no_bounds, listed_simplices_law, lead_up, pivot_down, unit_away, unit_here, coboundary_down, coboundary_up, linear}
+use Rattle.linear_law.{specs.Names.{Congruent, IsField, IsImage, IsLinear, ListsAll, Among, Each, IsAscending, IsReduced, IsReducedBasis, CountedWalk, HasReducedBasis, PlacedVector, image_place, place_of}, proofs.Names.{Congruent_refl, each_of_map, each_zip, unit_sum-spans, image_basis, image_pivot, counted_walk}}
+use Rattle.simplicial_law.{specs.Names.{IsInOrder, IsSimplex, Cochain, IsCoboundary, coboundary, unit_cochain, IsCoboundaryPivot, of_degree, IsCoboundaryByPlace, cochain_at}, specs.ListedSimplices.simplices, proofs.Names.{no_bounds, listed_simplices_law, lead_up, pivot_down, unit_away, unit_here, coboundary_down, coboundary_up, linear}}
 
 -- a simplex and a cochain
 abbrev pub Row : Type 0

@@ -1,14 +1,8 @@
 -- The canonical classes and coboundaries of one degree: coboundaries by their values at the pivots, and a basis.
-use Rattle.std.proofs.Common.{◌≡◌, ℕ, suc, ◌+◌, ◌*◌, ◌-◌, ◌<◌, ◌⊎◌, inl, inr, List, [], ◌∷◌, map, length, get_or, arith, refl, sym, ap, subst, ◌∙◌}
-use Rattle.std.specs.List.{AllZip}
-use Rattle.std.proofs.lemmas.List.{length-map}
-use Rattle.linear_law.specs.Names.{Congruent, IsField, negated, Among, Each, IsAscending, ListsAll, IsCanonical, IsPivot, IsReduced, IsSubspace, combination, expansion}
-use Rattle.linear_law.proofs.Names.{Congruent_add, Congruent_from, Congruent_of, Congruent_scale, Congruent_sym, Congruent_trans, add-negated, zero_if, each_among, each_map, each_of_map, each_unmap, each_zip, same_or_not, coefficients, coefficients_count, coefficients_small, combination_expanded, combination_in, combination_vanishes, expanded_in, same_coefficients, sum_picks}
-use Rattle.simplicial_law.specs.Names.{IsInOrder, IsSimplex, Precedes, AgreesOnSimplices, Chain, Cochain, HasCoordinates, IsCoboundary, IsCocycle, IsCohomologyBasis, IsCanonicalClass, IsCanonicalCoboundary, IsCoboundaryPivot, IsCocyclePivot, AreCanonicalBases, AreCanonicalClasses, IsCanonicalBasis, cochain_of, cochain_at, of_degree}
-use Rattle.simplicial_law.specs.ListedSimplices.{simplices}
-use Rattle.simplicial_law.proofs.Names.{bounds_close, coboundaries, cocycles, listed_simplices_law, lists_compare, lists_strict, agree_by_place, cochain_at-value, lead_up}
-use Rattle.report_law.specs.Names.{AreClasses, Classes}
-use Rattle.report_law.proofs.BoundRows.{BoundRows, Row, bound-rows, lead, value}
+use Rattle.std.{proofs.Common.{◌≡◌, ℕ, suc, ◌+◌, ◌*◌, ◌-◌, ◌<◌, ◌⊎◌, inl, inr, List, [], ◌∷◌, map, length, get_or, arith, refl, sym, ap, subst, ◌∙◌}, specs.List.AllZip, proofs.lemmas.List.length-map}
+use Rattle.linear_law.{specs.Names.{Congruent, IsField, negated, Among, Each, IsAscending, ListsAll, IsCanonical, IsPivot, IsReduced, IsSubspace, combination, expansion}, proofs.Names.{Congruent_add, Congruent_from, Congruent_of, Congruent_scale, Congruent_sym, Congruent_trans, add-negated, zero_if, each_among, each_map, each_of_map, each_unmap, each_zip, same_or_not, coefficients, coefficients_count, coefficients_small, combination_expanded, combination_in, combination_vanishes, expanded_in, same_coefficients, sum_picks}}
+use Rattle.simplicial_law.{specs.Names.{IsInOrder, IsSimplex, Precedes, AgreesOnSimplices, Chain, Cochain, HasCoordinates, IsCoboundary, IsCocycle, IsCohomologyBasis, IsCanonicalClass, IsCanonicalCoboundary, IsCoboundaryPivot, IsCocyclePivot, AreCanonicalBases, AreCanonicalClasses, IsCanonicalBasis, cochain_of, cochain_at, of_degree}, specs.ListedSimplices.simplices, proofs.Names.{bounds_close, coboundaries, cocycles, listed_simplices_law, lists_compare, lists_strict, agree_by_place, cochain_at-value, lead_up}}
+use Rattle.report_law.{specs.Names.{AreClasses, Classes}, proofs.BoundRows.{BoundRows, Row, bound-rows, lead, value}}
 
 -- ---- lists
 

@@ -1,22 +1,10 @@
 -- The bases of a listed complex, and what its matrices carry.
-use Rattle.std.proofs.Common.{◌≡◌, Bool, ℕ, ◌+◌, inl, inr, true, List, [], ◌∷◌, map, length, arith, refl, sym, ap, subst, ◌∙◌, IsTrue}
-use Rattle.std.specs.List.{AllZip}
-use Rattle.std.proofs.lemmas.List.{length-map}
-use Rattle.fp_field.specs.Served.{served}
-use Rattle.fp_field.proofs.ServedLemmas.{served_field}
-use Rattle.linear_law.specs.Names.{IsField, Among, Each, matrix_times}
-use Rattle.linear_law.proofs.Names.{Congruent_refl, among_map, each_among}
+use Rattle.std.{proofs.Common.{◌≡◌, Bool, ℕ, ◌+◌, inl, inr, true, List, [], ◌∷◌, map, length, arith, refl, sym, ap, subst, ◌∙◌, IsTrue}, specs.List.AllZip, proofs.lemmas.List.length-map}
+use Rattle.fp_field.{specs.Served.served, proofs.ServedLemmas.served_field, specs.Orbits.orbit_words}
+use Rattle.linear_law.{specs.Names.{IsField, Among, Each, matrix_times}, proofs.Names.{Congruent_refl, among_map, each_among}}
 use Rattle.simplicial_law.specs.Names.{Chain, Cochain, HasCoordinates, IsCocycle, IsCohomologyBasis, cochain_of}
-use Rattle.steenrod_law.proofs.ClassLaws.{matrix-law, product-closed, product-matrix}
-use Rattle.fp_field.specs.Orbits.{orbit_words}
-use Rattle.steenrod_law.proofs.OrbitTables.{orbit_words_law}
-use Rattle.steenrod_law.specs.Names.{cochain_products, scaled_operation, copies}
-use Rattle.report_law.specs.Types.{Column, OperationPart, PairColumn, ProductPart, ComplexPart, Block, Op}
-use Rattle.report_law.specs.Names.{IsColumn, IsOperation, BasesPromise, listed, OperationPromise, ProductPromise, block_on, blocks, element_degree, is_defined, target_degree, IsOperationColumn, classes_in, ranks, block_of, classes_of, matrix_of, op_of, operation_matrix, unnumbered, IsOperationPart, IsProductPart}
-use Rattle.report_law.proofs.Blocks.{in-blocks, matrix-found, of-blocks, rank-or-none}
-use Rattle.report_law.proofs.Coordinates.{AreBases, agrees-sym, coordinates-alike, no-coordinates}
-use Rattle.report_law.proofs.Lists.{each-of}
-use Rattle.report_law.proofs.ScaledForms.{IsScaled, scaled, scaled-closed}
+use Rattle.steenrod_law.{proofs.ClassLaws.{matrix-law, product-closed, product-matrix}, proofs.OrbitTables.orbit_words_law, specs.Names.{cochain_products, scaled_operation, copies}}
+use Rattle.report_law.{specs.Types.{Column, OperationPart, PairColumn, ProductPart, ComplexPart, Block, Op}, specs.Names.{IsColumn, IsOperation, BasesPromise, listed, OperationPromise, ProductPromise, block_on, blocks, element_degree, is_defined, target_degree, IsOperationColumn, classes_in, ranks, block_of, classes_of, matrix_of, op_of, operation_matrix, unnumbered, IsOperationPart, IsProductPart}, proofs.Blocks.{in-blocks, matrix-found, of-blocks, rank-or-none}, proofs.Coordinates.{AreBases, agrees-sym, coordinates-alike, no-coordinates}, proofs.Lists.each-of, proofs.ScaledForms.{IsScaled, scaled, scaled-closed}}
 
 module _ (facets : List (List ℕ)) (p : ℕ) (is_served : IsTrue (served p)) (c : ComplexPart) (are : AreBases facets p (classes_of c)) where
   abbrev field : IsField p

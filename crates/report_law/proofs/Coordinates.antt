@@ -1,13 +1,8 @@
 -- Coordinates of cochains that agree, and of columns.
-use Rattle.std.proofs.Common.{◌≡◌, ℕ, suc, ◌+◌, ◌*◌, ◌<◌, inl, inr, List, [], ◌∷◌, map, length, get_or, arith, refl, sym, ap, subst, ◌∙◌}
-use Rattle.std.proofs.lemmas.Bool.{cases_lt}
-use Rattle.std.proofs.lemmas.List.{length-map}
-use Rattle.linear_law.specs.Names.{negated, Each, combination}
-use Rattle.linear_law.proofs.Names.{Congruent_add, Congruent_from, Congruent_of, Congruent_refl, Congruent_sym, Congruent_trans, add-negated}
-use Rattle.simplicial_law.specs.Names.{AgreesOnSimplices, Chain, Cochain, HasCoordinates, IsCoboundary, IsCocycle, IsCohomologyBasis, AreCanonicalBases, cochain_of, IsSimplex}
-use Rattle.simplicial_law.proofs.Names.{bounds_close, coboundaries, cocycles}
-use Rattle.report_law.specs.Names.{Classes, classes_in, cochains_in}
-use Rattle.report_law.proofs.Lists.{get_or-past}
+use Rattle.std.proofs.{Common.{◌≡◌, ℕ, suc, ◌+◌, ◌*◌, ◌<◌, inl, inr, List, [], ◌∷◌, map, length, get_or, arith, refl, sym, ap, subst, ◌∙◌}, lemmas.Bool.cases_lt, lemmas.List.length-map}
+use Rattle.linear_law.{specs.Names.{negated, Each, combination}, proofs.Names.{Congruent_add, Congruent_from, Congruent_of, Congruent_refl, Congruent_sym, Congruent_trans, add-negated}}
+use Rattle.simplicial_law.{specs.Names.{AgreesOnSimplices, Chain, Cochain, HasCoordinates, IsCoboundary, IsCocycle, IsCohomologyBasis, AreCanonicalBases, cochain_of, IsSimplex}, proofs.Names.{bounds_close, coboundaries, cocycles}}
+use Rattle.report_law.{specs.Names.{Classes, classes_in, cochains_in}, proofs.Lists.get_or-past}
 
 pub agrees-sym : {facets : List (List ℕ)} {n p : ℕ} {a b : Cochain} → AgreesOnSimplices facets n p a b → AgreesOnSimplices facets n p b a
 agrees-sym h = record { at = λ s on. Congruent_sym (h.at s on) }

@@ -1,16 +1,9 @@
 -- Canonical cycles: they are cycles, and they read the coordinates of a class.
-use Rattle.std.proofs.Common.{◌≡◌, ◌≢◌, ℕ, zero, suc, ◌+◌, ◌*◌, ◌-◌, ◌<◌, inl, inr, List, [], ◌∷◌, map, length, get_or, arith, refl, sym, ap, ap₂, subst, ◌∙◌}
-use Rattle.std.specs.List.{AllZip}
-use Rattle.std.proofs.lemmas.List.{length-map}
+use Rattle.std.{proofs.Common.{◌≡◌, ◌≢◌, ℕ, zero, suc, ◌+◌, ◌*◌, ◌-◌, ◌<◌, inl, inr, List, [], ◌∷◌, map, length, get_or, arith, refl, sym, ap, ap₂, subst, ◌∙◌}, specs.List.AllZip, proofs.lemmas.List.length-map}
 use native.Mathlib.Nat.{zero-mod}
-use Rattle.linear_law.specs.Names.{Congruent, IsField, negated, sum_over, Among, Each, IsAscending, IsReduced, combination, expansion}
-use Rattle.linear_law.proofs.Names.{Congruent_add, Congruent_from, Congruent_mul, Congruent_of, Congruent_refl, Congruent_scale, Congruent_sym, Congruent_trans, add-negated, each_among, each_get_or, each_itself, each_map, each_of_map, one-nonzero, same_or_not, combination_vanishes, sum_map}
-use Rattle.simplicial_law.specs.Names.{IsInOrder, IsSimplex, Precedes, AgreesOnSimplices, Chain, Cochain, HasCoordinates, IsCoboundary, coboundary, pairing, unit_cochain, IsCanonicalClass, IsCanonicalCoboundary, IsCoboundaryPivot, canonical_cycle, AreCanonicalClasses, cochain_of, of_degree}
-use Rattle.simplicial_law.specs.ListedSimplices.{simplices}
-use Rattle.simplicial_law.proofs.Names.{listed_simplices_law, lists_compare, lists_strict, unit_away, unit_here}
-use Rattle.report_law.specs.Names.{IsCycleAt, IsCycle}
-use Rattle.report_law.proofs.BoundRows.{BoundRows, Row, lead, value}
-use Rattle.report_law.proofs.CanonicalData.{are_classes, before_rest, bound_expanded, canonical-bounds, class_reduced, class_rows, class_values, classes_zero, rest_in_order, rows}
+use Rattle.linear_law.{specs.Names.{Congruent, IsField, negated, sum_over, Among, Each, IsAscending, IsReduced, combination, expansion}, proofs.Names.{Congruent_add, Congruent_from, Congruent_mul, Congruent_of, Congruent_refl, Congruent_scale, Congruent_sym, Congruent_trans, add-negated, each_among, each_get_or, each_itself, each_map, each_of_map, one-nonzero, same_or_not, combination_vanishes, sum_map}}
+use Rattle.simplicial_law.{specs.Names.{IsInOrder, IsSimplex, Precedes, AgreesOnSimplices, Chain, Cochain, HasCoordinates, IsCoboundary, coboundary, pairing, unit_cochain, IsCanonicalClass, IsCanonicalCoboundary, IsCoboundaryPivot, canonical_cycle, AreCanonicalClasses, cochain_of, of_degree}, specs.ListedSimplices.simplices, proofs.Names.{listed_simplices_law, lists_compare, lists_strict, unit_away, unit_here}}
+use Rattle.report_law.{specs.Names.{IsCycleAt, IsCycle}, proofs.BoundRows.{BoundRows, Row, lead, value}, proofs.CanonicalData.{are_classes, before_rest, bound_expanded, canonical-bounds, class_reduced, class_rows, class_values, classes_zero, rest_in_order, rows}}
 
 -- ---- pairings as sums over the simplices
 

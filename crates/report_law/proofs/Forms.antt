@@ -2,9 +2,8 @@
 use Rattle.std.proofs.Common.{ℕ, true, List, refl}
 use Rattle.linear_law.proofs.Names.{each_map, zip_change}
 use Rattle.simplicial_law.specs.Names.{Chain, Cochain}
-use Rattle.report_law.specs.Types.{ComplexBlock, CartanAnswer, Yes, No, ComplexPart, Form}
+use Rattle.report_law.specs.{Types.{ComplexBlock, CartanAnswer, Yes, No, ComplexPart, Form}, Names.{IsAnswer, IsColumn, FormsLaw, IsComplexPart}}
 use Rattle.report.specs.Names.{has_details, has_tables}
-use Rattle.report_law.specs.Names.{IsAnswer, IsColumn, FormsLaw, IsComplexPart}
 
 module _ (form : Form) where
   of-column : (facets : List (List ℕ)) (n p : ℕ) (zs : List Cochain) (z : Cochain) (values : List ℕ) (primitive : Chain) → IsColumn true facets n p zs z values primitive → IsColumn (has_details form) facets n p zs z values primitive

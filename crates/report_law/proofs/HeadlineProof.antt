@@ -1,20 +1,10 @@
 -- The headline holds of the report of each job.
-use Rattle.std.proofs.Common.{◌≡◌, ℕ, zero, suc, ◌<◌, List, [], ◌∷◌, map, length, get_or, arith, refl, subst, IsTrue}
-use Rattle.std.specs.List.{AllZip}
-use Rattle.fp_field.specs.Served.{served}
-use Rattle.fp_field.proofs.ServedLemmas.{served_field}
-use Rattle.linear_law.specs.Names.{Each, IsAscending}
-use Rattle.linear_law.proofs.Names.{each_get_or, each_map, zip_each}
-use Rattle.report_law.specs.Types.{ComplexBlock, MapBlock, ComplexPart, Form, MapPart}
+use Rattle.std.{proofs.Common.{◌≡◌, ℕ, zero, suc, ◌<◌, List, [], ◌∷◌, map, length, get_or, arith, refl, subst, IsTrue}, specs.List.AllZip}
+use Rattle.fp_field.{specs.Served.served, proofs.ServedLemmas.served_field}
+use Rattle.linear_law.{specs.Names.{Each, IsAscending}, proofs.Names.{each_get_or, each_map, zip_each}}
+use Rattle.report_law.{specs.Types.{ComplexBlock, MapBlock, ComplexPart, Form, MapPart}, specs.Names.{ComplexPromise, MapPromise, HeadlineLaw, induced_degrees, AreClasses, Classes, ranks, classes_of, part_at, IsComplexPart, IsInducedPart, IsMapPart}, proofs.CanonicalData.bases-of, proofs.Carrying.{bases_promise, operation_promises, product_promise}, proofs.Coordinates.{AreBases, canonical-are}, proofs.Maps.{IsMapOf, job-complexes, job-maps, job-prime, no-end-fault, simplicial}, proofs.Naturality.induced_promise, proofs.Verdicts.cartan_promises}
 use Rattle.complex_file.specs.Names.{Spelled, facets_at, image}
 use Rattle.report.specs.Names.{has_details, has_tables}
-use Rattle.report_law.specs.Names.{ComplexPromise, MapPromise, HeadlineLaw, induced_degrees, AreClasses, Classes, ranks, classes_of, part_at, IsComplexPart, IsInducedPart, IsMapPart}
-use Rattle.report_law.proofs.CanonicalData.{bases-of}
-use Rattle.report_law.proofs.Carrying.{bases_promise, operation_promises, product_promise}
-use Rattle.report_law.proofs.Coordinates.{AreBases, canonical-are}
-use Rattle.report_law.proofs.Maps.{IsMapOf, job-complexes, job-maps, job-prime, no-end-fault, simplicial}
-use Rattle.report_law.proofs.Naturality.{induced_promise}
-use Rattle.report_law.proofs.Verdicts.{cartan_promises}
 
 module _ (form : Form) (p : ℕ) (is_served : IsTrue (served p)) where
   complex-promise : (block : ComplexBlock) (c : ComplexPart) → Each IsAscending block.facets → IsComplexPart (has_tables form) (has_details form) p block c → ComplexPromise form p block c

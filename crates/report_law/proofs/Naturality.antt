@@ -1,21 +1,10 @@
 -- Induced matrices, listed or not, and how they go with the matrices of operations.
-use Rattle.std.proofs.Common.{◌≡◌, Bool, ℕ, inl, inr, List, [], ◌∷◌, map, length, sym, subst, IsTrue}
-use Rattle.std.specs.List.{AllZip}
-use Rattle.fp_field.specs.Served.{served}
-use Rattle.fp_field.proofs.ServedLemmas.{served_field}
-use Rattle.linear_law.specs.Names.{IsField, Among, Each}
-use Rattle.linear_law.proofs.Names.{each_among}
+use Rattle.std.{proofs.Common.{◌≡◌, Bool, ℕ, inl, inr, List, [], ◌∷◌, map, length, sym, subst, IsTrue}, specs.List.AllZip}
+use Rattle.fp_field.{specs.Served.served, proofs.ServedLemmas.served_field, specs.Orbits.orbit_words}
+use Rattle.linear_law.{specs.Names.{IsField, Among, Each}, proofs.Names.each_among}
 use Rattle.simplicial_law.specs.Names.{Chain, Cochain, HasCoordinates, IsCocycle, IsCohomologyBasis, cochain_of}
-use Rattle.steenrod_law.proofs.InducedMaps.{matrices-commute, pull_back-cocycle, pull_back-matrix}
-use Rattle.fp_field.specs.Orbits.{orbit_words}
-use Rattle.steenrod_law.proofs.OrbitTables.{orbit_words_law}
-use Rattle.steenrod_law.specs.Names.{IsSimplicial, pull_back, copies}
-use Rattle.report_law.specs.Types.{Column, ComplexPart, MapPart}
-use Rattle.report_law.specs.Names.{IsColumn, InducedPromise, listed, blocks, element_degree, induced_degrees, target_degree, classes_in, ranks, block_of, classes_of, induced_matrix, matrix_of, operation_matrix, IsInducedPart, IsOperationPart}
-use Rattle.report_law.proofs.Blocks.{in-induced, induced-found, rank-or-none}
-use Rattle.report_law.proofs.Carrying.{any_basis, matrix-columns}
-use Rattle.report_law.proofs.Coordinates.{AreBases, no-coordinates}
-use Rattle.report_law.proofs.ScaledForms.{scaled}
+use Rattle.steenrod_law.{proofs.InducedMaps.{matrices-commute, pull_back-cocycle, pull_back-matrix}, proofs.OrbitTables.orbit_words_law, specs.Names.{IsSimplicial, pull_back, copies}}
+use Rattle.report_law.{specs.Types.{Column, ComplexPart, MapPart}, specs.Names.{IsColumn, InducedPromise, listed, blocks, element_degree, induced_degrees, target_degree, classes_in, ranks, block_of, classes_of, induced_matrix, matrix_of, operation_matrix, IsInducedPart, IsOperationPart}, proofs.Blocks.{in-induced, induced-found, rank-or-none}, proofs.Carrying.{any_basis, matrix-columns}, proofs.Coordinates.{AreBases, no-coordinates}, proofs.ScaledForms.scaled}
 
 module _ (p : ℕ) (is_served : IsTrue (served p)) (f : ℕ → ℕ)
     (K : List (List ℕ)) (from : ComplexPart) (are_K : AreBases K p (classes_of from))

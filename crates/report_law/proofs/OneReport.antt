@@ -1,28 +1,13 @@
 -- A job has one report in each form.
-use Rattle.std.proofs.Common.{◌≡◌, ℕ, suc, ◌+◌, ◌<◌, inl, inr, true, List, [], ◌∷◌, map, length, get_or, drop, arith, refl, sym, ap, ap₂, subst, ◌∙◌, IsTrue}
-use Rattle.std.specs.List.{AllZip}
-use Rattle.std.proofs.lemmas.List.{length-map}
-use Rattle.fp_field.specs.Served.{served}
-use Rattle.fp_field.proofs.ServedLemmas.{served_field}
-use Rattle.linear_law.specs.Names.{IsField, Among, Each, IsAscending}
-use Rattle.linear_law.proofs.Names.{Congruent_refl, among_map, each_among, each_get_or, each_unmap, each_zip}
+use Rattle.std.{proofs.Common.{◌≡◌, ℕ, suc, ◌+◌, ◌<◌, inl, inr, true, List, [], ◌∷◌, map, length, get_or, drop, arith, refl, sym, ap, ap₂, subst, ◌∙◌, IsTrue}, specs.List.AllZip, proofs.lemmas.List.length-map}
+use Rattle.fp_field.{specs.Served.served, proofs.ServedLemmas.served_field}
+use Rattle.linear_law.{specs.Names.{IsField, Among, Each, IsAscending}, proofs.Names.{Congruent_refl, among_map, each_among, each_get_or, each_unmap, each_zip}}
 use Rattle.simplicial_law.specs.Names.{AgreesOnSimplices, Cochain, IsCohomologyBasis, AreCanonicalBases}
 use Rattle.steenrod_law.specs.Names.{cochain_products, pull_back}
-use Rattle.report_law.specs.Types.{ComplexBlock, MapBlock, Sent, CartanAnswer, Yes, No, CartanPart, Column, OpWord, OperationPart, PairColumn, ProductPart, ComplexPart, DegreePart, Form, Certificate, Report, InducedPart, MapPart, Block, Line, Op, Square, Product, Power, BocksteinPower}
-use Rattle.complex_file.specs.Names.{Spelled, facets_at, image}
-use Rattle.complex_file.specs.Jobs.{is_job}
+use Rattle.report_law.{specs.Types.{ComplexBlock, MapBlock, Sent, CartanAnswer, Yes, No, CartanPart, Column, OpWord, OperationPart, PairColumn, ProductPart, ComplexPart, DegreePart, Form, Certificate, Report, InducedPart, MapPart, Block, Line, Op, Square, Product, Power, BocksteinPower}, specs.Names.{IsColumn, OneReportLaw, cartan_op, has_class, is_defined, Classes, IsInducedBlock, IsOperationBlock, IsOperationColumn, IsProductBlock, IsVerdict, class_at, classes_in, cochains_in, line_degree, ranks, below_in, block_of, classes_of, line_of, number_pairs, numbers_of, op_named, part_at, product_of, unnumbered, AreTables, IsCartanPart, IsComplexPart, IsInducedPart, IsMapPart, IsOperationPart, IsProductPart, IsReportOf}, proofs.Blocks.{IsLiveBlock, of-blocks}, proofs.CanonicalData.bases-of, proofs.Coordinates.canonical-are, proofs.HeadlineProof.{classes-at, part-of}, proofs.Lists.each-of, proofs.Maps.{IsMapOf, job-complexes, job-maps, job-prime}, proofs.SameData.{details-same, same-answer, same-bases, same-column, same-primitives, tables-same, zip-outline}, proofs.Unique.same-order, proofs.Verdicts.{difference-once, of-lines, operation-once}}
+use Rattle.complex_file.specs.{Names.{Spelled, facets_at, image}, Jobs.is_job}
 use Rattle.report.specs.Names.{has_details, has_tables, outline, outline_answer, outline_column, outline_complex, outline_degree, outline_induced, outline_line, outline_map, outline_operation, outline_pair, outline_product}
 use Rattle.report.specs.declared.columns.OpWord.TheVariants as word
-use Rattle.report_law.specs.Names.{IsColumn, OneReportLaw, cartan_op, has_class, is_defined, Classes, IsInducedBlock, IsOperationBlock, IsOperationColumn, IsProductBlock, IsVerdict, class_at, classes_in, cochains_in, line_degree, ranks, below_in, block_of, classes_of, line_of, number_pairs, numbers_of, op_named, part_at, product_of, unnumbered, AreTables, IsCartanPart, IsComplexPart, IsInducedPart, IsMapPart, IsOperationPart, IsProductPart, IsReportOf}
-use Rattle.report_law.proofs.Blocks.{IsLiveBlock, of-blocks}
-use Rattle.report_law.proofs.CanonicalData.{bases-of}
-use Rattle.report_law.proofs.Coordinates.{canonical-are}
-use Rattle.report_law.proofs.HeadlineProof.{classes-at, part-of}
-use Rattle.report_law.proofs.Lists.{each-of}
-use Rattle.report_law.proofs.Maps.{IsMapOf, job-complexes, job-maps, job-prime}
-use Rattle.report_law.proofs.SameData.{details-same, same-answer, same-bases, same-column, same-primitives, tables-same, zip-outline}
-use Rattle.report_law.proofs.Unique.{same-order}
-use Rattle.report_law.proofs.Verdicts.{difference-once, of-lines, operation-once}
 
 -- ---- lists of parts with the same headings
 

@@ -1,17 +1,9 @@
 -- The sizes of a complex.
-use Rattle.std.proofs.Common.{◌≡◌, ℕ, List, [], ◌∷◌, length, refl, sym, ap, ap₂, ◌∙◌, IsTrue, None, Some, true}
-use Rattle.std.specs.declared.option.Option.{Option}
-use Rattle.std.specs.List.{AllZip}
-use Rattle.std.proofs.lemmas.List.{length-map}
-use Rattle.fp_field.specs.Served.{served}
-use Rattle.fp_field.proofs.ServedLemmas.{served_field}
+use Rattle.std.{proofs.Common.{◌≡◌, ℕ, List, [], ◌∷◌, length, refl, sym, ap, ap₂, ◌∙◌, IsTrue, None, Some, true}, specs.declared.option.Option.Option, specs.List.AllZip, proofs.lemmas.List.length-map}
+use Rattle.fp_field.{specs.Served.served, proofs.ServedLemmas.served_field}
 use Rattle.linear_law.specs.Names.{Each, IsAscending}
-use Rattle.report_law.specs.Types.{ComplexBlock, Sizes}
-use Rattle.complex_file.specs.Names.{Spelled}
-use Rattle.complex_file.specs.Jobs.{is_job}
-use Rattle.report_law.specs.Names.{LimitLaw, SizesLaw, Classes, ranks, classes_of, AreJobSizes, AreSizes, passing_sum, simplex_counts}
-use Rattle.report_law.proofs.Maps.{job-complexes, job-prime}
-use Rattle.report_law.proofs.SameData.{same-bases}
+use Rattle.report_law.{specs.Types.{ComplexBlock, Sizes}, specs.Names.{LimitLaw, SizesLaw, Classes, ranks, classes_of, AreJobSizes, AreSizes, passing_sum, simplex_counts}, proofs.Maps.{job-complexes, job-prime}, proofs.SameData.same-bases}
+use Rattle.complex_file.specs.{Names.Spelled, Jobs.is_job}
 
 module _ (p : ℕ) (facets : List (List ℕ)) (is_served : IsTrue (served p)) (ascending : Each IsAscending facets) where
   one : (z w : Sizes) → AreSizes p facets z → AreSizes p facets w → z ≡ w

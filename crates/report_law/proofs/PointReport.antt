@@ -1,12 +1,9 @@
 -- The report of a point.
 use Rattle.std.proofs.Common.{◌≡◌, ℕ, ◌+◌, ◌%◌, inl, inr, true, List, [], ◌∷◌, get_or, arith, refl, sym, ap, subst}
-use Rattle.linear_law.specs.Names.{Congruent, negated, sum_over, Among, combination}
-use Rattle.linear_law.proofs.Names.{Congruent_refl}
-use Rattle.simplicial_law.specs.Names.{IsInOrder, IsSimplex, Precedes, AgreesOnSimplices, Cochain, IsCoboundary, IsCanonicalClass, AreCanonicalClasses, cochain_of}
-use Rattle.simplicial_law.proofs.Names.{lists_strict, no_bounds, coboundary_zero}
+use Rattle.linear_law.{specs.Names.{Congruent, negated, sum_over, Among, combination}, proofs.Names.Congruent_refl}
+use Rattle.simplicial_law.{specs.Names.{IsInOrder, IsSimplex, Precedes, AgreesOnSimplices, Cochain, IsCoboundary, IsCanonicalClass, AreCanonicalClasses, cochain_of}, proofs.Names.{lists_strict, no_bounds, coboundary_zero}}
 use Rattle.steenrod_law.specs.Names.{IsSquare, cup_product, may_operation}
-use Rattle.report_law.specs.Names.{AreClasses, ArePrimitives, IsColumn, rest_of, IsCartanDifference, PointRow}
-use Rattle.report_law.proofs.Coordinates.{agrees-sym, agrees-trans}
+use Rattle.report_law.{specs.Names.{AreClasses, ArePrimitives, IsColumn, rest_of, IsCartanDifference, PointRow}, proofs.Coordinates.{agrees-sym, agrees-trans}}
 
 abbrev facets : List (List ℕ)
 facets = (0 ∷ []) ∷ []

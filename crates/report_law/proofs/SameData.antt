@@ -1,17 +1,10 @@
 -- Classes, primitives, columns and answers are told by their definitions.
-use Rattle.std.proofs.Common.{◌≡◌, ℕ, suc, ◌*◌, ◌-◌, ◌<◌, inl, inr, Bool, true, false, List, [], ◌∷◌, map, length, get_or, arith, refl, sym, ap, ap₂, subst, ◌∙◌, IsTrue, if◌then◌else◌}
-use Rattle.std.specs.List.{AllZip}
-use Rattle.std.proofs.lemmas.Bool.{cases_lt}
+use Rattle.std.{proofs.Common.{◌≡◌, ℕ, suc, ◌*◌, ◌-◌, ◌<◌, inl, inr, Bool, true, false, List, [], ◌∷◌, map, length, get_or, arith, refl, sym, ap, ap₂, subst, ◌∙◌, IsTrue, if◌then◌else◌}, specs.List.AllZip, proofs.lemmas.Bool.cases_lt}
 use native.Mathlib.Nat.{zero-mod}
-use Rattle.linear_law.specs.Names.{Congruent, IsField, negated, Among, Each, IsAscending, combination}
-use Rattle.linear_law.proofs.Names.{Congruent_add, Congruent_mul, Congruent_of, Congruent_refl, Congruent_scale, each_among, one-nonzero, same_or_not}
-use Rattle.simplicial_law.specs.Names.{IsSimplex, Precedes, AgreesOnSimplices, Chain, Cochain, IsCoboundary, IsCocycle, IsCohomologyBasis, unit_cochain, IsCanonicalClass, IsCanonicalCoboundary, canonical_cycle, AreCanonicalClasses, AreTerms, cochain_of}
-use Rattle.simplicial_law.proofs.Names.{coboundaries, cocycles, lists_compare, lists_strict}
-use Rattle.report_law.specs.Types.{CartanAnswer, Yes, No, Form}
+use Rattle.linear_law.{specs.Names.{Congruent, IsField, negated, Among, Each, IsAscending, combination}, proofs.Names.{Congruent_add, Congruent_mul, Congruent_of, Congruent_refl, Congruent_scale, each_among, one-nonzero, same_or_not}}
+use Rattle.simplicial_law.{specs.Names.{IsSimplex, Precedes, AgreesOnSimplices, Chain, Cochain, IsCoboundary, IsCocycle, IsCohomologyBasis, unit_cochain, IsCanonicalClass, IsCanonicalCoboundary, canonical_cycle, AreCanonicalClasses, AreTerms, cochain_of}, proofs.Names.{coboundaries, cocycles, lists_compare, lists_strict}}
+use Rattle.report_law.{specs.Types.{CartanAnswer, Yes, No, Form}, specs.Names.{AreClasses, Classes, ArePivots, ArePrimitives, IsAnswer, IsColumn, IsCycleAt, IsFirstValue, IsObstruction, IsPrimitiveAt, rest_of}, proofs.Coordinates.{agrees-sym, agrees-trans, bound-coordinates, coordinates-alike, once}, proofs.Unique.{canonical-once, same-order, same-primitive, same-terms}}
 use Rattle.report.specs.Names.{details, has_details, has_tables, outline_answer, tables}
-use Rattle.report_law.specs.Names.{AreClasses, Classes, ArePivots, ArePrimitives, IsAnswer, IsColumn, IsCycleAt, IsFirstValue, IsObstruction, IsPrimitiveAt, rest_of}
-use Rattle.report_law.proofs.Coordinates.{agrees-sym, agrees-trans, bound-coordinates, coordinates-alike, once}
-use Rattle.report_law.proofs.Unique.{canonical-once, same-order, same-primitive, same-terms}
 
 -- the partner of a member
 partner : {X Y : Type 0} (R : X → Y → Type 0) (xs : List X) (ys : List Y) (x : X) → AllZip R xs ys → Among x xs → (y : Y) × R x y

@@ -1,28 +1,13 @@
 -- Cartan differences agree, and what the answer of a line shows.
-use Rattle.std.proofs.Common.{◌≡◌, ℕ, zero, suc, ◌+◌, ◌-◌, ◌<◌, inl, inr, ◌&&◌, true, List, [], ◌∷◌, map, length, get_or, arith, refl, sym, ap, subst, ◌∙◌, IsTrue, ℤ}
-use Rattle.std.specs.List.{AllZip}
-use Rattle.std.proofs.lemmas.Bool.{and_parts}
-use Rattle.std.proofs.lemmas.List.{length-map}
-use Rattle.fp_field.specs.Served.{served}
-use Rattle.fp_field.proofs.ServedLemmas.{served_field}
+use Rattle.std.{proofs.Common.{◌≡◌, ℕ, zero, suc, ◌+◌, ◌-◌, ◌<◌, inl, inr, ◌&&◌, true, List, [], ◌∷◌, map, length, get_or, arith, refl, sym, ap, subst, ◌∙◌, IsTrue, ℤ}, specs.List.AllZip, proofs.lemmas.Bool.and_parts, proofs.lemmas.List.length-map}
+use Rattle.fp_field.{specs.Served.served, proofs.ServedLemmas.served_field}
 use Rattle.signed_sum.specs.Names.{numbers_from}
-use Rattle.linear_law.specs.Names.{Congruent, IsField, sum_over, Among, Each, IsAscending}
-use Rattle.linear_law.proofs.Names.{Congruent_add, Congruent_of, Congruent_refl, Congruent_scale, Congruent_sym, Congruent_trans, among_map, each_among, each_get_or}
-use Rattle.simplicial_law.specs.Names.{IsSimplex, AgreesOnSimplices, Chain, Cochain, IsCoboundary, coboundary, AreCanonicalBases, IsCanonicalBasis, cochain_of, CongruentInt}
-use Rattle.simplicial_law.proofs.Names.{coboundaries, coboundary_zero, CongruentInt_of, CongruentInt_sym, CongruentInt_trans, integral_congruence_law}
+use Rattle.linear_law.{specs.Names.{Congruent, IsField, sum_over, Among, Each, IsAscending}, proofs.Names.{Congruent_add, Congruent_of, Congruent_refl, Congruent_scale, Congruent_sym, Congruent_trans, among_map, each_among, each_get_or}}
+use Rattle.simplicial_law.{specs.Names.{IsSimplex, AgreesOnSimplices, Chain, Cochain, IsCoboundary, coboundary, AreCanonicalBases, IsCanonicalBasis, cochain_of, CongruentInt}, proofs.Names.{coboundaries, coboundary_zero, CongruentInt_of, CongruentInt_sym, CongruentInt_trans, integral_congruence_law}}
 use Rattle.interval_cut_law.specs.Names.{operation_value}
-use Rattle.steenrod_law.proofs.Complexes.{extended-cochain, extended-simplex, residue_cochain-same, simplex_or_none, weak-closed, weak_of_simplex}
-use Rattle.steenrod_law.proofs.OperationLaws.{to_residues, vertices}
-use Rattle.steenrod_law.proofs.ValuesOnFaces.{value-at}
-use Rattle.steenrod_law.specs.Names.{IsWeakSimplex, cup_product, extended}
-use Rattle.report_law.specs.Types.{CartanAnswer, Yes, No, CartanPart, ComplexPart, Form, Line, Op}
+use Rattle.steenrod_law.{proofs.Complexes.{extended-cochain, extended-simplex, residue_cochain-same, simplex_or_none, weak-closed, weak_of_simplex}, proofs.OperationLaws.{to_residues, vertices}, proofs.ValuesOnFaces.value-at, specs.Names.{IsWeakSimplex, cup_product, extended}}
+use Rattle.report_law.{specs.Types.{CartanAnswer, Yes, No, CartanPart, ComplexPart, Form, Line, Op}, specs.Names.{IsAnswer, IsObstruction, IsPrimitive, IsCartanDifference, IsCartanProduct, IsOperation, CartanPromise, IsBoundedBy, IsDetectedBy, Says, all_lines, cartan_op, cartan_pairs, has_class, is_defined, lines, target_degree, class_at, classes_in, line_degree, ranks, classes_of, line_of, IsCartanPart}, proofs.Blocks.has-degree, proofs.Coordinates.{agrees-sym, agrees-trans, bound-coordinates}, proofs.Cycles.{is_cycle, pairs-alike-on, reads}, proofs.Lists.{each-of, of-filter}, proofs.ScaledForms.scaled}
 use Rattle.report.specs.Names.{has_details}
-use Rattle.report_law.specs.Names.{IsAnswer, IsObstruction, IsPrimitive, IsCartanDifference, IsCartanProduct, IsOperation, CartanPromise, IsBoundedBy, IsDetectedBy, Says, all_lines, cartan_op, cartan_pairs, has_class, is_defined, lines, target_degree, class_at, classes_in, line_degree, ranks, classes_of, line_of, IsCartanPart}
-use Rattle.report_law.proofs.Blocks.{has-degree}
-use Rattle.report_law.proofs.Coordinates.{agrees-sym, agrees-trans, bound-coordinates}
-use Rattle.report_law.proofs.Cycles.{is_cycle, pairs-alike-on, reads}
-use Rattle.report_law.proofs.Lists.{each-of, of-filter}
-use Rattle.report_law.proofs.ScaledForms.{scaled}
 
 -- both operations of each pair are defined
 pub pairs-defined : (p a b n : ℕ) → Each (λ e. (is_defined p a (cartan_op p e.0) && is_defined p b (cartan_op p e.1)) ≡ true) (cartan_pairs p a b n)

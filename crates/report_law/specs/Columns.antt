@@ -1,7 +1,6 @@
 -- Printed chains, columns and verdicts: coordinates, canonical primitives and cycles. Where `detailed` is true the chains
 -- under columns and verdicts are told too.
-use Rattle.std.specs.Prelude.{◌≡◌, IsTrue, Bool, ℕ, ◌+◌, ◌<◌, zero, suc, List, [], map, length, get_or}
-use Rattle.std.specs.List.{AllZip}
+use Rattle.std.specs.{Prelude.{◌≡◌, IsTrue, Bool, ℕ, ◌+◌, ◌<◌, zero, suc, List, [], map, length, get_or}, List.AllZip}
 use Rattle.linear_law.specs.Names.{negated, Among, Each, combination}
 use Rattle.simplicial_law.specs.Names.{IsInOrder, AgreesOnSimplices, Chain, Cochain, HasCoordinates, IsCoboundary, IsCanonicalClass, IsCanonicalCoboundary, IsCanonicalPrimitive, IsCoboundaryPivot, canonical_cycle, AreTerms, cochain_of}
 use Rattle.report_law.specs.Types.{CartanAnswer, Yes, No}

@@ -1,16 +1,11 @@
 -- The headline: what a report promises of its job, in each form.
-use Rattle.std.specs.Prelude.{◌≡◌, IsTrue, ℕ, ◌+◌, ◌*◌, ◌<◌, zero, suc, true, List, [], map, length}
-use Rattle.std.specs.List.{AllZip}
+use Rattle.std.specs.{Prelude.{◌≡◌, IsTrue, ℕ, ◌+◌, ◌*◌, ◌<◌, zero, suc, true, List, [], map, length}, List.AllZip}
 use Rattle.linear_law.specs.Names.{Congruent, sum_over, Each, matrix_times}
 use Rattle.simplicial_law.specs.Names.{IsSimplex, AgreesOnSimplices, Chain, Cochain, HasCoordinates, IsCoboundary, IsCocycle, IsCohomologyBasis, boundary, coboundary, pairing, unit_cochain, AreTerms, cochain_of}
 use Rattle.steenrod_law.specs.Names.{coefficient_products, cup_product, pull_back}
 use Rattle.complex_file.specs.Names.{Spelled, facets_at, image}
-use Rattle.report_law.specs.Types.{ComplexBlock, MapBlock, CartanAnswer, Yes, No, CartanPart, OperationPart, ProductPart, ComplexPart, Form, Report, MapPart, Op}
+use Rattle.report_law.specs.{Types.{ComplexBlock, MapBlock, CartanAnswer, Yes, No, CartanPart, OperationPart, ProductPart, ComplexPart, Form, Report, MapPart, Op}, Differences.IsOperation, Live.{is_defined, target_degree}, Matrices.{IsLineDifference, cochains_in, line_degree}, Parts.{classes_of, induced_matrix, line_of, matrix_of, op_of, operation_matrix, part_at}}
 use Rattle.report.specs.Names.{has_details, has_tables}
-use Rattle.report_law.specs.Differences.{IsOperation}
-use Rattle.report_law.specs.Live.{is_defined, target_degree}
-use Rattle.report_law.specs.Matrices.{IsLineDifference, cochains_in, line_degree}
-use Rattle.report_law.specs.Parts.{classes_of, induced_matrix, line_of, matrix_of, op_of, operation_matrix, part_at}
 
 -- the cochains of the classes of degree n that are listed of a complex
 abbrev pub listed : ComplexPart → ℕ → List Cochain

@@ -3,15 +3,9 @@ use Rattle.std.specs.Prelude.{◌≡◌, Bool, ℕ, ◌+◌, true, List, IsTrue}
 use Rattle.fp_field.specs.Served.{served}
 use Rattle.linear_law.specs.Names.{Each, IsAscending}
 use Rattle.simplicial_law.specs.Names.{AgreesOnSimplices, Cochain}
-use Rattle.complex_file.specs.Names.{Spelled}
-use Rattle.report_law.specs.Types.{ComplexBlock, ComplexPart, Form, Certificate, Report, Op, Sizes}
-use Rattle.complex_file.specs.Jobs.{is_job}
+use Rattle.complex_file.specs.{Names.Spelled, Jobs.is_job}
+use Rattle.report_law.specs.{Types.{ComplexBlock, ComplexPart, Form, Certificate, Report, Op, Sizes}, Differences.{IsCartanDifference, IsOperation}, Headline.Headline, Live.{cartan_op, is_defined, target_degree}, Reports.{IsComplexPart, IsReportOf}, Terms.{AreSizes, IsWithinLimit, PassesLimit, sizes_of}}
 use Rattle.report.specs.Names.{outline}
-use Rattle.report_law.specs.Differences.{IsCartanDifference, IsOperation}
-use Rattle.report_law.specs.Headline.{Headline}
-use Rattle.report_law.specs.Live.{cartan_op, is_defined, target_degree}
-use Rattle.report_law.specs.Reports.{IsComplexPart, IsReportOf}
-use Rattle.report_law.specs.Terms.{AreSizes, IsWithinLimit, PassesLimit, sizes_of}
 
 -- The headline holds of the report of each job, in each form.
 abbrev pub HeadlineLaw : Type 0

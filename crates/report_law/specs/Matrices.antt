@@ -1,12 +1,8 @@
 -- The matrices and verdicts of a complex, over its classes by degree, and those of a map.
-use Rattle.std.specs.Prelude.{Bool, ℕ, ◌+◌, ◌-◌, ◌<◌, List, [], map, length, get_or}
-use Rattle.std.specs.List.{AllZip}
+use Rattle.std.specs.{Prelude.{Bool, ℕ, ◌+◌, ◌-◌, ◌<◌, List, [], map, length, get_or}, List.AllZip}
 use Rattle.simplicial_law.specs.Names.{IsSimplex, Chain, Cochain, AreCanonicalClasses, cochain_of}
 use Rattle.steenrod_law.specs.Names.{cochain_products, pull_back}
-use Rattle.report_law.specs.Types.{CartanAnswer, Column, Block, Line, Product}
-use Rattle.report_law.specs.Columns.{IsAnswer, IsColumn}
-use Rattle.report_law.specs.Differences.{IsCartanDifference, IsOperation}
-use Rattle.report_law.specs.Live.{cartan_op, target_degree}
+use Rattle.report_law.specs.{Types.{CartanAnswer, Column, Block, Line, Product}, Columns.{IsAnswer, IsColumn}, Differences.{IsCartanDifference, IsOperation}, Live.{cartan_op, target_degree}}
 
 -- ---- the classes of a complex, by degree
 

@@ -3,9 +3,8 @@ use Rattle.std.specs.Prelude.{ℕ, Bool, false, ◌&&◌, ◌==◌, if◌then◌
 use Rattle.simplicial_law.specs.Names.{Chain}
 use Rattle.steenrod_law.specs.Names.{copies}
 use Rattle.signed_sum.specs.Names.{numbers_from}
-use Rattle.report_law.specs.Types.{CartanPart, Column, OpWord, OperationPart, PairColumn, ProductPart, ComplexPart, InducedPart, MapPart, Block, Line, Op, Square, Product, Power, BocksteinPower}
+use Rattle.report_law.specs.{Types.{CartanPart, Column, OpWord, OperationPart, PairColumn, ProductPart, ComplexPart, InducedPart, MapPart, Block, Line, Op, Square, Product, Power, BocksteinPower}, Matrices.{Classes, classes_in, ranks}}
 use Rattle.report.specs.declared.columns.OpWord.TheVariants as word
-use Rattle.report_law.specs.Matrices.{Classes, classes_in, ranks}
 
 -- the classes by degree, and the ranks
 abbrev pub classes_of : ComplexPart → Classes

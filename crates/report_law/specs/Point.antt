@@ -1,9 +1,8 @@
 -- The report of a point at 2.
 use Rattle.std.specs.Prelude.{[], ◌∷◌, codes}
 use Rattle.complex_file.specs.Names.{Spelled}
-use Rattle.report_law.specs.Types.{Yes, ComplexPart, Certificate, Report}
+use Rattle.report_law.specs.{Types.{Yes, ComplexPart, Certificate, Report}, Reports.IsReportOf}
 use Rattle.report.specs.declared.columns.OpWord.TheVariants.{Sq}
-use Rattle.report_law.specs.Reports.{IsReportOf}
 
 -- one complex with the one vertex 0
 abbrev pub point_job : Spelled

@@ -1,15 +1,10 @@
 -- The report of a job in a form. What the form does not print is free.
-use Rattle.std.specs.Prelude.{◌≡◌, IsTrue, Bool, ℕ, ◌<◌, List, [], map, length, get_or}
-use Rattle.std.specs.List.{AllZip}
+use Rattle.std.specs.{Prelude.{◌≡◌, IsTrue, Bool, ℕ, ◌<◌, List, [], map, length, get_or}, List.AllZip}
 use Rattle.linear_law.specs.Names.{Among, Each, IsAscending}
 use Rattle.simplicial_law.specs.Names.{IsInOrder}
 use Rattle.complex_file.specs.Names.{Spelled, facets_at, image, name_at}
-use Rattle.report_law.specs.Types.{ComplexBlock, MapBlock, Sent, CartanPart, OperationPart, ProductPart, ComplexPart, Form, Report, InducedPart, MapPart}
+use Rattle.report_law.specs.{Types.{ComplexBlock, MapBlock, Sent, CartanPart, OperationPart, ProductPart, ComplexPart, Form, Report, InducedPart, MapPart}, Columns.ArePrimitives, Live.{blocks, induced_degrees, lines, products}, Matrices.{AreClasses, Classes, IsInducedBlock, IsOperationBlock, IsProductBlock, IsVerdict, classes_in, ranks}, Parts.{below_in, block_of, classes_of, line_of, number_pairs, numbers_of, product_of, unnumbered}}
 use Rattle.report.specs.Names.{has_details, has_tables}
-use Rattle.report_law.specs.Columns.{ArePrimitives}
-use Rattle.report_law.specs.Live.{blocks, induced_degrees, lines, products}
-use Rattle.report_law.specs.Matrices.{AreClasses, Classes, IsInducedBlock, IsOperationBlock, IsProductBlock, IsVerdict, classes_in, ranks}
-use Rattle.report_law.specs.Parts.{below_in, block_of, classes_of, line_of, number_pairs, numbers_of, product_of, unnumbered}
 
 -- ---- a complex
 

@@ -1,20 +1,12 @@
 -- Counted terms: what the blocks and lines of a job count, in order, and the limit on their sum.
-use Rattle.std.specs.Prelude.{◌≡◌, ℕ, ◌+◌, ◌*◌, ◌^◌, min, not, cond, nat_lt, if◌then◌else◌, List, [], ◌∷◌, ◌++◌, flat_map, fold, map, length, get_or, Some, None, ℤ, pos}
-use Rattle.std.specs.declared.option.Option.{Option}
-use Rattle.std.specs.List.{AllZip, filter}
-use Rattle.std.specs.BTreeSet.{insert_key}
-use Rattle.std.specs.Ordering.{nat_cmp}
+use Rattle.std.specs.{Prelude.{◌≡◌, ℕ, ◌+◌, ◌*◌, ◌^◌, min, not, cond, nat_lt, if◌then◌else◌, List, [], ◌∷◌, ◌++◌, flat_map, fold, map, length, get_or, Some, None, ℤ, pos}, declared.option.Option.Option, List.{AllZip, filter}, BTreeSet.insert_key, Ordering.nat_cmp}
 use Rattle.signed_sum.specs.Names.{is_same_list, numbers_from, is_zero, value_at}
 use Rattle.linear_law.specs.Names.{sum_over}
-use Rattle.simplicial_law.specs.Names.{of_degree, simplex_cmp}
-use Rattle.simplicial_law.specs.ListedSimplices.{simplices}
+use Rattle.simplicial_law.specs.{Names.{of_degree, simplex_cmp}, ListedSimplices.simplices}
 use Rattle.interval_cut_law.specs.Names.{live_cut_count}
 use Rattle.table_reduction_law.specs.Names.{candidate_count, may_element}
 use Rattle.complex_file.specs.Names.{Spelled}
-use Rattle.report_law.specs.Types.{ComplexPart, Block, Line, Op, Sizes}
-use Rattle.report_law.specs.Live.{blocks, cartan_op, cartan_pairs, element_degree, lines, target_degree}
-use Rattle.report_law.specs.Matrices.{AreClasses, Classes, ranks}
-use Rattle.report_law.specs.Parts.{ranks_of}
+use Rattle.report_law.specs.{Types.{ComplexPart, Block, Line, Op, Sizes}, Live.{blocks, cartan_op, cartan_pairs, element_degree, lines, target_degree}, Matrices.{AreClasses, Classes, ranks}, Parts.ranks_of}
 
 -- ---- one operation
 

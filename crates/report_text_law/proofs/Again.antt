@@ -1,15 +1,7 @@
 -- The lines of a certificate are read again.
-use Rattle.std.proofs.Common.{◌≡◌, ◌∙◌, ℕ, ◌+◌, Bool, true, cond, List, [], ◌∷◌, ◌++◌, length, length-append, ap, refl, sym, subst, arith, append_assoc, Some, None, ◌==◌, map, flat_map, eq-eqb, append-nil}
-use Rattle.std.specs.declared.option.Option.{Option}
-use Rattle.std.specs.List.{list_all}
-use Rattle.std.proofs.lemmas.Bool.{and_parts}
+use Rattle.std.{proofs.Common.{◌≡◌, ◌∙◌, ℕ, ◌+◌, Bool, true, cond, List, [], ◌∷◌, ◌++◌, length, length-append, ap, refl, sym, subst, arith, append_assoc, Some, None, ◌==◌, map, flat_map, eq-eqb, append-nil}, specs.declared.option.Option.Option, specs.List.list_all, proofs.lemmas.Bool.and_parts}
 use Rattle.fp_field.specs.Served.{served}
-use Rattle.report_text_law.specs.Names.{answer_lines, is_line, ComplexHead, Chain, complex_line, facet_line, degree_line, below_line, class_line, product_line, with_line, operation_line, column_line, cartan_yes, cartan_no, cycle_line, end_line, map_line, induced_line, done_line, columns_from, degree_lines, degrees_from, pair_lines, product_lines, operation_lines, cartan_lines, complex_lines, send_of, induced_lines, map_lines, certificate_lines, Graded, Multiplied, Operated, Judged, ComplexStage, Facets, Values, Yes, No, Cartans, MapHead, Mapped, MapStage, Sends, InducedValues, Finding, State, AtStart, Between, InComplex, BetweenMaps, InMap, Finished, ◌>>=◌, with_degree, with_cartan, with_complex, graded_of, multiplied_from, multiplied_of, operated_from, operated_of, judged_from, judged_of, mapped_of, complex_of, map_of, degree_opens, column_stands, induced_stands, next, next_of_map, map_opens, move, prime_of, step, run, Line}
-use Rattle.report_text_law.proofs.Written.{bind_some, written}
-use Rattle.report_text_law.proofs.Fine.{HasPrime, stays}
-use Rattle.report_text_law.specs.Types.{CartanAnswer, Yes as answers_yes, No as answers_no, CartanPart, Column, OperationPart, ProductPart, ComplexPart, DegreePart, InducedPart, MapPart}
-use Rattle.report_text_law.specs.declared.state.ComplexStage.TheVariants.{Degree, Product, Operation}
-use Rattle.report_text_law.specs.declared.state.MapStage.TheVariants.{Induced}
+use Rattle.report_text_law.{specs.Names.{answer_lines, is_line, ComplexHead, Chain, complex_line, facet_line, degree_line, below_line, class_line, product_line, with_line, operation_line, column_line, cartan_yes, cartan_no, cycle_line, end_line, map_line, induced_line, done_line, columns_from, degree_lines, degrees_from, pair_lines, product_lines, operation_lines, cartan_lines, complex_lines, send_of, induced_lines, map_lines, certificate_lines, Graded, Multiplied, Operated, Judged, ComplexStage, Facets, Values, Yes, No, Cartans, MapHead, Mapped, MapStage, Sends, InducedValues, Finding, State, AtStart, Between, InComplex, BetweenMaps, InMap, Finished, ◌>>=◌, with_degree, with_cartan, with_complex, graded_of, multiplied_from, multiplied_of, operated_from, operated_of, judged_from, judged_of, mapped_of, complex_of, map_of, degree_opens, column_stands, induced_stands, next, next_of_map, map_opens, move, prime_of, step, run, Line}, proofs.Written.{bind_some, written}, proofs.Fine.{HasPrime, stays}, specs.Types.{CartanAnswer, Yes as answers_yes, No as answers_no, CartanPart, Column, OperationPart, ProductPart, ComplexPart, DegreePart, InducedPart, MapPart}, specs.declared.state.ComplexStage.TheVariants.{Degree, Product, Operation}, specs.declared.state.MapStage.TheVariants.Induced}
 
 -- without looking at what is well formed
 abbrev pub moves : State → List Line → Option State

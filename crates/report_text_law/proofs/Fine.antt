@@ -1,11 +1,7 @@
 -- Each line that was taken is well formed.
-use Rattle.std.proofs.Common.{◌≡◌, ◌∙◌, ℕ, Bool, true, List, [], ◌∷◌, ◌++◌, ap, refl, sym, subst, Some}
-use Rattle.std.specs.List.{list_all}
-use Rattle.std.proofs.lemmas.Bool.{and_from}
-use Rattle.std.proofs.lemmas.List.Folds.{list_all-append}
+use Rattle.std.{proofs.Common.{◌≡◌, ◌∙◌, ℕ, Bool, true, List, [], ◌∷◌, ◌++◌, ap, refl, sym, subst, Some}, specs.List.list_all, proofs.lemmas.Bool.and_from, proofs.lemmas.List.Folds.list_all-append}
 use Rattle.fp_field.specs.Served.{served}
-use Rattle.report_text_law.specs.Names.{is_line, heading_line, prime_line, State, AtStart, AtPrime, move, prime_of, step, Line}
-use Rattle.report_text_law.proofs.Written.{written, move_law, some_same, guard_some}
+use Rattle.report_text_law.{specs.Names.{is_line, heading_line, prime_line, State, AtStart, AtPrime, move, prime_of, step, Line}, proofs.Written.{written, move_law, some_same, guard_some}}
 
 -- the prime in the second line
 abbrev prime_in : List Line → ℕ

@@ -1,13 +1,5 @@
 -- Texts without a byte, and the pieces between such bytes.
-use Rattle.std.proofs.Common.{◌≡◌, ◌∙◌, ℕ, ◌<◌, ◌≤◌, ◌^◌, ◌⊎◌, inl, inr, true, false, List, [], ◌∷◌, ◌++◌, ap, ap₂, refl, sym, subst, arith, rules, ◌==◌, flat_map, ne_eqb, append-nil}
-use Rattle.std.specs.List.{slice_split}
-use Rattle.std.specs.Fmt.{decimal}
-use Rattle.std.specs.Str.{all_ascii_digits}
-use Rattle.std.specs.Str.Parse.{digits_value}
-use Rattle.std.proofs.lemmas.Fmt.{digits_decimal}
-use Rattle.std.proofs.lemmas.Str.Parse.{IsNumeralModel, numerals_by_value, tells_all_ascii_digits}
-use Rattle.std.proofs.lemmas.Bool.{and_parts}
-use Rattle.std.specs.Char.{is_ascii_digit}
+use Rattle.std.{proofs.Common.{◌≡◌, ◌∙◌, ℕ, ◌<◌, ◌≤◌, ◌^◌, ◌⊎◌, inl, inr, true, false, List, [], ◌∷◌, ◌++◌, ap, ap₂, refl, sym, subst, arith, rules, ◌==◌, flat_map, ne_eqb, append-nil}, specs.List.slice_split, specs.Fmt.decimal, specs.Str.all_ascii_digits, specs.Str.Parse.digits_value, proofs.lemmas.Fmt.digits_decimal, proofs.lemmas.Str.Parse.{IsNumeralModel, numerals_by_value, tells_all_ascii_digits}, proofs.lemmas.Bool.and_parts, specs.Char.is_ascii_digit}
 use Rattle.report_text_law.specs.Names.{joined, behind}
 
 abbrev pub Free : ℕ → List ℕ → Type 0

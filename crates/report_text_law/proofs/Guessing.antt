@@ -1,20 +1,9 @@
 -- The line that is guessed from a spelling.
-use Rattle.std.proofs.Common.{◌≡◌, ◌∙◌, ℕ, ◌+◌, ◌-◌, ◌*◌, ◌<◌, ◌≤◌, ◌^◌, ◌⊎◌, inl, inr, Bool, true, false, cond, ◌&&◌, List, [], ◌∷◌, ◌++◌, length, ap, ap₂, refl, sym, subst, arith, Some, rules, lit<, ◌==◌, map, codes, nat_lt, nat_le, ◌||◌, eqb-true, ltb-true, lt-ltb, le-ltb, leb-true, ne_eqb}
-use Rattle.std.specs.List.{slice_split, list_all}
-use Rattle.std.specs.Fmt.{decimal}
-use Rattle.std.specs.Str.{bytes_eq}
-use Rattle.std.proofs.lemmas.Fmt.{decimal_is_IsNumeral}
-use Rattle.std.proofs.lemmas.Bool.{and_parts, cases_Bool, or_cases}
-use Rattle.std.proofs.lemmas.Slice.Eq.{bytes_eq-Decides}
+use Rattle.std.{proofs.Common.{◌≡◌, ◌∙◌, ℕ, ◌+◌, ◌-◌, ◌*◌, ◌<◌, ◌≤◌, ◌^◌, ◌⊎◌, inl, inr, Bool, true, false, cond, ◌&&◌, List, [], ◌∷◌, ◌++◌, length, ap, ap₂, refl, sym, subst, arith, Some, rules, lit<, ◌==◌, map, codes, nat_lt, nat_le, ◌||◌, eqb-true, ltb-true, lt-ltb, le-ltb, leb-true, ne_eqb}, specs.List.{slice_split, list_all}, specs.Fmt.decimal, specs.Str.bytes_eq, proofs.lemmas.Fmt.decimal_is_IsNumeral, proofs.lemmas.Bool.{and_parts, cases_Bool, or_cases}, proofs.lemmas.Slice.Eq.bytes_eq-Decides, specs.Char.digit_value, specs.Str.Parse.{AllDigits, digits_value_after}, proofs.lemmas.Str.Parse.digit_from_value}
 use Rattle.fp_field.specs.Served.{served}
 use Rattle.complex_file.specs.Names.{is_name, is_letter, is_digit, is_name_byte, begins_with_letter}
-use Rattle.report_text_law.specs.Types.{OpWord, Certificate}
+use Rattle.report_text_law.{specs.Types.{OpWord, Certificate}, specs.Names.{Chain, heading_line, prime_line, complex_line, facet_line, degree_line, below_line, class_line, product_line, pair_line, with_line, operation_line, column_line, cartan_yes, cartan_no, cycle_line, end_line, map_line, send_line, induced_line, done_line, joined, words, term_word, chain_words, op_word, is_line, is_u32, is_vertex, is_simplex, is_unit, is_term, is_chain, are_values, ascends, terms_ascend, with_digit, number_after, number, numbers, term_pieces, term_of, chain_of, op_of, guess_pair, guess, Line}, proofs.Free.{Free, EachFree, free_joined, free_decimal, split_joined}}
 use Rattle.report.specs.declared.columns.OpWord.TheVariants.{Sq, Power, BocksteinPower}
-use Rattle.report_text_law.specs.Names.{Chain, heading_line, prime_line, complex_line, facet_line, degree_line, below_line, class_line, product_line, pair_line, with_line, operation_line, column_line, cartan_yes, cartan_no, cycle_line, end_line, map_line, send_line, induced_line, done_line, joined, words, term_word, chain_words, op_word, is_line, is_u32, is_vertex, is_simplex, is_unit, is_term, is_chain, are_values, ascends, terms_ascend, with_digit, number_after, number, numbers, term_pieces, term_of, chain_of, op_of, guess_pair, guess, Line}
-use Rattle.std.specs.Char.{digit_value}
-use Rattle.std.specs.Str.Parse.{AllDigits, digits_value_after}
-use Rattle.std.proofs.lemmas.Str.Parse.{digit_from_value}
-use Rattle.report_text_law.proofs.Free.{Free, EachFree, free_joined, free_decimal, split_joined}
 
 digits_grow : (n : ℕ) (ds : List ℕ) → n ≤ digits_value_after 10 n ds
 digits_grow n [] = omega arith

@@ -1,10 +1,7 @@
 -- The text of an outline is the text of the report.
-use Rattle.std.proofs.Common.{◌≡◌, ◌∙◌, ℕ, ◌+◌, List, [], ◌∷◌, ◌++◌, length, ap, ap₂, refl, sym, map, flat_map}
-use Rattle.std.proofs.lemmas.Grind.{flat_map-append}
-use Rattle.report_text_law.specs.Types.{Yes, No, CartanAnswer, Column, OperationPart, PairColumn, ProductPart, ComplexPart, DegreePart, Form, Basis, Short, Certificate, InducedPart, MapPart}
+use Rattle.std.proofs.{Common.{◌≡◌, ◌∙◌, ℕ, ◌+◌, List, [], ◌∷◌, ◌++◌, length, ap, ap₂, refl, sym, map, flat_map}, lemmas.Grind.flat_map-append}
+use Rattle.report_text_law.specs.{Types.{Yes, No, CartanAnswer, Column, OperationPart, PairColumn, ProductPart, ComplexPart, DegreePart, Form, Basis, Short, Certificate, InducedPart, MapPart}, Names.{OutlineLaw, Chain, facet_line, below_line, class_line, with_line, cycle_line, cartan_yes, cartan_no, column_line, pair_line, degree_line, complex_line, end_line, map_line, product_line, operation_line, induced_line, columns_from, degree_lines, degrees_from, pair_lines, product_lines, operation_lines, answer_lines, cartan_lines, table_lines, complex_lines, send_of, induced_lines, map_lines, heading_line, prime_line, done_line, shown, printed, Line}, Text.text_of}
 use Rattle.report.specs.Names.{details, tables, outline_degree, outline_column, outline_pair, outline_answer, outline_product, outline_operation, outline_line, outline_complex, outline_induced, outline_map}
-use Rattle.report_text_law.specs.Names.{OutlineLaw, Chain, facet_line, below_line, class_line, with_line, cycle_line, cartan_yes, cartan_no, column_line, pair_line, degree_line, complex_line, end_line, map_line, product_line, operation_line, induced_line, columns_from, degree_lines, degrees_from, pair_lines, product_lines, operation_lines, answer_lines, cartan_lines, table_lines, complex_lines, send_of, induced_lines, map_lines, heading_line, prime_line, done_line, shown, printed, Line}
-use Rattle.report_text_law.specs.Text.{text_of}
 
 -- lines in two parts, of which each is printed alike
 two : (f : Form) (us bs cs ds : List Line) → printed f us ≡ printed f cs → printed f bs ≡ printed f ds → printed f (us ++ bs) ≡ printed f (cs ++ ds)

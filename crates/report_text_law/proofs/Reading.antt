@@ -1,13 +1,6 @@
 -- What is read is spelled so, and the lines that are taken begin a certificate.
-use Rattle.std.proofs.Common.{◌≡◌, ◌∙◌, ℕ, zero, suc, true, List, [], ◌∷◌, ◌++◌, ap, refl, sym, subst, append_assoc, Some, None, flat_map, append-nil}
-use Rattle.std.specs.declared.option.Option.{Option}
-use Rattle.std.specs.List.{list_all}
-use Rattle.report_text_law.specs.Names.{is_line, IsCertificate, Begins, Chain, heading_line, prime_line, class_line, with_line, cycle_line, end_line, done_line, map_lines, certificate_lines, Graded, ComplexStage, Values, Yes, No, MapStage, Sends, InducedValues, Finding, State, AtStart, AtPrime, InComplex, InMap, Finished, ◌>>=◌, report_of, move, prime_of, step, run, Line}
-use Rattle.report_text_law.proofs.Written.{written, front, move_law, some_same, bind_some, guard_some}
-use Rattle.report_text_law.specs.Types.{Report, MapPart}
-use Rattle.report_text_law.proofs.Fine.{IsFine, fine_law}
-use Rattle.report_text_law.proofs.Again.{again, finding}
-use Rattle.report_text_law.specs.declared.state.ComplexStage.TheVariants.{Degree, Pair}
+use Rattle.std.{proofs.Common.{◌≡◌, ◌∙◌, ℕ, zero, suc, true, List, [], ◌∷◌, ◌++◌, ap, refl, sym, subst, append_assoc, Some, None, flat_map, append-nil}, specs.declared.option.Option.Option, specs.List.list_all}
+use Rattle.report_text_law.{specs.Names.{is_line, IsCertificate, Begins, Chain, heading_line, prime_line, class_line, with_line, cycle_line, end_line, done_line, map_lines, certificate_lines, Graded, ComplexStage, Values, Yes, No, MapStage, Sends, InducedValues, Finding, State, AtStart, AtPrime, InComplex, InMap, Finished, ◌>>=◌, report_of, move, prime_of, step, run, Line}, proofs.Written.{written, front, move_law, some_same, bind_some, guard_some}, specs.Types.{Report, MapPart}, proofs.Fine.{IsFine, fine_law}, proofs.Again.{again, finding}, specs.declared.state.ComplexStage.TheVariants.{Degree, Pair}}
 
 run_law : (s : State) (ls : List Line) (t : State) → run s ls ≡ Some t → IsFine s → (written t ≡ written s ++ ls) × IsFine t
 run_law s [] t e fine =

@@ -1,17 +1,6 @@
 -- What a whole text spells, and its first bad line.
-use Rattle.std.proofs.Common.{◌≡◌, ◌∙◌, ℕ, ◌+◌, ◌<◌, ◌≤◌, Bool, true, false, cond, List, [], ◌∷◌, ◌++◌, length, length-append, take, drop, ap, refl, sym, subst, arith, append_assoc, Some, None, rules, ◌==◌, map, flat_map, Ok, Err, Result, append-nil}
-use Rattle.std.specs.declared.option.Option.{Option}
-use Rattle.std.specs.List.{count_by, onto_first, join_with_byte}
-use Rattle.std.proofs.lemmas.List.Splits.{join_with_byte-slice_split, length-slice_split}
-use Rattle.std.proofs.Math.Seq.{take-append-add}
-use Rattle.std.proofs.lemmas.List.{take-append-drop, take-append-le}
-use Rattle.report_text_law.specs.Types.{Report, MapPart, Certificate}
-use Rattle.report_text_law.specs.Names.{Finding, State, AtStart, Finished, certificate_lines, ended, report_of, step, ◌>>=◌, spelled, line_at, read, ended_at, after, or_refused, read_from, read_text, pieces, Spells, BeginsText, IsRefused, ReadingLaw, OneReport, OneRefusedLine}
-use Rattle.report_text_law.specs.Text.{text_of}
-use Rattle.report_text_law.proofs.Written.{bind_some, some_same}
-use Rattle.report_text_law.proofs.Reading.{behind, finished_with}
-use Rattle.report_text_law.proofs.Free.{EachFree, split_at}
-use Rattle.report_text_law.proofs.Texts.{taken_begins_text, begins_text_taken, whole_text, whole_again, whole_free, text_is}
+use Rattle.std.{proofs.Common.{◌≡◌, ◌∙◌, ℕ, ◌+◌, ◌<◌, ◌≤◌, Bool, true, false, cond, List, [], ◌∷◌, ◌++◌, length, length-append, take, drop, ap, refl, sym, subst, arith, append_assoc, Some, None, rules, ◌==◌, map, flat_map, Ok, Err, Result, append-nil}, specs.declared.option.Option.Option, specs.List.{count_by, onto_first, join_with_byte}, proofs.lemmas.List.Splits.{join_with_byte-slice_split, length-slice_split}, proofs.Math.Seq.take-append-add, proofs.lemmas.List.{take-append-drop, take-append-le}}
+use Rattle.report_text_law.{specs.Types.{Report, MapPart, Certificate}, specs.Names.{Finding, State, AtStart, Finished, certificate_lines, ended, report_of, step, ◌>>=◌, spelled, line_at, read, ended_at, after, or_refused, read_from, read_text, pieces, Spells, BeginsText, IsRefused, ReadingLaw, OneReport, OneRefusedLine}, specs.Text.text_of, proofs.Written.{bind_some, some_same}, proofs.Reading.{behind, finished_with}, proofs.Free.{EachFree, split_at}, proofs.Texts.{taken_begins_text, begins_text_taken, whole_text, whole_again, whole_free, text_is}}
 
 read_step : (s : State) (b : List ℕ) (bs : List (List ℕ)) → read s (b ∷ bs) ≡ (after s b >>= λ t. read t bs)
 read_step s b bs = behind (line_at b) (step s) (λ l. step s l >>= λ t. read t bs) (λ t. read t bs) (λ l. refl)

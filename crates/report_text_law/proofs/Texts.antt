@@ -1,22 +1,7 @@
 -- The same of texts.
-use Rattle.std.proofs.Common.{◌≡◌, ◌∙◌, ℕ, ◌<◌, ◌^◌, Bool, true, cond, List, [], ◌∷◌, ◌++◌, ap, ap₂, refl, sym, subst, append_assoc, Some, None, rules, lit<, ◌==◌, map, flat_map}
-use Rattle.std.specs.declared.option.Option.{Option}
-use Rattle.std.specs.List.{slice_split, list_all}
-use Rattle.std.specs.Str.{bytes_eq}
-use Rattle.std.proofs.lemmas.Bool.{and_parts}
-use Rattle.std.proofs.lemmas.Slice.Eq.{bytes_eq-Decides}
-use Rattle.std.proofs.lemmas.List.{map-append}
-use Rattle.std.proofs.lemmas.Grind.{flat_map-append}
+use Rattle.std.{proofs.Common.{◌≡◌, ◌∙◌, ℕ, ◌<◌, ◌^◌, Bool, true, cond, List, [], ◌∷◌, ◌++◌, ap, ap₂, refl, sym, subst, append_assoc, Some, None, rules, lit<, ◌==◌, map, flat_map}, specs.declared.option.Option.Option, specs.List.{slice_split, list_all}, specs.Str.bytes_eq, proofs.lemmas.Bool.and_parts, proofs.lemmas.Slice.Eq.bytes_eq-Decides, proofs.lemmas.List.map-append, proofs.lemmas.Grind.flat_map-append}
 use Rattle.fp_field.specs.Served.{served}
-use Rattle.report_text_law.specs.Types.{Report, Certificate, MapPart}
-use Rattle.report_text_law.specs.Names.{heading_line, certificate_lines, Finding, State, AtStart, AtPrime, Finished, joined, words, ended, shown, printed, is_line, ◌>>=◌, report_of, move, prime_of, step, run, BeginsText, Spells, spelled, guess, if_same, line_at, read, Line}
-use Rattle.report_text_law.specs.Text.{text_of}
-use Rattle.report_text_law.specs.WellFormed.{is_well_formed}
-use Rattle.report_text_law.proofs.Written.{bind_some, guard_some, some_same}
-use Rattle.report_text_law.proofs.Fine.{IsFine, fine_law}
-use Rattle.report_text_law.proofs.Reading.{sound, taken_begins, begins_taken, complete, finished_with}
-use Rattle.report_text_law.proofs.Free.{EachFree, free_joined, split_joined, cut}
-use Rattle.report_text_law.proofs.Guessing.{guess_again, words_free, served_small, same_bytes}
+use Rattle.report_text_law.{specs.Types.{Report, Certificate, MapPart}, specs.Names.{heading_line, certificate_lines, Finding, State, AtStart, AtPrime, Finished, joined, words, ended, shown, printed, is_line, ◌>>=◌, report_of, move, prime_of, step, run, BeginsText, Spells, spelled, guess, if_same, line_at, read, Line}, specs.Text.text_of, specs.WellFormed.is_well_formed, proofs.Written.{bind_some, guard_some, some_same}, proofs.Fine.{IsFine, fine_law}, proofs.Reading.{sound, taken_begins, begins_taken, complete, finished_with}, proofs.Free.{EachFree, free_joined, split_joined, cut}, proofs.Guessing.{guess_again, words_free, served_small, same_bytes}}
 
 are_same : (a : List ℕ) → bytes_eq a a ≡ true
 are_same a = search (rules, bytes_eq-Decides)

@@ -1,8 +1,6 @@
 -- The worked texts, by computing them.
-use Rattle.std.proofs.Common.{refl}
-use Rattle.std.specs.Fmt.{digits}
-use Rattle.report_text_law.specs.Text.{text_of}
-use Rattle.report_text_law.specs.Names.{WorkedTexts}
+use Rattle.std.{proofs.Common.refl, specs.Fmt.digits}
+use Rattle.report_text_law.specs.{Text.text_of, Names.WorkedTexts}
 
 pub worked_texts : WorkedTexts
 unfolding text_of digits

@@ -1,11 +1,6 @@
 -- What a state stands for: the lines that were read.
-use Rattle.std.proofs.Common.{◌≡◌, ◌∙◌, ℕ, zero, suc, ◌+◌, Bool, true, false, cond, List, [], ◌∷◌, ◌++◌, length, ap, refl, sym, subst, arith, append_assoc, Some, None, length-append, rules, map, flat_map, ◌==◌, append-nil}
-use Rattle.std.specs.declared.option.Option.{Option}
-use Rattle.std.proofs.lemmas.List.{flat_map_more, map-append}
-use Rattle.report_text_law.specs.Names.{ComplexHead, Chain, heading_line, prime_line, complex_line, facet_line, degree_line, below_line, class_line, product_line, pair_line, with_line, operation_line, column_line, cartan_yes, cartan_no, cycle_line, end_line, map_line, send_line, induced_line, done_line, columns_from, degree_lines, degrees_from, pair_lines, product_lines, operation_lines, cartan_lines, complex_lines, send_of, induced_lines, map_lines, Graded, Multiplied, Operated, Judged, ComplexStage, Facets, Values, Yes, No, Cartans, MapHead, Mapped, MapStage, Sends, InducedValues, Finding, State, AtStart, AtPrime, Between, InComplex, BetweenMaps, InMap, Finished, ◌>>=◌, with_degree, with_complex, graded_of, multiplied_from, multiplied_of, operated_from, operated_of, judged_from, judged_of, mapped_of, complex_of, map_of, degree_opens, facet_stands, below_stands, class_stands, pair_stands, values_stand, with_stands, cycle_stands, next, next_of_map, in_complex, in_map, move, Line}
-use Rattle.report_text_law.specs.Types.{Yes as answers_yes, No as answers_no, Column, DegreePart, MapPart}
-use Rattle.report_text_law.specs.declared.state.ComplexStage.TheVariants.{Degree, Product, Pair, Operation}
-use Rattle.report_text_law.specs.declared.state.MapStage.TheVariants.{Induced}
+use Rattle.std.{proofs.Common.{◌≡◌, ◌∙◌, ℕ, zero, suc, ◌+◌, Bool, true, false, cond, List, [], ◌∷◌, ◌++◌, length, ap, refl, sym, subst, arith, append_assoc, Some, None, length-append, rules, map, flat_map, ◌==◌, append-nil}, specs.declared.option.Option.Option, proofs.lemmas.List.{flat_map_more, map-append}}
+use Rattle.report_text_law.specs.{Names.{ComplexHead, Chain, heading_line, prime_line, complex_line, facet_line, degree_line, below_line, class_line, product_line, pair_line, with_line, operation_line, column_line, cartan_yes, cartan_no, cycle_line, end_line, map_line, send_line, induced_line, done_line, columns_from, degree_lines, degrees_from, pair_lines, product_lines, operation_lines, cartan_lines, complex_lines, send_of, induced_lines, map_lines, Graded, Multiplied, Operated, Judged, ComplexStage, Facets, Values, Yes, No, Cartans, MapHead, Mapped, MapStage, Sends, InducedValues, Finding, State, AtStart, AtPrime, Between, InComplex, BetweenMaps, InMap, Finished, ◌>>=◌, with_degree, with_complex, graded_of, multiplied_from, multiplied_of, operated_from, operated_of, judged_from, judged_of, mapped_of, complex_of, map_of, degree_opens, facet_stands, below_stands, class_stands, pair_stands, values_stand, with_stands, cycle_stands, next, next_of_map, in_complex, in_map, move, Line}, Types.{Yes as answers_yes, No as answers_no, Column, DegreePart, MapPart}, declared.state.ComplexStage.TheVariants.{Degree, Product, Pair, Operation}, declared.state.MapStage.TheVariants.Induced}
 
 abbrev pub block_lines : ComplexHead → List Line
 block_lines b = complex_line b.name ∷ map facet_line b.facets

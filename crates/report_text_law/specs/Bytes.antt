@@ -1,16 +1,7 @@
 -- Lines as bytes: a line is guessed from its words, and taken where its spelling is the line again.
-use Rattle.std.specs.Prelude.{ℕ, ◌==◌, List, [], ◌∷◌, ◌+◌, ◌-◌, ◌*◌, ◌^◌, nat_lt, codes, flat_map, length, map, Some, None, Ok, Err, Result, if◌then◌else◌}
-use Rattle.std.specs.declared.option.Option.{Option}
-use Rattle.std.specs.List.{slice_split}
-use Rattle.std.specs.Str.{bytes_eq}
-use Rattle.report_text_law.specs.Types.{OpWord, Report, Certificate}
+use Rattle.std.specs.{Prelude.{ℕ, ◌==◌, List, [], ◌∷◌, ◌+◌, ◌-◌, ◌*◌, ◌^◌, nat_lt, codes, flat_map, length, map, Some, None, Ok, Err, Result, if◌then◌else◌}, declared.option.Option.Option, List.slice_split, Str.bytes_eq}
+use Rattle.report_text_law.specs.{Types.{OpWord, Report, Certificate}, Lines.{Chain, Line, heading_line, prime_line, complex_line, facet_line, degree_line, below_line, class_line, product_line, pair_line, with_line, operation_line, column_line, cartan_yes, cartan_no, cycle_line, end_line, map_line, send_line, induced_line, done_line}, Spelling.{joined, words}, Machine.{step, report_of, ◌>>=◌}, Certificates.pieces, declared.state.State.State, declared.state.State.TheVariants.{AtStart, Finished}}
 use Rattle.report.specs.declared.columns.OpWord.TheVariants.{Sq, Power, BocksteinPower}
-use Rattle.report_text_law.specs.Lines.{Chain, Line, heading_line, prime_line, complex_line, facet_line, degree_line, below_line, class_line, product_line, pair_line, with_line, operation_line, column_line, cartan_yes, cartan_no, cycle_line, end_line, map_line, send_line, induced_line, done_line}
-use Rattle.report_text_law.specs.Spelling.{joined, words}
-use Rattle.report_text_law.specs.Machine.{step, report_of, ◌>>=◌}
-use Rattle.report_text_law.specs.Certificates.{pieces}
-use Rattle.report_text_law.specs.declared.state.State.{State}
-use Rattle.report_text_law.specs.declared.state.State.TheVariants.{AtStart, Finished}
 
 abbrev pub spelled : Line → List ℕ
 spelled l = joined 32 (words Certificate l)

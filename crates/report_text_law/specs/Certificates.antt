@@ -1,11 +1,6 @@
 -- Which texts spell a report, and which line of another text is refused.
-use Rattle.std.specs.Prelude.{◌≡◌, ℕ, ◌<◌, ◌≤◌, ◌==◌, true, List, ◌++◌, flat_map, length, take}
-use Rattle.std.specs.List.{list_all, slice_split}
-use Rattle.report_text_law.specs.Types.{Report, Certificate}
-use Rattle.report_text_law.specs.Lines.{Line, certificate_lines}
-use Rattle.report_text_law.specs.Spelling.{ended}
-use Rattle.report_text_law.specs.Text.{text_of}
-use Rattle.report_text_law.specs.WellFormed.{is_line, is_well_formed}
+use Rattle.std.specs.{Prelude.{◌≡◌, ℕ, ◌<◌, ◌≤◌, ◌==◌, true, List, ◌++◌, flat_map, length, take}, List.{list_all, slice_split}}
+use Rattle.report_text_law.specs.{Types.{Report, Certificate}, Lines.{Line, certificate_lines}, Spelling.ended, Text.text_of, WellFormed.{is_line, is_well_formed}}
 
 -- the lines are those of the certificate of this well formed report
 pub record IsCertificate (r : Report) (ls : List Line) : Type 0 where

@@ -1,11 +1,7 @@
 -- The laws of reading.
 use Rattle.std.specs.Prelude.{◌≡◌, ℕ, true, List, Ok, Err}
-use Rattle.report_text_law.specs.Types.{Report, Form, Certificate}
+use Rattle.report_text_law.specs.{Types.{Report, Form, Certificate}, Bytes.read_text, Certificates.{Spells, IsRefused}, Text.text_of, WellFormed.is_well_formed}
 use Rattle.report.specs.Names.{outline}
-use Rattle.report_text_law.specs.Bytes.{read_text}
-use Rattle.report_text_law.specs.Certificates.{Spells, IsRefused}
-use Rattle.report_text_law.specs.Text.{text_of}
-use Rattle.report_text_law.specs.WellFormed.{is_well_formed}
 
 -- What is read is spelled so, what is spelled so is read, and the refused line is the least.
 pub record ReadingLaw : Type 0 where

@@ -1,23 +1,6 @@
 -- A certificate is read line by line.
-use Rattle.std.specs.Prelude.{ℕ, zero, suc, ◌+◌, ◌==◌, List, [], ◌∷◌, ◌++◌, length, Some, None, if◌then◌else◌}
-use Rattle.std.specs.declared.option.Option.{Option}
-use Rattle.report_text_law.specs.declared.state.ComplexHead.{ComplexHead}
-use Rattle.report_text_law.specs.Types.{Sent, Yes as answers_yes, No as answers_no, CartanPart, Column, OperationPart, PairColumn, ProductPart, ComplexPart, DegreePart, Report, InducedPart, MapPart}
-use Rattle.report_text_law.specs.Lines.{Chain, Line, heading_line, prime_line, complex_line, facet_line, degree_line, below_line, class_line, product_line, pair_line, with_line, operation_line, column_line, cartan_yes, cartan_no, cycle_line, end_line, map_line, send_line, induced_line, done_line}
-use Rattle.report_text_law.specs.WellFormed.{is_line}
-use Rattle.report_text_law.specs.declared.state.Graded.{Graded}
-use Rattle.report_text_law.specs.declared.state.Multiplied.{Multiplied}
-use Rattle.report_text_law.specs.declared.state.Operated.{Operated}
-use Rattle.report_text_law.specs.declared.state.Judged.{Judged}
-use Rattle.report_text_law.specs.declared.state.ComplexStage.{ComplexStage}
-use Rattle.report_text_law.specs.declared.state.ComplexStage.TheVariants.{Facets, Degree, Product, Pair, Operation, Values, Yes, No, Cartans}
-use Rattle.report_text_law.specs.declared.state.MapHead.{MapHead}
-use Rattle.report_text_law.specs.declared.state.Mapped.{Mapped}
-use Rattle.report_text_law.specs.declared.state.MapStage.{MapStage}
-use Rattle.report_text_law.specs.declared.state.MapStage.TheVariants.{Sends, Induced, InducedValues}
-use Rattle.report_text_law.specs.declared.state.Finding.{Finding}
-use Rattle.report_text_law.specs.declared.state.State.{State}
-use Rattle.report_text_law.specs.declared.state.State.TheVariants.{AtStart, AtPrime, Between, InComplex, BetweenMaps, InMap, Finished}
+use Rattle.std.specs.{Prelude.{ℕ, zero, suc, ◌+◌, ◌==◌, List, [], ◌∷◌, ◌++◌, length, Some, None, if◌then◌else◌}, declared.option.Option.Option}
+use Rattle.report_text_law.specs.{declared.state.ComplexHead.ComplexHead, Types.{Sent, Yes as answers_yes, No as answers_no, CartanPart, Column, OperationPart, PairColumn, ProductPart, ComplexPart, DegreePart, Report, InducedPart, MapPart}, Lines.{Chain, Line, heading_line, prime_line, complex_line, facet_line, degree_line, below_line, class_line, product_line, pair_line, with_line, operation_line, column_line, cartan_yes, cartan_no, cycle_line, end_line, map_line, send_line, induced_line, done_line}, WellFormed.is_line, declared.state.Graded.Graded, declared.state.Multiplied.Multiplied, declared.state.Operated.Operated, declared.state.Judged.Judged, declared.state.ComplexStage.ComplexStage, declared.state.ComplexStage.TheVariants.{Facets, Degree, Product, Pair, Operation, Values, Yes, No, Cartans}, declared.state.MapHead.MapHead, declared.state.Mapped.Mapped, declared.state.MapStage.MapStage, declared.state.MapStage.TheVariants.{Sends, Induced, InducedValues}, declared.state.Finding.Finding, declared.state.State.State, declared.state.State.TheVariants.{AtStart, AtPrime, Between, InComplex, BetweenMaps, InMap, Finished}}
 
 infixl 10 ◌>>=◌
 abbrev pub ◌>>=◌ : {A B : Type 0} → Option A → (A → Option B) → Option B

@@ -1,9 +1,7 @@
 -- Worked texts: reports, and the lines in which they are printed.
 use Rattle.std.specs.Prelude.{◌≡◌, ℕ, List, [], ◌∷◌, codes, flat_map}
-use Rattle.report_text_law.specs.Types.{Yes, CartanPart, Column, OpWord, OperationPart, PairColumn, ProductPart, ComplexPart, DegreePart, Report, Certificate, Short}
+use Rattle.report_text_law.specs.{Types.{Yes, CartanPart, Column, OpWord, OperationPart, PairColumn, ProductPart, ComplexPart, DegreePart, Report, Certificate, Short}, Spelling.ended, Text.text_of}
 use Rattle.report.specs.declared.columns.OpWord.TheVariants.{Sq, Power, BocksteinPower}
-use Rattle.report_text_law.specs.Spelling.{ended}
-use Rattle.report_text_law.specs.Text.{text_of}
 
 -- columns, blocks and verdicts without their chains
 

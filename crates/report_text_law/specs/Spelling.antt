@@ -1,10 +1,7 @@
 -- How each line is spelled, and in which text it stands.
-use Rattle.std.specs.Prelude.{ℕ, Bool, true, List, [], ◌∷◌, ◌++◌, codes, map, flat_map, if◌then◌else◌}
-use Rattle.std.specs.Fmt.{decimal}
-use Rattle.report_text_law.specs.Types.{OpWord, Form, Basis, Short, Certificate}
-use Rattle.report.specs.Names.{has_details, has_tables}
-use Rattle.report.specs.declared.columns.OpWord.TheVariants.{Sq, Power, BocksteinPower}
-use Rattle.report_text_law.specs.Lines.{Chain, Line, heading_line, prime_line, complex_line, facet_line, degree_line, below_line, class_line, product_line, pair_line, with_line, operation_line, column_line, cartan_yes, cartan_no, cycle_line, end_line, map_line, send_line, induced_line, done_line}
+use Rattle.std.specs.{Prelude.{ℕ, Bool, true, List, [], ◌∷◌, ◌++◌, codes, map, flat_map, if◌then◌else◌}, Fmt.decimal}
+use Rattle.report_text_law.specs.{Types.{OpWord, Form, Basis, Short, Certificate}, Lines.{Chain, Line, heading_line, prime_line, complex_line, facet_line, degree_line, below_line, class_line, product_line, pair_line, with_line, operation_line, column_line, cartan_yes, cartan_no, cycle_line, end_line, map_line, send_line, induced_line, done_line}}
+use Rattle.report.specs.{Names.{has_details, has_tables}, declared.columns.OpWord.TheVariants.{Sq, Power, BocksteinPower}}
 
 -- ---- the words of a line
 

@@ -13,6 +13,7 @@ pub use state::{
 };
 
 /// What is read is spelled so, what is spelled so is read, and the refused line is the least.
+#[tactic(auto, using(crate::proofs::Refusals::reading_law))]
 pub fn reading_law()
     ensures { ReadingLaw }
 {}
@@ -33,6 +34,7 @@ pub fn outline_law()
 {}
 
 /// The texts of five reports: a certificate and four short reports.
+#[tactic(auto, using(crate::proofs::WorkedTexts::worked_texts))]
 pub fn worked_texts()
     ensures { WorkedTexts }
 {}

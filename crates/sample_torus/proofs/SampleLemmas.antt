@@ -1,37 +1,15 @@
 -- What the certificate of a torus tells of its sizes and counted terms.
-use Rattle.std.proofs.Common.{◌≡◌, ℕ, ◌<◌, ◌≤◌, ◌^◌, IsTrue, true, refl, sym, ◌∙◌, ap, subst, arith, List, [], ◌∷◌, length, map, get_or, None, Ok, Err, Result, IfOk, ltb-false, inl}
-use Rattle.std.specs.List.{AllZip}
-use Rattle.std.proofs.lemmas.List.{length-map}
+use Rattle.std.{proofs.Common.{◌≡◌, ℕ, ◌<◌, ◌≤◌, ◌^◌, IsTrue, true, refl, sym, ◌∙◌, ap, subst, arith, List, [], ◌∷◌, length, map, get_or, None, Ok, Err, Result, IfOk, ltb-false, inl}, specs.List.AllZip, proofs.lemmas.List.length-map, specs.declared.alloc.AllocError.AllocError}
 use Rattle.fp_field.specs.Served.{served}
-use Rattle.linear_law.specs.Names.{Each}
-use Rattle.complex_file.specs.declared.block.ComplexBlock.{ComplexBlock}
-use Rattle.complex_file.specs.Names.{Spelled}
-use Rattle.complex_file.specs.Jobs.{is_job}
-use Rattle.report.specs.declared.complex.ComplexPart.{ComplexPart}
-use Rattle.report.specs.declared.complex.DegreePart.{DegreePart}
-use Rattle.report.specs.declared.form.Form.TheVariants.{Certificate}
-use Rattle.report.specs.declared.job.Report.{Report}
-use Rattle.report.specs.declared.plan.Sizes.{Sizes}
-use Rattle.report_law.specs.Names.{ranks, classes_of, IsComplexPart, IsReportOf, AreSizes, IsWithinLimit, addends, passing_sum, sizes_of}
-use Rattle.report_law.proofs.Names.{sizes_law}
-use Rattle.certificate_law.specs.Names.{Certifies, FailsFirst, line_said, stated}
-use Rattle.certificate_law.proofs.Failures.{first_failure_law}
-use Rattle.certificate_law.proofs.StatedLines.{stated_lines_law}
-use Rattle.certificate_law.proofs.JobLaw.{complete_law}
-use Rattle.certificate_law.proofs.Limits.{more_allowed}
-use Rattle.certificate_law.proofs.WrittenJobs.{IsSound, few_classes, few_degrees, writable}
-use Rattle.std.specs.declared.alloc.AllocError.{AllocError}
+use Rattle.linear_law.{specs.Names.Each, proofs.Names.each_of_index}
+use Rattle.complex_file.specs.{declared.block.ComplexBlock.ComplexBlock, Names.Spelled, Jobs.is_job}
+use Rattle.report.specs.declared.{complex.ComplexPart.ComplexPart, complex.DegreePart.DegreePart, form.Form.TheVariants.Certificate, job.Report.Report, plan.Sizes.Sizes}
+use Rattle.report_law.{specs.Names.{ranks, classes_of, IsComplexPart, IsReportOf, AreSizes, IsWithinLimit, addends, passing_sum, sizes_of}, proofs.Names.sizes_law}
+use Rattle.certificate_law.{specs.Names.{Certifies, FailsFirst, line_said, stated}, proofs.Failures.first_failure_law, proofs.StatedLines.stated_lines_law, proofs.JobLaw.complete_law, proofs.Limits.more_allowed, proofs.WrittenJobs.{IsSound, few_classes, few_degrees, few_lines_law, writable}, proofs.Building.at_index, proofs.CertifiedBases.{classes_at, no_degree}, proofs.FewLines.each_of_at, proofs.JobBlocks.FacetsFit}
 use Rattle.term_total.specs.Names.{sum_of, IsPart}
-use Rattle.sample_torus.specs.declared.sizes.Sample.{Sample}
-use Rattle.sample_torus.specs.Samples.{CanBeSized, IsSample}
-use Rattle.signed_sum.specs.Names.{numbers_from}
-use Rattle.linear_law.proofs.Names.{each_of_index}
-use Rattle.simplicial_law.specs.Names.{Chain, of_degree}
-use Rattle.simplicial_law.specs.ListedSimplices.{simplices}
-use Rattle.certificate_law.proofs.Building.{at_index}
-use Rattle.certificate_law.proofs.CertifiedBases.{classes_at, no_degree}
-use Rattle.certificate_law.proofs.FewLines.{each_of_at, few_lines_law, numbers_long}
-use Rattle.certificate_law.proofs.JobBlocks.{FacetsFit}
+use Rattle.sample_torus.specs.{declared.sizes.Sample.Sample, Samples.{CanBeSized, IsSample}}
+use Rattle.signed_sum.{specs.Names.numbers_from, proofs.Names.length-numbers_from}
+use Rattle.simplicial_law.specs.{Names.{Chain, of_degree}, ListedSimplices.simplices}
 
 -- such a certificate certifies
 pub job_certifies : (job : Spelled) (r : Report) → is_job job.prime job.complexes job.maps ≡ true → IsReportOf Certificate job r → IsWithinLimit job (10 ^ 8) → Certifies r
@@ -78,7 +56,7 @@ ranks_same (d ∷ ds) = ap (λ (ns : List ℕ). length d.classes ∷ ns) (ranks_
 pub is_part : (facets : List (List ℕ)) (c : ComplexPart) → length c.degrees ≤ 16 → IsPart (sizes_of facets c)
 is_part facets c low =
     let a = length-map (numbers_from 0 (length c.degrees)) (λ (n : ℕ). length (of_degree n (simplices facets))) in
-    let n = numbers_long 0 (length c.degrees) in
+    let n = length-numbers_from 0 (length c.degrees) in
     let b = length-map (classes_of c) (λ (cs : List Chain). length cs) in
     let d = length-map c.degrees (λ (d : DegreePart). d.classes) in
     record { same = omega (arith, a, n, b, d); few = omega (arith, b, d, low) }

@@ -1,25 +1,10 @@
 -- A torus of the sample family is a job.
-use Rattle.std.proofs.Common.{◌≡◌, ℕ, zero, suc, ◌+◌, ◌-◌, ◌*◌, ◌%◌, ◌<◌, ◌≤◌, ◌==◌, ◌&&◌, ◌⊎◌, inl, inr, true, false, IsTrue, refl, sym, ◌∙◌, ap, ap₂, arith, List, [], ◌∷◌, ◌++◌, length, None, append_assoc, codes, flat_map, fold, is_none, nat_le, nat_lt, le-leb, le-ltb, ne_eqb, length-append}
-use Rattle.std.specs.List.{list_all}
-use Rattle.std.specs.BTreeSet.{insert_key}
-use Rattle.std.proofs.Math.Nat.{mod-eq-sub-mod, mod-eq_of_lt}
-use Rattle.std.proofs.lemmas.Bool.{and_from, cases_lt}
-use Rattle.std.proofs.lemmas.List.Folds.{list_all-append}
-use Rattle.std.specs.Ordering.{match_ordering, nat_cmp}
-use Rattle.std.specs.declared.cmp.Ordering.{Ordering}
-use Rattle.std.specs.declared.cmp.Ordering.TheVariants.{Less, Equal, Greater}
-use Rattle.linear_law.specs.Names.{Each}
-use Rattle.linear_law.proofs.Names.{each_append}
+use Rattle.std.{proofs.Common.{◌≡◌, ℕ, zero, suc, ◌+◌, ◌-◌, ◌*◌, ◌%◌, ◌<◌, ◌≤◌, ◌==◌, ◌&&◌, ◌⊎◌, inl, inr, true, false, IsTrue, refl, sym, ◌∙◌, ap, ap₂, arith, List, [], ◌∷◌, ◌++◌, length, None, append_assoc, codes, flat_map, fold, is_none, nat_le, nat_lt, le-leb, le-ltb, ne_eqb, length-append}, specs.List.list_all, specs.BTreeSet.insert_key, proofs.Math.Nat.{mod-eq-sub-mod, mod-eq_of_lt}, proofs.lemmas.Bool.{and_from, cases_lt}, proofs.lemmas.List.Folds.list_all-append, specs.Ordering.{match_ordering, nat_cmp}, specs.declared.cmp.Ordering.Ordering, specs.declared.cmp.Ordering.TheVariants.{Less, Equal, Greater}, proofs.lemmas.Grind.flat_map-append}
+use Rattle.linear_law.{specs.Names.Each, proofs.Names.each_append}
 use Rattle.signed_sum.specs.Names.{numbers_from}
 use Rattle.fp_field.specs.Served.{served}
-use Rattle.simplicial_law.specs.Names.{simplex_cmp, sublists}
-use Rattle.simplicial_law.specs.ListedSimplices.{simplices, with_facet}
-use Rattle.complex_file.specs.Names.{ascending, complex_fault, facet_fault, first_facet_fault, has_repeat, is_complex, is_facet, or_later}
-use Rattle.std.proofs.lemmas.Grind.{flat_map-append}
-use Rattle.complex_file.specs.declared.block.ComplexBlock.{ComplexBlock}
-use Rattle.complex_file.specs.declared.block.MapBlock.{MapBlock}
-use Rattle.complex_file.specs.Jobs.{is_job}
-use Rattle.complex_file.proofs.FacetLemmas.{facet_from}
+use Rattle.simplicial_law.specs.{Names.{simplex_cmp, sublists}, ListedSimplices.{simplices, with_facet}}
+use Rattle.complex_file.{specs.Names.{ascending, complex_fault, facet_fault, first_facet_fault, has_repeat, is_complex, is_facet, or_later}, specs.declared.block.ComplexBlock.ComplexBlock, specs.declared.block.MapBlock.MapBlock, specs.Jobs.is_job, proofs.FacetLemmas.facet_from}
 use Rattle.sample_torus.specs.Torus.{torus_facets, torus_job, triangles_at}
 
 -- ---- places on the circle

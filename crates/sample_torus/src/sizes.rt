@@ -1,15 +1,12 @@
 ghost use Rattle.std.specs.Prelude.{◌≡◌, ◌≤◌, ◌<◌, ◌^◌, ◌∷◌, [], ℕ, true, length, Err, IfOk, IsTrue, None};
 ghost use Rattle.linear_law.specs.Names.{Each};
 ghost use Rattle.fp_field.specs.Served.{served};
-ghost use Rattle.complex_file.specs.declared.block.ComplexBlock.{ComplexBlock};
-ghost use Rattle.complex_file.specs.Jobs.{is_job};
-ghost use Rattle.complex_file.specs.Names.{content};
+ghost use Rattle.complex_file.specs.{declared.block.ComplexBlock.ComplexBlock, Jobs.is_job, Names.content};
 ghost use Rattle.report_law.specs.Names.{IsReportOf, IsWithinLimit, PassesLimit, addends, passing_sum, sizes_of};
 ghost use Rattle.report_text_law.specs.WellFormed.{is_well_formed};
 ghost use Rattle.certificate_law.specs.Names.{Certifies, stated};
 ghost use Rattle.term_total.specs.Names.{sum_of, IsPart};
-ghost use Rattle.sample_torus.specs.Samples.{CanBeSized, IsSample};
-ghost use Rattle.sample_torus.specs.Torus.{torus_facets, torus_job};
+ghost use Rattle.sample_torus.specs.{Samples.{CanBeSized, IsSample}, Torus.{torus_facets, torus_job}};
 
 use crate::family::torus;
 use cert_check::{Checked, check};

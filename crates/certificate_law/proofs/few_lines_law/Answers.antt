@@ -1,4 +1,4 @@
-use Rattle.certificate_law.proofs.FewLines.{few_lines_law}
+use Rattle.certificate_law.proofs.WrittenJobs.{few_lines_law}
 use Rattle.certificate_law.proofs.few_lines_law.Goals as goal
 
 pub returns : goal.returns

@@ -2,8 +2,7 @@ use Rattle.std.proofs.Common.{◌≡◌, ◌^◌, ℕ, Err, ap, codes, subst}
 use Rattle.complex_file.specs.Names.{Spelled}
 use Rattle.job_report.specs.declared.refused.MakeRefused.TheVariants.{TooManyTerms}
 use Rattle.report_law.specs.Names.{PassesLimit}
-use Rattle.sample_torus.specs.Samples.{IsSample}
-use Rattle.sample_torus.specs.Torus.{torus_facets}
+use Rattle.sample_torus.specs.{Samples.IsSample, Torus.torus_facets}
 use Rattle.sample_torus.proofs.sizes.make_sample.Goals as goal
 
 pub returns-in-Ok-clause-sample : goal.returns-in-Ok-clause-sample

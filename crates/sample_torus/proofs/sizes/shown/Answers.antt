@@ -1,6 +1,5 @@
 use Rattle.std.proofs.Common.{List, ap, get_or, ◌∙◌}
-use Rattle.complex_file.specs.declared.block.ComplexBlock.{ComplexBlock}
-use Rattle.complex_file.specs.Names.{content}
+use Rattle.complex_file.specs.{declared.block.ComplexBlock.ComplexBlock, Names.content}
 use Rattle.certificate_law.proofs.WrittenJobs.{well_formed_law, writable}
 use Rattle.sample_torus.proofs.SampleLemmas.{few_stated, job_certifies, shown_one, shown_sample}
 use Rattle.sample_torus.proofs.sizes.shown.Goals as goal
