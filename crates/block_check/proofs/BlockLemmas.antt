@@ -1,23 +1,10 @@
 -- The walks of blocks.
-use Rattle.std.proofs.Common.{◌≡◌, ℕ, ◌+◌, refl, sym, ◌∙◌, ap, subst, arith, true, false, List, [], ◌∷◌, ◌++◌, length, sum_by, Ok, Result, length-append}
-use Rattle.std.proofs.lemmas.List.Sums.{sum_by-cons}
-use Rattle.linear_law.specs.Names.{Each}
-use Rattle.linear_law.proofs.Names.{each_append}
+use Rattle.std.proofs.{Common.{◌≡◌, ℕ, ◌+◌, refl, sym, ◌∙◌, ap, subst, arith, true, false, List, [], ◌∷◌, ◌++◌, length, sum_by, Ok, Result, length-append}, lemmas.List.Sums.sum_by-cons}
+use Rattle.linear_law.{specs.Names.Each, proofs.Names.each_append}
 use Rattle.complex_file.specs.Names.{has_name}
-use Rattle.complex_file.specs.declared.block.ComplexBlock.{ComplexBlock}
-use Rattle.report.specs.declared.columns.CartanAnswer.{CartanAnswer}
-use Rattle.report.specs.declared.columns.CartanAnswer.TheVariants.{No, Yes}
-use Rattle.report.specs.declared.complex.ComplexPart.{ComplexPart}
-use Rattle.report.specs.declared.job.Report.{Report}
-use Rattle.report.specs.declared.map.MapPart.{MapPart}
-use Rattle.certificate_law.specs.Names.{Asks, IsNewComplex, IsNewMap, complex_names, complex_named, itself, Stated, after, answer_stated, behind, below_stands, cartan_stated, class_stands, complex_ends, complex_stated, degree_stated, finish, heading, map_opens, map_stated, numbered, operation_column, operation_stated, prime_is, product_column, product_stated, stated, with_stands}
-use Rattle.certificate_walk.specs.Names.{complex_lines, map_lines, FailsBehind, IsWalk}
-use Rattle.certificate_walk.specs.declared.stop.Stop.{Stop}
-use Rattle.certificate_walk.specs.declared.stop.Stop.TheVariants.{Fails}
-use Rattle.certificate_walk.proofs.Names.{complex_length, map_length, walk_both, walk_one, walk_stops}
-use Rattle.block_check.specs.Blocks.{IsNewName, under_map}
-use Rattle.block_check.proofs.FacetLemmas.{facet_line}
-use Rattle.block_check.proofs.SendLemmas.{each_numbered}
+use Rattle.certificate_law.specs.{Types.{ComplexBlock, CartanAnswer, No, Yes, ComplexPart, Report, MapPart}, Names.{Asks, IsNewComplex, IsNewMap, complex_names, complex_named, itself, Stated, after, answer_stated, behind, below_stands, cartan_stated, class_stands, complex_ends, complex_stated, degree_stated, finish, heading, map_opens, map_stated, numbered, operation_column, operation_stated, prime_is, product_column, product_stated, stated, with_stands}}
+use Rattle.certificate_walk.{specs.Names.{complex_lines, map_lines, FailsBehind, IsWalk}, specs.declared.stop.Stop.Stop, specs.declared.stop.Stop.TheVariants.Fails, proofs.Names.{complex_length, map_length, walk_both, walk_one, walk_stops}}
+use Rattle.block_check.{specs.Blocks.{IsNewName, under_map}, proofs.FacetLemmas.facet_line, proofs.SendLemmas.each_numbered}
 
 -- ---- a complex
 

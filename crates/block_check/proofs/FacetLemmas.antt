@@ -1,9 +1,7 @@
 -- The walk of the facets of a complex.
 use Rattle.std.proofs.Common.{◌≡◌, ℕ, ◌+◌, refl, sym, subst, List, [], ◌∷◌, Ok, Err, IsErrAnd, Result}
 use Rattle.certificate_law.specs.Names.{Asks, Stated, facet_stands}
-use Rattle.certificate_walk.specs.Names.{IsWalk}
-use Rattle.certificate_walk.specs.declared.stop.Stop.{Stop}
-use Rattle.certificate_walk.specs.declared.stop.Stop.TheVariants.{Fails, OutOfMemory}
+use Rattle.certificate_walk.specs.{Names.IsWalk, declared.stop.Stop.Stop, declared.stop.Stop.TheVariants.{Fails, OutOfMemory}}
 use Rattle.block_check.specs.Blocks.{IsFacetWalk, walked}
 
 pub facet_stops : (p count : ℕ) (before : List (List ℕ)) (f : List ℕ) (e : Stop) → IsFacetWalk count before f (Err e) → IsWalk (Asks p 1) count (facet_stands before f ∷ []) (Err e)

@@ -1,14 +1,7 @@
 -- The names of blocks, and the complex with a name.
-use Rattle.std.proofs.Common.{◌≡◌, ℕ, ◌+◌, ◌<◌, ◌≤◌, refl, sym, ◌∙◌, ap, ap₂, arith, ◌↔◌, IsTrue, Bool, true, false, not, cond, ◌||◌, List, [], ◌∷◌, ◌++◌, length, map, get_or, drop}
-use Rattle.std.specs.List.{list_any}
-use Rattle.std.specs.Str.{bytes_eq}
-use Rattle.std.proofs.lemmas.List.{at_drop_more, drop_all, get_or-map, length-map}
-use Rattle.std.proofs.lemmas.List.Folds.{list_any-append}
+use Rattle.std.{proofs.Common.{◌≡◌, ℕ, ◌+◌, ◌<◌, ◌≤◌, refl, sym, ◌∙◌, ap, ap₂, arith, ◌↔◌, IsTrue, Bool, true, false, not, cond, ◌||◌, List, [], ◌∷◌, ◌++◌, length, map, get_or, drop}, specs.List.list_any, specs.Str.bytes_eq, proofs.lemmas.List.{at_drop_more, drop_all, get_or-map, length-map}, proofs.lemmas.List.Folds.list_any-append}
 use Rattle.complex_file.specs.Names.{has_name}
-use Rattle.complex_file.specs.declared.block.ComplexBlock.{ComplexBlock}
-use Rattle.report.specs.declared.complex.ComplexPart.{ComplexPart}
-use Rattle.report.specs.declared.map.MapPart.{MapPart}
-use Rattle.certificate_law.specs.Names.{IsNewComplex, complex_names, map_names, complex_named, itself}
+use Rattle.certificate_law.specs.{Types.{ComplexBlock, ComplexPart, MapPart}, Names.{IsNewComplex, complex_names, map_names, complex_named, itself}}
 use Rattle.block_check.specs.Blocks.{IsNewName}
 
 any_map : {X Y : Type 0} (f : X → Y) (t : Y → Bool) (xs : List X) → list_any (λ x. t (f x)) xs ≡ list_any t (map f xs)

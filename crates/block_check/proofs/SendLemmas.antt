@@ -1,17 +1,9 @@
 -- The faults of a map.
 use Rattle.std.proofs.Common.{◌≡◌, ℕ, ◌+◌, ◌<◌, ◌≤◌, refl, sym, ◌∙◌, ap, subst, arith, inl, inr, ◌⊎◌, Bool, false, cond, append_assoc, List, [], ◌∷◌, ◌++◌, length, Option, Some, None, Ok, Err, le-ltb, lt-ltb, append-nil, length-append}
-use Rattle.linear_law.specs.Names.{Each}
-use Rattle.linear_law.proofs.Names.{each_append}
-use Rattle.complex_file.specs.Names.{or_later, end_fault, first_send_fault, map_fault, send_fault}
-use Rattle.complex_file.specs.declared.block.Sent.{Sent}
-use Rattle.complex_file.specs.declared.fault.BlockFault.{BlockFault}
-use Rattle.complex_file.specs.declared.kind.InputKind.{InputKind}
-use Rattle.report.specs.declared.complex.ComplexPart.{ComplexPart}
-use Rattle.report.specs.declared.map.MapPart.{MapPart}
-use Rattle.certificate_law.specs.Names.{FailsAt, Asks, Stated, behind, induced_column, induced_stated, map_ends, numbered, send_stands, with_stands}
-use Rattle.certificate_walk.specs.Names.{map_lines, FailsBehind, IsWalk}
-use Rattle.certificate_walk.specs.declared.stop.Stop.TheVariants.{Fails}
-use Rattle.certificate_walk.proofs.Names.{behind_each, map_length, walk_both, walk_one, walk_stops}
+use Rattle.linear_law.{specs.Names.Each, proofs.Names.each_append}
+use Rattle.complex_file.specs.{Names.{or_later, end_fault, first_send_fault, map_fault, send_fault}, declared.fault.BlockFault.BlockFault, declared.kind.InputKind.InputKind}
+use Rattle.certificate_law.specs.{Types.{Sent, ComplexPart, MapPart}, Names.{FailsAt, Asks, Stated, behind, induced_column, induced_stated, map_ends, numbered, send_stands, with_stands}}
+use Rattle.certificate_walk.{specs.Names.{map_lines, FailsBehind, IsWalk}, specs.declared.stop.Stop.TheVariants.Fails, proofs.Names.{behind_each, map_length, walk_both, walk_one, walk_stops}}
 use Rattle.block_check.specs.Blocks.{fault_line, under_map}
 
 pub each_numbered : {X : Type 0} (P : Stated → Type 0) (line : ℕ → X → List Stated) (k : ℕ) (xs : List X) → ((k : ℕ) (x : X) → Each P (line k x)) → Each P (numbered line k xs)

@@ -1,12 +1,8 @@
 -- What the walk of the blocks of a certificate says.
 use Rattle.std.specs.Prelude.{◌≡◌, ℕ, ◌+◌, ◌<◌, false, nat_lt, if◌then◌else◌, List, [], ◌∷◌, ◌++◌, length, Ok, Err, Result, None}
 use Rattle.complex_file.specs.Names.{facet_fault, has_name}
-use Rattle.report.specs.declared.complex.ComplexPart.{ComplexPart}
-use Rattle.report.specs.declared.map.MapPart.{MapPart}
-use Rattle.certificate_law.specs.Names.{complex_names, map_names, Stated, behind, induced_stated, map_ends, numbered, send_stands}
-use Rattle.certificate_walk.specs.Names.{map_lines}
-use Rattle.certificate_walk.specs.declared.stop.Stop.{Stop}
-use Rattle.certificate_walk.specs.declared.stop.Stop.TheVariants.{Fails, OutOfMemory}
+use Rattle.certificate_law.specs.{Types.{ComplexPart, MapPart}, Names.{complex_names, map_names, Stated, behind, induced_stated, map_ends, numbered, send_stands}}
+use Rattle.certificate_walk.specs.{Names.map_lines, declared.stop.Stop.Stop, declared.stop.Stop.TheVariants.{Fails, OutOfMemory}}
 
 -- the answer of a walk that ends at the line `last`, where it ends with a value
 abbrev pub walked : {X : Type 0} → ℕ → Result X Stop → Result ℕ Stop

@@ -1,7 +1,5 @@
 //! The names of blocks.
-ghost use Rattle.std.specs.Prelude.{◌≡◌, ◌↔◌, ◌++◌, List, false, map, IsTrue, MatchOption};
-ghost use Rattle.std.specs.List.{list_any};
-ghost use Rattle.std.specs.Str.{bytes_eq};
+ghost use Rattle.std.specs.{Prelude.{◌≡◌, ◌↔◌, ◌++◌, List, false, map, IsTrue, MatchOption}, List.list_any, Str.bytes_eq};
 ghost use Rattle.complex_file.specs.Names.{has_name};
 ghost use Rattle.report.specs.declared.complex.ComplexPart.{ComplexPart as Listed};
 ghost use Rattle.certificate_law.specs.Names.{IsNewComplex, complex_names, map_names, complex_named, itself};

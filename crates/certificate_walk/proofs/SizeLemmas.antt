@@ -1,15 +1,6 @@
 -- The sections of a certificate have as many lines as is counted.
-use Rattle.std.proofs.Common.{◌≡◌, ℕ, ◌+◌, ◌*◌, ◌<◌, refl, sym, ◌∙◌, ap, arith, List, [], ◌∷◌, ◌++◌, length, get_or, drop, sum_by, length-append}
-use Rattle.std.proofs.lemmas.List.{at_drop_more}
-use Rattle.std.proofs.lemmas.List.Sums.{sum_by-cons}
-use Rattle.report.specs.declared.columns.CartanPart.{CartanPart}
-use Rattle.report.specs.declared.columns.OperationPart.{OperationPart}
-use Rattle.report.specs.declared.columns.ProductPart.{ProductPart}
-use Rattle.report.specs.declared.complex.ComplexPart.{ComplexPart}
-use Rattle.report.specs.declared.complex.DegreePart.{DegreePart}
-use Rattle.report.specs.declared.map.InducedPart.{InducedPart}
-use Rattle.report.specs.declared.map.MapPart.{MapPart}
-use Rattle.certificate_law.specs.Names.{Stated, after, behind, below_stands, cartan_stated, class_stands, complex_stated, degree_stated, facet_stands, induced_stated, map_between, numbered, operation_column, operation_stated, product_column, product_stated, send_stands, with_stands, induced_column, complex_ends, map_ends}
+use Rattle.std.proofs.{Common.{◌≡◌, ℕ, ◌+◌, ◌*◌, ◌<◌, refl, sym, ◌∙◌, ap, arith, List, [], ◌∷◌, ◌++◌, length, get_or, drop, sum_by, length-append}, lemmas.List.at_drop_more, lemmas.List.Sums.sum_by-cons}
+use Rattle.certificate_law.specs.{Types.{CartanPart, OperationPart, ProductPart, ComplexPart, DegreePart, InducedPart, MapPart}, Names.{Stated, after, behind, below_stands, cartan_stated, class_stands, complex_stated, degree_stated, facet_stands, induced_stated, map_between, numbered, operation_column, operation_stated, product_column, product_stated, send_stands, with_stands, induced_column, complex_ends, map_ends}}
 use Rattle.certificate_walk.specs.Names.{complex_lines, degree_lines, induced_lines, map_lines, operation_lines, product_lines}
 
 -- one line an item

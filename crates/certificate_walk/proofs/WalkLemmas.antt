@@ -1,9 +1,6 @@
 -- Walks that are put together: two sections, and the loops over the items of a section.
-use Rattle.std.proofs.Common.{◌≡◌, ℕ, ◌+◌, ◌<◌, ◌≤◌, refl, sym, ◌∙◌, ap, subst, arith, Bool, true, false, List, [], ◌∷◌, ◌++◌, length, get_or, drop, take, append_assoc, Ok, Err, if◌then◌else◌, ◌↔◌, IsErrAnd, IsTrue, Result, length-append}
-use Rattle.std.proofs.lemmas.Bool.{false≢true}
-use Rattle.std.proofs.lemmas.List.{at_drop_more, drop_all, take_more}
-use Rattle.linear_law.specs.Names.{Each}
-use Rattle.linear_law.proofs.Names.{each_append}
+use Rattle.std.proofs.{Common.{◌≡◌, ℕ, ◌+◌, ◌<◌, ◌≤◌, refl, sym, ◌∙◌, ap, subst, arith, Bool, true, false, List, [], ◌∷◌, ◌++◌, length, get_or, drop, take, append_assoc, Ok, Err, if◌then◌else◌, ◌↔◌, IsErrAnd, IsTrue, Result, length-append}, lemmas.Bool.false≢true, lemmas.List.{at_drop_more, drop_all, take_more}}
+use Rattle.linear_law.{specs.Names.Each, proofs.Names.each_append}
 use Rattle.certificate_law.specs.Names.{Stated, after, behind, numbered}
 use Rattle.certificate_walk.specs.Names.{Stop, Fails, OutOfMemory, IsWalk}
 

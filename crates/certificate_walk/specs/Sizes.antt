@@ -1,11 +1,6 @@
 -- How many lines the sections of a certificate have.
 use Rattle.std.specs.Prelude.{ℕ, ◌+◌, ◌*◌, length, sum_by}
-use Rattle.report.specs.declared.columns.OperationPart.{OperationPart}
-use Rattle.report.specs.declared.columns.ProductPart.{ProductPart}
-use Rattle.report.specs.declared.complex.ComplexPart.{ComplexPart}
-use Rattle.report.specs.declared.complex.DegreePart.{DegreePart}
-use Rattle.report.specs.declared.map.InducedPart.{InducedPart}
-use Rattle.report.specs.declared.map.MapPart.{MapPart}
+use Rattle.certificate_law.specs.Types.{OperationPart, ProductPart, ComplexPart, DegreePart, InducedPart, MapPart}
 
 -- a degree, with what is listed under it
 abbrev pub degree_lines : DegreePart → ℕ

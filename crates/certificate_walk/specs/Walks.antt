@@ -2,8 +2,7 @@
 use Rattle.std.specs.Prelude.{◌≡◌, ℕ, ◌+◌, List, length, Ok, Err, Result}
 use Rattle.linear_law.specs.Names.{Each}
 use Rattle.certificate_law.specs.Names.{FailsAt, Stated}
-use Rattle.certificate_walk.specs.declared.stop.Stop.{Stop}
-use Rattle.certificate_walk.specs.declared.stop.Stop.TheVariants.{Fails, OutOfMemory}
+use Rattle.certificate_walk.specs.declared.stop.{Stop.Stop, Stop.TheVariants.{Fails, OutOfMemory}}
 
 -- The first of these lines that is not as asked has this number, where `before` lines stand before them.
 pub record FailsBehind (P : Stated → Type 0) (before : ℕ) (lines : List Stated) (line : ℕ) : Type 0 where

@@ -1,21 +1,13 @@
 -- Least simplices of listed chains: by the rows of their cochains, and by the marks at those before.
-use Rattle.std.proofs.Common.{◌≡◌, ◌↔◌, IsTrue, ℕ, ◌<◌, Bool, true, false, not, MatchBool, Some, inl, inr, arith, refl, sym, ◌∙◌, ap, subst, List, [], ◌∷◌, length, get_or, set, length-set, get_or-set_same, get_or-set_other, mod-eq_of_lt, replicate, ◌+◌, ◌≤◌, MatchOption, is_some, Option, None}
-use Rattle.std.proofs.lemmas.Bool.{cases_eq, cases_lt, false≢true}
-use Rattle.std.proofs.lemmas.List.{get_or-replicate, length-replicate}
-use Rattle.linear_law.specs.Names.{Congruent}
-use Rattle.linear_law.proofs.Names.{Congruent_of, Congruent_sym, Congruent_trans, nonzero_alike, each_among, not_zero}
-use Rattle.simplicial_law.specs.Names.{Precedes, AgreesOnSimplices, Cochain, Chain, IsCocycle, coboundary, cochain_of}
-use Rattle.simplicial_law.proofs.Names.{each_of, lists_compare, agree_by_place, simplex_at}
-use Rattle.sparse_rows.specs.Rows.{IsBelow, IsFirst, IsRow, value_in}
-use Rattle.sparse_rows.proofs.RowLemmas.{value_in-past, value_in-small}
+use Rattle.std.proofs.{Common.{◌≡◌, ◌↔◌, IsTrue, ℕ, ◌<◌, Bool, true, false, not, MatchBool, Some, inl, inr, arith, refl, sym, ◌∙◌, ap, subst, List, [], ◌∷◌, length, get_or, set, length-set, get_or-set_same, get_or-set_other, mod-eq_of_lt, replicate, ◌+◌, ◌≤◌, MatchOption, is_some, Option, None}, lemmas.Bool.{cases_eq, cases_lt, false≢true}, lemmas.List.{get_or-replicate, length-replicate}}
+use Rattle.linear_law.{specs.Names.Congruent, proofs.Names.{Congruent_of, Congruent_sym, Congruent_trans, nonzero_alike, each_among, not_zero}}
+use Rattle.simplicial_law.{specs.Names.{Precedes, AgreesOnSimplices, Cochain, Chain, IsCocycle, coboundary, cochain_of}, proofs.Names.{each_of, lists_compare, agree_by_place, simplex_at}}
+use Rattle.sparse_rows.{specs.Rows.{IsBelow, IsFirst, IsRow, value_in}, proofs.RowLemmas.{value_in-past, value_in-small}}
 use Rattle.complex_index.specs.Names.{IsIndexOf, level}
 use Rattle.certificate_law.specs.Names.{HasNewLeast, IsLeastSimplex, IsOn, coboundaries_of}
-use Rattle.listed_rows.specs.ListedChains.{HasValues, IsCoboundaryRowIn, IsRowIn}
-use Rattle.listed_rows.proofs.ChainLemmas.{stands_before}
-use Rattle.class_check.specs.Questions.{AreLeads, IsLeadTaken, IsLeastOfOne, IsAnswerOf, others_of, AreReady, stands_in}
+use Rattle.listed_rows.{specs.ListedChains.{HasValues, IsCoboundaryRowIn, IsRowIn}, proofs.ChainLemmas.stands_before, proofs.ValueLemmas.{past_levels, row_values}}
+use Rattle.class_check.specs.{Questions.{AreLeads, IsLeadTaken, IsLeastOfOne, IsAnswerOf, others_of, AreReady, stands_in}, declared.question.Question.TheVariants.{Below, Class}}
 use Rattle.report.specs.declared.complex.ComplexPart.{ComplexPart}
-use Rattle.listed_rows.proofs.ValueLemmas.{past_levels, row_values}
-use Rattle.class_check.specs.declared.question.Question.TheVariants.{Below, Class}
 
 -- the least place of a row is one of its places
 pub first_inside : (bound : ℕ) (row : List (ℕ × ℕ)) (k : ℕ) → IsBelow bound row → IsFirst row k → k < bound

@@ -1,35 +1,14 @@
 -- Walks of the lines of a complex: of the chains of a degree, of a degree, and of all.
-use Rattle.std.proofs.Common.{◌≡◌, ℕ, ◌+◌, ◌<◌, ◌≤◌, Bool, true, false, if◌then◌else◌, MatchBool, inl, inr, sym, ◌∙◌, ap, subst, List, [], ◌∷◌, ◌++◌, map, length, get_or, take, drop, reverse, Result, Ok, Err, ◌^◌, arith, refl, ◌↔◌, zero, suc, ◌*◌, ◌==◌, IsTrue, sum_by, ltb-true}
-use Rattle.std.proofs.lemmas.Bool.{and_parts, cases_lt, cases_order}
-use Rattle.std.proofs.lemmas.List.{map-append, reverse-append, reverse-reverse, take_more, get_or-map}
-use Rattle.std.specs.List.{list_all}
-use Rattle.std.proofs.lemmas.List.Folds.{list_all-append, list_all-map}
-use Rattle.std.proofs.lemmas.Bool.Decides.{eqb_tells}
-use Rattle.linear_law.specs.Names.{Among, Each, IsAscending}
-use Rattle.linear_law.proofs.Names.{each_map, each_append}
+use Rattle.std.{proofs.Common.{◌≡◌, ℕ, ◌+◌, ◌<◌, ◌≤◌, Bool, true, false, if◌then◌else◌, MatchBool, inl, inr, sym, ◌∙◌, ap, subst, List, [], ◌∷◌, ◌++◌, map, length, get_or, take, drop, reverse, Result, Ok, Err, ◌^◌, arith, refl, ◌↔◌, zero, suc, ◌*◌, ◌==◌, IsTrue, sum_by, ltb-true}, proofs.lemmas.Bool.{and_parts, cases_lt, cases_order}, proofs.lemmas.List.{map-append, reverse-append, reverse-reverse, take_more, get_or-map}, specs.List.list_all, proofs.lemmas.List.Folds.{list_all-append, list_all-map}, proofs.lemmas.Bool.Decides.eqb_tells}
+use Rattle.linear_law.{specs.Names.{Among, Each, IsAscending}, proofs.Names.{each_map, each_append}}
 use Rattle.simplicial_law.specs.Names.{Chain, Cochain, coboundary, cochain_of}
 use Rattle.complex_index.specs.Names.{IsIndexOf, level}
-use Rattle.report.specs.declared.complex.ComplexPart.{ComplexPart}
-use Rattle.report.specs.declared.complex.DegreePart.{DegreePart}
-use Rattle.report.specs.declared.columns.CartanAnswer.{CartanAnswer}
-use Rattle.report.specs.declared.columns.CartanAnswer.TheVariants.{Yes, No}
+use Rattle.certificate_law.{specs.Types.{ComplexPart, DegreePart, CartanAnswer, Yes, No, below_line, class_line, facet_line, complex_line, degree_line}, specs.Names.{Asks, HasItsDegrees, Stated, after, below_stands, class_stands, degree_opens, degree_stated, answer_stated, behind, cartan_stands, cartan_stated, complex_ends, complex_opens, complex_stated, facet_stands, numbered, operation_column, operation_opens, operation_stated, product_column, product_opens, product_stated, with_stands, cycle_stands, coboundaries_of, simplex_count}, proofs.Places.in_append, proofs.Asked.{each_left, each_right, numbered_at}, proofs.WellFormed.facet_ascends}
 use Rattle.report_law.specs.Names.{below_in}
 use Rattle.report_text_law.specs.Names.{degree_lines, complex_lines, degrees_from, table_lines, is_chain, is_line, is_u32}
-use Rattle.report_text_law.specs.declared.line.Line.TheVariants.{Below as below_line, Class as class_line, Facet as facet_line, Complex as complex_line}
-use Rattle.report_text_law.specs.declared.line.Line.TheVariants.{Degree as degree_line}
-use Rattle.certificate_law.specs.Names.{Asks, HasItsDegrees, Stated, after, below_stands, class_stands, degree_opens, degree_stated, answer_stated, behind, cartan_stands, cartan_stated, complex_ends, complex_opens, complex_stated, facet_stands, numbered, operation_column, operation_opens, operation_stated, product_column, product_opens, product_stated, with_stands, cycle_stands, coboundaries_of, simplex_count}
-use Rattle.certificate_law.proofs.Places.{in_append}
-use Rattle.certificate_law.proofs.Asked.{each_left, each_right, numbered_at}
-use Rattle.certificate_law.proofs.WellFormed.{facet_ascends}
-use Rattle.certificate_walk.specs.Names.{IsWalk, operation_lines, product_lines}
-use Rattle.certificate_walk.specs.declared.stop.Stop.{Stop}
-use Rattle.certificate_walk.specs.declared.stop.Stop.TheVariants.{Fails, OutOfMemory}
-use Rattle.certificate_walk.proofs.Names.{Leads, after_next, after_none, leads_end, leads_more, leads_start, leads_stop, walk_both, walk_past, walk_stops, walk_tested, after_each, behind_each, cartans_length, numbered_sum, operation_length, product_length}
-use Rattle.listed_rows.proofs.CountLemmas.{simplices_counted}
-use Rattle.listed_rows.proofs.ValueLemmas.{past_levels}
-use Rattle.class_check.specs.declared.question.Question.{Question}
-use Rattle.class_check.specs.Questions.{AreLeads, AreReady, IsAnswerOf, chain_lines, condition_of, others_of, stands_in}
-use Rattle.class_check.specs.declared.question.Question.TheVariants.{Below, Cocycle, Class}
+use Rattle.certificate_walk.{specs.Names.{IsWalk, operation_lines, product_lines}, specs.declared.stop.Stop.Stop, specs.declared.stop.Stop.TheVariants.{Fails, OutOfMemory}, proofs.Names.{Leads, after_next, after_none, leads_end, leads_more, leads_start, leads_stop, walk_both, walk_past, walk_stops, walk_tested, after_each, behind_each, cartans_length, numbered_sum, operation_length, product_length}}
+use Rattle.listed_rows.proofs.{CountLemmas.simplices_counted, ValueLemmas.past_levels}
+use Rattle.class_check.specs.{declared.question.Question.Question, Questions.{AreLeads, AreReady, IsAnswerOf, chain_lines, condition_of, others_of, stands_in}, declared.question.Question.TheVariants.{Below, Cocycle, Class}}
 
 -- ---- lists of lines
 

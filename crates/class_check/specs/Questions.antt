@@ -1,14 +1,12 @@
 -- What is asked of the chains that a certificate lists of a degree, and the marks at the least simplices of those before.
-use Rattle.std.specs.Prelude.{◌≡◌, ◌↔◌, ◌⊎◌, IsTrue, ℕ, ◌<◌, Bool, true, false, not, MatchBool, List, [], ◌∷◌, ◌++◌, map, length, get_or, set, Some, None}
-use Rattle.std.specs.declared.option.Option.{Option}
+use Rattle.std.specs.{Prelude.{◌≡◌, ◌↔◌, ◌⊎◌, IsTrue, ℕ, ◌<◌, Bool, true, false, not, MatchBool, List, [], ◌∷◌, ◌++◌, map, length, get_or, set, Some, None}, declared.option.Option.Option}
 use Rattle.linear_law.specs.Names.{Among, Each}
 use Rattle.simplicial_law.specs.Names.{Chain, Cochain, cochain_of}
 use Rattle.sparse_rows.specs.Rows.{IsFirst, IsRow}
 use Rattle.report.specs.declared.complex.ComplexPart.{ComplexPart}
 use Rattle.report_law.specs.Names.{below_in}
 use Rattle.certificate_law.specs.Names.{Asks, IsLeastSimplex, coboundaries_of, Stated, after, below_stands, class_stands}
-use Rattle.class_check.specs.declared.question.Question.{Question}
-use Rattle.class_check.specs.declared.question.Question.TheVariants.{Below, Cocycle, Class}
+use Rattle.class_check.specs.declared.question.{Question.Question, Question.TheVariants.{Below, Cocycle, Class}}
 
 -- the condition that asks it
 abbrev pub condition_of : Question → ℕ

@@ -5,8 +5,7 @@
 mod question;
 mod walk;
 
-ghost use Rattle.std.specs.Prelude.{◌≡◌, ◌<◌, ◌+◌, ◌^◌, List, true, IsTrue};
-ghost use Rattle.std.specs.List.{list_all};
+ghost use Rattle.std.specs.{Prelude.{◌≡◌, ◌<◌, ◌+◌, ◌^◌, List, true, IsTrue}, List.list_all};
 ghost use Rattle.linear_law.specs.Names.{Each};
 ghost use Rattle.fp_field.specs.Served.{served};
 ghost use Rattle.complex_index.specs.Names.{IsIndexOf};

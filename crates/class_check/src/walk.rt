@@ -1,6 +1,5 @@
 //! The walk of the lines of a complex.
-ghost use Rattle.std.specs.Prelude.{◌≡◌, ◌↔◌, ◌<◌, ◌+◌, ◌^◌, ℕ, List, [], length, reverse, sum_by, true, IfOk, IsTrue};
-ghost use Rattle.std.specs.List.{list_all};
+ghost use Rattle.std.specs.{Prelude.{◌≡◌, ◌↔◌, ◌<◌, ◌+◌, ◌^◌, ℕ, List, [], length, reverse, sum_by, true, IfOk, IsTrue}, List.list_all};
 ghost use Rattle.linear_law.specs.Names.{Each, IsAscending};
 ghost use Rattle.fp_field.specs.Served.{served};
 ghost use Rattle.complex_index.specs.Names.{IsComplexIndex, IsIndexOf, level};

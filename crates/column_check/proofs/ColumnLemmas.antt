@@ -1,32 +1,16 @@
 -- Rows and columns at the simplices of a complex.
-use Rattle.std.proofs.Common.{◌≡◌, ℕ, ◌+◌, ◌-◌, ◌*◌, ◌<◌, Bool, true, List, [], ◌∷◌, map, length, get_or, refl, sym, ap, ap₂, subst, ◌∙◌, IsTrue, ◌↔◌}
-use Rattle.std.specs.List.{AllZip}
+use Rattle.std.{proofs.Common.{◌≡◌, ℕ, ◌+◌, ◌-◌, ◌*◌, ◌<◌, Bool, true, List, [], ◌∷◌, map, length, get_or, refl, sym, ap, ap₂, subst, ◌∙◌, IsTrue, ◌↔◌}, specs.List.AllZip}
 use Rattle.fp_field.specs.Served.{served}
-use Rattle.linear_law.specs.Names.{Congruent, Each, combination}
-use Rattle.linear_law.proofs.Names.{Congruent_add, Congruent_of, Congruent_trans, each_right}
-use Rattle.simplicial_law.specs.Names.{AgreesOnSimplices, Chain, Cochain as SimplexCochain, coboundary, cochain_of}
-use Rattle.simplicial_law.proofs.Names.{agree_by_place, simplex_at}
+use Rattle.linear_law.{specs.Names.{Congruent, Each, combination}, proofs.Names.{Congruent_add, Congruent_of, Congruent_trans, each_right}}
+use Rattle.simplicial_law.{specs.Names.{AgreesOnSimplices, Chain, Cochain as SimplexCochain, coboundary, cochain_of}, proofs.Names.{agree_by_place, simplex_at}}
 use Rattle.steenrod_law.specs.Names.{cup_product, pull_back}
 use Rattle.sparse_rows.specs.Rows.{IsBelow, value_in}
-use Rattle.complex_index.specs.declared.indexed.Cochain.{Cochain}
-use Rattle.complex_index.specs.Names.{IsIndexOf, level, IsPullBackOf}
-use Rattle.may_steenrod.specs.Cochains.{HasValues, cochain_in}
-use Rattle.may_steenrod.proofs.OnLemmas.{value_by_place}
-use Rattle.report.specs.declared.columns.Column.{Column}
-use Rattle.report.specs.declared.columns.OperationPart.{OperationPart}
-use Rattle.report.specs.declared.columns.PairColumn.{PairColumn}
-use Rattle.report.specs.declared.columns.ProductPart.{ProductPart}
-use Rattle.report.specs.declared.complex.ComplexPart.{ComplexPart}
-use Rattle.report.specs.declared.map.InducedPart.{InducedPart}
-use Rattle.report.specs.declared.map.MapPart.{MapPart}
-use Rattle.report.specs.declared.plan.Op.{Op}
-use Rattle.report_law.specs.Names.{IsOperation, listed, is_defined, target_degree, class_at, classes_in, classes_of, op_of}
-use Rattle.report_law.proofs.Names.{agrees-sym, agrees-trans, scaled, operation-once}
-use Rattle.certificate_law.specs.Names.{IsRightOperation, IsRightProduct, IsRightPullBack, column_sum, IsOnBelow, sent_by}
+use Rattle.complex_index.specs.{declared.indexed.Cochain.Cochain, Names.{IsIndexOf, level, IsPullBackOf}}
+use Rattle.may_steenrod.{specs.Cochains.{HasValues, cochain_in}, proofs.OnLemmas.value_by_place}
+use Rattle.certificate_law.specs.{Types.{Column, OperationPart, PairColumn, ProductPart, ComplexPart, InducedPart, MapPart, Op}, Names.{IsRightOperation, IsRightProduct, IsRightPullBack, column_sum, IsOnBelow, sent_by}}
+use Rattle.report_law.{specs.Names.{IsOperation, listed, is_defined, target_degree, class_at, classes_in, classes_of, op_of}, proofs.Names.{agrees-sym, agrees-trans, scaled, operation-once}}
 use Rattle.listed_rows.specs.ListedChains.{IsCoboundaryRow}
-use Rattle.column_check.specs.Listings.{IsBoundOf, IsRowOfClass, IsColumnSum, IsSumRow}
-use Rattle.column_check.proofs.ListLemmas.{tells}
-use Rattle.column_check.proofs.SumLemmas.{places}
+use Rattle.column_check.{specs.Listings.{IsBoundOf, IsRowOfClass, IsColumnSum, IsSumRow}, proofs.ListLemmas.tells, proofs.SumLemmas.places}
 
 -- ---- the rows of the classes of a degree
 

@@ -1,31 +1,17 @@
 -- Boundaries of chains, and the answers of Cartan lines.
-use Rattle.std.proofs.Common.{◌≡◌, ◌≢◌, ℕ, zero, suc, ◌+◌, ◌-◌, ◌*◌, ◌%◌, ◌<◌, ◌==◌, Bool, true, inl, inr, List, [], ◌∷◌, length, get_or, arith, refl, sym, ap, ap₂, subst, ◌∙◌, IsTrue, ◌↔◌, eq-eqb, eqb-true}
-use Rattle.std.proofs.lemmas.Bool.{cases_eq}
+use Rattle.std.proofs.{Common.{◌≡◌, ◌≢◌, ℕ, zero, suc, ◌+◌, ◌-◌, ◌*◌, ◌%◌, ◌<◌, ◌==◌, Bool, true, inl, inr, List, [], ◌∷◌, length, get_or, arith, refl, sym, ap, ap₂, subst, ◌∙◌, IsTrue, ◌↔◌, eq-eqb, eqb-true}, lemmas.Bool.cases_eq}
 use Rattle.fp_field.specs.Served.{served}
-use Rattle.linear_law.specs.Names.{Congruent, Each}
-use Rattle.linear_law.proofs.Names.{Congruent_of, Congruent_sym, Congruent_trans, each_map}
-use Rattle.simplicial_law.specs.Names.{IsSimplex, AgreesOnSimplices, Chain, Cochain as SimplexCochain, alternating_chain, boundary, coboundary, faces, pairing, unit_cochain, cochain_of, terms_of}
-use Rattle.simplicial_law.proofs.Names.{face_simplex, agree_by_place, simplex_at, unit_away}
+use Rattle.linear_law.{specs.Names.{Congruent, Each}, proofs.Names.{Congruent_of, Congruent_sym, Congruent_trans, each_map}}
+use Rattle.simplicial_law.{specs.Names.{IsSimplex, AgreesOnSimplices, Chain, Cochain as SimplexCochain, alternating_chain, boundary, coboundary, faces, pairing, unit_cochain, cochain_of, terms_of}, proofs.Names.{face_simplex, agree_by_place, simplex_at, unit_away}}
 use Rattle.steenrod_law.proofs.ClassLaws.{coboundary-vertex}
 use Rattle.sparse_rows.specs.Rows.{IsBelow, IsRow, pairing as row_pairing, value_in}
-use Rattle.complex_index.specs.Names.{IsBoundaryOf, IsIndexOf, level}
-use Rattle.complex_index.specs.declared.indexed.Cochain.{Cochain}
-use Rattle.may_steenrod.specs.Cochains.{cochain_in}
-use Rattle.may_steenrod.proofs.OnLemmas.{value_by_place}
-use Rattle.report.specs.declared.columns.CartanPart.{CartanPart}
-use Rattle.report.specs.declared.complex.ComplexPart.{ComplexPart}
-use Rattle.report.specs.declared.plan.Line.{Line}
-use Rattle.report_law.specs.Names.{IsCartanDifference, boundary_coefficient, cartan_op, cartan_pairs, is_defined, IsLineDifference, class_at, classes_in, line_degree, classes_of, line_of}
-use Rattle.report_law.proofs.Names.{agrees-sym, agrees-trans, difference-once}
-use Rattle.certificate_law.specs.Names.{IsRightNo, IsRightYes}
-use Rattle.certificate_law.proofs.CartanVerdicts.{pairing_alike}
-use Rattle.listed_rows.specs.ListedChains.{IsRowOfChain}
-use Rattle.listed_rows.proofs.ValueLemmas.{row_on}
+use Rattle.complex_index.specs.{Names.{IsBoundaryOf, IsIndexOf, level}, declared.indexed.Cochain.Cochain}
+use Rattle.may_steenrod.{specs.Cochains.cochain_in, proofs.OnLemmas.value_by_place}
+use Rattle.certificate_law.{specs.Types.{CartanPart, ComplexPart, Line}, specs.Names.{IsRightNo, IsRightYes}, proofs.CartanVerdicts.pairing_alike}
+use Rattle.report_law.{specs.Names.{IsCartanDifference, boundary_coefficient, cartan_op, cartan_pairs, is_defined, IsLineDifference, class_at, classes_in, line_degree, classes_of, line_of}, proofs.Names.{agrees-sym, agrees-trans, difference-once}}
+use Rattle.listed_rows.{specs.ListedChains.IsRowOfChain, proofs.ValueLemmas.row_on}
 use Rattle.line_difference.specs.Differences.{IsLess}
-use Rattle.column_check.specs.Listings.{IsBoundOf, IsRowOfClass, IsClosedChain, PairsWithCycle}
-use Rattle.column_check.proofs.ColumnLemmas.{class-is}
-use Rattle.column_check.proofs.ListLemmas.{tells}
-use Rattle.column_check.proofs.SumLemmas.{zero-tells}
+use Rattle.column_check.{specs.Listings.{IsBoundOf, IsRowOfClass, IsClosedChain, PairsWithCycle}, proofs.ColumnLemmas.class-is, proofs.ListLemmas.tells, proofs.SumLemmas.zero-tells}
 
 -- ---- boundaries
 

@@ -1,23 +1,8 @@
 -- What well-formed lines of a complex and of a map tell: the chains under them are well formed.
-use Rattle.std.proofs.Common.{◌≡◌, ℕ, zero, suc, ◌+◌, ◌^◌, ◌<◌, ◌≤◌, ◌&&◌, Bool, true, List, [], ◌∷◌, ◌++◌, map, length, get_or, arith, refl, flat_map, ltb-true}
-use Rattle.std.specs.List.{list_all}
-use Rattle.std.proofs.lemmas.Bool.{and_parts}
+use Rattle.std.{proofs.Common.{◌≡◌, ℕ, zero, suc, ◌+◌, ◌^◌, ◌<◌, ◌≤◌, ◌&&◌, Bool, true, List, [], ◌∷◌, ◌++◌, map, length, get_or, arith, refl, flat_map, ltb-true}, specs.List.list_all, proofs.lemmas.Bool.and_parts}
 use Rattle.linear_law.specs.Names.{Each, IsAscending}
-use Rattle.report.specs.declared.columns.CartanAnswer.{CartanAnswer}
-use Rattle.report.specs.declared.columns.CartanAnswer.TheVariants.{Yes, No}
-use Rattle.report.specs.declared.columns.CartanPart.{CartanPart}
-use Rattle.report.specs.declared.columns.Column.{Column}
-use Rattle.report.specs.declared.columns.OperationPart.{OperationPart}
-use Rattle.report.specs.declared.columns.PairColumn.{PairColumn}
-use Rattle.report.specs.declared.columns.ProductPart.{ProductPart}
-use Rattle.report.specs.declared.complex.ComplexPart.{ComplexPart}
-use Rattle.report.specs.declared.complex.DegreePart.{DegreePart}
-use Rattle.report.specs.declared.map.InducedPart.{InducedPart}
-use Rattle.report.specs.declared.map.MapPart.{MapPart}
-use Rattle.report_text_law.specs.declared.line.Line.{Line}
-use Rattle.report_text_law.specs.declared.line.Line.TheVariants.{Below as below_line, CartanNo as cartan_no, CartanYes as cartan_yes, Class as class_line, Column as column_line, Complex as complex_line, Cycle as cycle_line, Degree as degree_line, End as end_line, Facet as facet_line, Induced as induced_line, Map as map_line, Operation as operation_line, Pair as pair_line, Product as product_line, With as with_line}
+use Rattle.certificate_law.{specs.Types.{CartanAnswer, Yes, No, CartanPart, Column, OperationPart, PairColumn, ProductPart, ComplexPart, DegreePart, InducedPart, MapPart, TextLine as Line, below_line, cartan_no, cartan_yes, class_line, column_line, complex_line, cycle_line, degree_line, end_line, facet_line, induced_line, map_line, operation_line, pair_line, product_line, with_line}, proofs.WellFormed.facet_ascends}
 use Rattle.report_text_law.specs.Names.{answer_lines, cartan_lines, columns_from, complex_lines, degree_lines, degrees_from, induced_lines, map_lines, operation_lines, pair_lines, product_lines, send_of, table_lines, are_values, is_chain, is_line, is_simplex, is_u32}
-use Rattle.certificate_law.proofs.WellFormed.{facet_ascends}
 use Rattle.column_check.specs.Ready.{IsFormedAnswer}
 
 module _ {X : Type 0} (t : X → Bool) where

@@ -1,9 +1,6 @@
 -- Lists by their places, and answers of tests.
-use Rattle.std.proofs.Common.{◌≡◌, ℕ, zero, suc, ◌+◌, ◌<◌, ◌≤◌, inl, inr, Bool, true, false, List, [], ◌∷◌, ◌++◌, length, get_or, take, arith, refl, sym, ap, subst, ◌∙◌, Vec, Global, IsTrue, ◌↔◌, slice_get, Some, None}
-use Rattle.std.specs.List.{AllZip}
-use Rattle.std.proofs.lemmas.List.{take_more}
-use Rattle.linear_law.specs.Names.{Among}
-use Rattle.linear_law.proofs.Names.{zip_push}
+use Rattle.std.{proofs.Common.{◌≡◌, ℕ, zero, suc, ◌+◌, ◌<◌, ◌≤◌, inl, inr, Bool, true, false, List, [], ◌∷◌, ◌++◌, length, get_or, take, arith, refl, sym, ap, subst, ◌∙◌, Vec, Global, IsTrue, ◌↔◌, slice_get, Some, None}, specs.List.AllZip, proofs.lemmas.List.take_more}
+use Rattle.linear_law.{specs.Names.Among, proofs.Names.zip_push}
 use Rattle.complex_index.specs.Names.{list_at}
 
 -- ---- answers

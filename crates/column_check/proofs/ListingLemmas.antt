@@ -1,20 +1,11 @@
 -- The classes of a listed complex by degree.
-use Rattle.std.proofs.Common.{◌≡◌, ℕ, zero, suc, ◌+◌, ◌<◌, ◌≤◌, inl, inr, List, [], ◌∷◌, ◌++◌, map, length, get_or, arith, refl, sym, ap, subst, ◌∙◌, Vec, Global}
-use Rattle.std.specs.List.{AllZip}
-use Rattle.std.proofs.lemmas.Bool.{cases_lt}
-use Rattle.std.proofs.lemmas.List.{length-map}
+use Rattle.std.{proofs.Common.{◌≡◌, ℕ, zero, suc, ◌+◌, ◌<◌, ◌≤◌, inl, inr, List, [], ◌∷◌, ◌++◌, map, length, get_or, arith, refl, sym, ap, subst, ◌∙◌, Vec, Global}, specs.List.AllZip, proofs.lemmas.Bool.cases_lt, proofs.lemmas.List.length-map}
 use Rattle.linear_law.proofs.Names.{length_alike}
 use Rattle.simplicial_law.specs.Names.{Chain}
-use Rattle.complex_index.specs.declared.indexed.Cochain.{Cochain}
-use Rattle.complex_index.specs.Names.{list_at}
-use Rattle.report.specs.declared.complex.ComplexPart.{ComplexPart}
-use Rattle.report.specs.declared.complex.DegreePart.{DegreePart}
-use Rattle.report_law.specs.Names.{classes_in, classes_of}
-use Rattle.report_law.proofs.Names.{get_or-past}
-use Rattle.certificate_law.specs.Names.{rank_in}
-use Rattle.column_check.specs.Listings.{IsRowOfClass, IsListing}
-use Rattle.column_check.specs.declared.listing.Listing.{Listing}
-use Rattle.column_check.proofs.ListLemmas.{list_at-before, list_at-past, list_at-push}
+use Rattle.complex_index.specs.{declared.indexed.Cochain.Cochain, Names.list_at}
+use Rattle.certificate_law.specs.{Types.{ComplexPart, DegreePart}, Names.rank_in}
+use Rattle.report_law.{specs.Names.{classes_in, classes_of}, proofs.Names.get_or-past}
+use Rattle.column_check.{specs.Listings.{IsRowOfClass, IsListing}, specs.declared.listing.Listing.Listing, proofs.ListLemmas.{list_at-before, list_at-past, list_at-push}}
 
 -- a degree with a class is listed
 pub live-degree : (c : ComplexPart) (n : ℕ) → 0 < rank_in c n → n < length c.degrees

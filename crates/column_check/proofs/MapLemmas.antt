@@ -1,9 +1,6 @@
 -- The sends of a map as pairs, the last first.
-use Rattle.std.proofs.Common.{◌≡◌, ℕ, ◌+◌, ◌<◌, ◌==◌, Bool, true, false, cond, inl, inr, List, [], ◌∷◌, ◌++◌, length, get_or, take, refl, sym, ap, ◌∙◌, fold, if◌then◌else◌, eq-eqb, eqb-true}
-use Rattle.std.proofs.lemmas.Bool.{cases_Bool}
-use Rattle.std.proofs.lemmas.List.{take_more}
-use Rattle.complex_file.specs.declared.block.Sent.{Sent}
-use Rattle.complex_file.specs.Names.{image}
+use Rattle.std.proofs.{Common.{◌≡◌, ℕ, ◌+◌, ◌<◌, ◌==◌, Bool, true, false, cond, inl, inr, List, [], ◌∷◌, ◌++◌, length, get_or, take, refl, sym, ap, ◌∙◌, fold, if◌then◌else◌, eq-eqb, eqb-true}, lemmas.Bool.cases_Bool, lemmas.List.take_more}
+use Rattle.complex_file.specs.{declared.block.Sent.Sent, Names.image}
 use Rattle.complex_index.specs.Names.{image_of}
 
 -- the pairs of the sends, the last first

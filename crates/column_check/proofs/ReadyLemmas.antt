@@ -1,33 +1,15 @@
 -- What the conditions that were passed give of blocks, columns and lines.
-use Rattle.std.proofs.Common.{◌≡◌, ℕ, zero, suc, ◌+◌, ◌<◌, ◌≤◌, ◌&&◌, inl, inr, true, List, [], ◌∷◌, ◌++◌, map, length, get_or, arith, ap, subst, ℤ, ltb-true}
-use Rattle.std.proofs.lemmas.Bool.{and_parts, cases_lt}
-use Rattle.std.proofs.lemmas.List.{length-map}
+use Rattle.std.proofs.{Common.{◌≡◌, ℕ, zero, suc, ◌+◌, ◌<◌, ◌≤◌, ◌&&◌, inl, inr, true, List, [], ◌∷◌, ◌++◌, map, length, get_or, arith, ap, subst, ℤ, ltb-true}, lemmas.Bool.{and_parts, cases_lt}, lemmas.List.length-map}
 use Rattle.signed_sum.specs.Names.{numbers_from}
-use Rattle.linear_law.specs.Names.{Among, Each}
-use Rattle.linear_law.proofs.Names.{each_zip}
+use Rattle.linear_law.{specs.Names.{Among, Each}, proofs.Names.each_zip}
 use Rattle.simplicial_law.specs.Names.{Chain}
 use Rattle.complex_index.specs.Names.{IsIndexOf, level}
-use Rattle.report.specs.declared.columns.CartanPart.{CartanPart}
-use Rattle.report.specs.declared.columns.OperationPart.{OperationPart}
-use Rattle.report.specs.declared.columns.ProductPart.{ProductPart}
-use Rattle.report.specs.declared.complex.ComplexPart.{ComplexPart}
-use Rattle.report.specs.declared.complex.DegreePart.{DegreePart}
-use Rattle.report.specs.declared.map.InducedPart.{InducedPart}
-use Rattle.report.specs.declared.map.MapPart.{MapPart}
-use Rattle.report.specs.declared.plan.Product.{Product}
-use Rattle.report_law.specs.Names.{blocks, has_class, induced_degrees, lines, products, block_of, classes_of, line_of, number_pairs, numbers_of, product_of, ranks_of}
-use Rattle.report_law.proofs.Names.{has-degree, of-blocks, rank-of, get_or-past, of-filter, of-flat_map, of-map, of-numbers, of-lines}
+use Rattle.certificate_law.{specs.Types.{CartanPart, OperationPart, ProductPart, ComplexPart, DegreePart, InducedPart, MapPart, Product}, specs.Names.{Asks, IsOn, rank_in, Stated, after, behind, below_stands, cartan_stated, class_stands, complex_ends, complex_stated, degree_stated, facet_stands, induced_column, induced_stated, map_between, map_ends, numbered, operation_column, operation_stated, product_column, product_stated, send_stands, with_stands}, proofs.Asked.{each_left, each_right}, proofs.Places.{at_count, at_each, each_at, numbered_heads}}
+use Rattle.report_law.{specs.Names.{blocks, has_class, induced_degrees, lines, products, block_of, classes_of, line_of, number_pairs, numbers_of, product_of, ranks_of}, proofs.Names.{has-degree, of-blocks, rank-of, get_or-past, of-filter, of-flat_map, of-map, of-numbers, of-lines}}
 use Rattle.report_text_law.specs.Names.{cartan_lines, induced_lines, operation_lines, product_lines, is_chain}
-use Rattle.certificate_law.specs.Names.{Asks, IsOn, rank_in, Stated, after, behind, below_stands, cartan_stated, class_stands, complex_ends, complex_stated, degree_stated, facet_stands, induced_column, induced_stated, map_between, map_ends, numbered, operation_column, operation_stated, product_column, product_stated, send_stands, with_stands}
-use Rattle.certificate_law.proofs.Asked.{each_left, each_right}
-use Rattle.certificate_law.proofs.Places.{at_count, at_each, each_at, numbered_heads}
 use Rattle.listed_rows.proofs.CountLemmas.{simplices_counted}
-use Rattle.line_difference.specs.Elements.{AreStored}
-use Rattle.line_difference.proofs.PlanLemmas.{block-low, block-stored, line-classes, line-low, line-stored}
-use Rattle.column_check.specs.Listings.{IsListedOn}
-use Rattle.column_check.specs.Ready.{HasPassed, HasPassedMap, IsCartanReady, IsColumnReady, IsInducedReady, IsOperationReady, IsPairReady, IsProductReady}
-use Rattle.column_check.proofs.FormedLemmas.{answer, columns, few, formed, formed-blocks, formed-cartans, formed-classes, formed-facets, formed-operations, formed-products, induced-columns, operation-columns, product-columns}
-use Rattle.column_check.proofs.ListLemmas.{slice-among}
+use Rattle.line_difference.{specs.Elements.AreStored, proofs.PlanLemmas.{block-low, block-stored, line-classes, line-low, line-stored}}
+use Rattle.column_check.{specs.Listings.IsListedOn, specs.Ready.{HasPassed, HasPassedMap, IsCartanReady, IsColumnReady, IsInducedReady, IsOperationReady, IsPairReady, IsProductReady}, proofs.FormedLemmas.{answer, columns, few, formed, formed-blocks, formed-cartans, formed-classes, formed-facets, formed-operations, formed-products, induced-columns, operation-columns, product-columns}, proofs.ListLemmas.slice-among}
 
 -- ---- the sections of a complex and of a map
 

@@ -1,18 +1,9 @@
 -- The sections of a complex and of a map, of which the conditions 6, 7 and 8 ask nothing, and the room for the others.
 use Rattle.std.proofs.Common.{◌≡◌, ℕ, ◌+◌, ◌*◌, ◌<◌, List, [], ◌∷◌, ◌++◌, length, arith, refl, sum_by, Result, Ok, Err, length-append}
-use Rattle.linear_law.specs.Names.{Each}
-use Rattle.linear_law.proofs.Names.{each_append}
+use Rattle.linear_law.{specs.Names.Each, proofs.Names.each_append}
 use Rattle.simplicial_law.specs.Names.{Chain}
-use Rattle.complex_file.specs.declared.block.Sent.{Sent}
-use Rattle.report.specs.declared.columns.CartanAnswer.{CartanAnswer}
-use Rattle.report.specs.declared.columns.CartanAnswer.TheVariants.{Yes, No}
-use Rattle.report.specs.declared.complex.ComplexPart.{ComplexPart}
-use Rattle.report.specs.declared.complex.DegreePart.{DegreePart}
-use Rattle.report.specs.declared.map.MapPart.{MapPart}
-use Rattle.certificate_law.specs.Names.{Asks, Stated, after, answer_stated, behind, below_stands, cartan_stated, class_stands, complex_ends, complex_opens, complex_stated, degree_opens, degree_stated, facet_stands, induced_stated, map_between, map_ends, map_opens, numbered, operation_column, operation_stated, product_column, product_stated, send_stands, with_stands}
-use Rattle.certificate_walk.specs.declared.stop.Stop.{Stop}
-use Rattle.certificate_walk.specs.Names.{complex_lines, degree_lines, induced_lines, map_lines, operation_lines, product_lines, IsWalk}
-use Rattle.certificate_walk.proofs.Names.{behind_each, cartans_length, degree_length, induced_length, numbered_sum, operation_length, product_length, walk_both, walk_stops}
+use Rattle.certificate_law.specs.{Types.{Sent, CartanAnswer, Yes, No, ComplexPart, DegreePart, MapPart}, Names.{Asks, Stated, after, answer_stated, behind, below_stands, cartan_stated, class_stands, complex_ends, complex_opens, complex_stated, degree_opens, degree_stated, facet_stands, induced_stated, map_between, map_ends, map_opens, numbered, operation_column, operation_stated, product_column, product_stated, send_stands, with_stands}}
+use Rattle.certificate_walk.{specs.declared.stop.Stop.Stop, specs.Names.{complex_lines, degree_lines, induced_lines, map_lines, operation_lines, product_lines, IsWalk}, proofs.Names.{behind_each, cartans_length, degree_length, induced_length, numbered_sum, operation_length, product_length, walk_both, walk_stops}}
 use Rattle.column_check.proofs.WalkLemmas.{headed}
 
 -- ---- lines of which nothing is asked

@@ -1,13 +1,9 @@
 -- Sums of rows, and rows that are equal.
-use Rattle.std.proofs.Common.{◌≡◌, ℕ, ◌+◌, ◌-◌, ◌*◌, ◌%◌, ◌<◌, ◌≤◌, Bool, List, [], ◌∷◌, map, length, get_or, drop, arith, refl, sym, ap, subst, ◌∙◌, mod-eq_of_lt, IsTrue, ◌↔◌}
+use Rattle.std.proofs.{Common.{◌≡◌, ℕ, ◌+◌, ◌-◌, ◌*◌, ◌%◌, ◌<◌, ◌≤◌, Bool, List, [], ◌∷◌, map, length, get_or, drop, arith, refl, sym, ap, subst, ◌∙◌, mod-eq_of_lt, IsTrue, ◌↔◌}, lemmas.List.{at_drop_all, drop_more}}
 use native.Mathlib.Nat.{zero-mod}
-use Rattle.std.proofs.lemmas.List.{at_drop_all, drop_more}
-use Rattle.fp_field.specs.Served.{served}
-use Rattle.fp_field.proofs.ServedLemmas.{served_field}
-use Rattle.linear_law.specs.Names.{Congruent, negated, Each, combination}
-use Rattle.linear_law.proofs.Names.{Congruent_add, Congruent_cancel, Congruent_mod, Congruent_mul, Congruent_of, Congruent_refl, Congruent_scale, Congruent_sym, Congruent_trans, add-negated, each_get_or}
-use Rattle.sparse_rows.specs.Rows.{IsBelow, IsRow, value_in}
-use Rattle.sparse_rows.proofs.RowLemmas.{value_in-at}
+use Rattle.fp_field.{specs.Served.served, proofs.ServedLemmas.served_field}
+use Rattle.linear_law.{specs.Names.{Congruent, negated, Each, combination}, proofs.Names.{Congruent_add, Congruent_cancel, Congruent_mod, Congruent_mul, Congruent_of, Congruent_refl, Congruent_scale, Congruent_sym, Congruent_trans, add-negated, each_get_or}}
+use Rattle.sparse_rows.{specs.Rows.{IsBelow, IsRow, value_in}, proofs.RowLemmas.value_in-at}
 use Rattle.complex_index.specs.declared.indexed.Cochain.{Cochain}
 use Rattle.line_difference.proofs.RowSums.{sum-below}
 

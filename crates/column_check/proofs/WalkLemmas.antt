@@ -1,13 +1,8 @@
 -- Walks of columns and of blocks.
 use Rattle.std.proofs.Common.{◌≡◌, ℕ, ◌+◌, ◌*◌, ◌<◌, ◌≤◌, List, [], ◌∷◌, drop, length, get_or, arith, refl, sym, subst, Result, Ok, Err}
-use Rattle.linear_law.specs.Names.{Each}
-use Rattle.linear_law.proofs.Names.{each_get_or}
-use Rattle.report.specs.declared.columns.CartanAnswer.{CartanAnswer}
-use Rattle.report.specs.declared.columns.CartanAnswer.TheVariants.{Yes, No}
-use Rattle.certificate_law.specs.Names.{Asks, Stated, answer_stated, numbered}
-use Rattle.certificate_walk.specs.declared.stop.Stop.{Stop}
-use Rattle.certificate_walk.specs.Names.{IsWalk}
-use Rattle.certificate_walk.proofs.Names.{numbered_each, Leads, leads_room, numbered_end, numbered_more, numbered_next, numbered_stop, walk_both}
+use Rattle.linear_law.{specs.Names.Each, proofs.Names.each_get_or}
+use Rattle.certificate_law.specs.{Types.{CartanAnswer, Yes, No}, Names.{Asks, Stated, answer_stated, numbered}}
+use Rattle.certificate_walk.{specs.declared.stop.Stop.Stop, specs.Names.IsWalk, proofs.Names.{numbered_each, Leads, leads_room, numbered_end, numbered_more, numbered_next, numbered_stop, walk_both}}
 
 -- a line of which nothing is asked, before others
 pub headed : (P : Stated → Type 0) (before : ℕ) (s : Stated) (lines : List Stated) (r : Result ℕ Stop) → P s → IsWalk P (before + 1) lines r → IsWalk P before (s ∷ lines) r

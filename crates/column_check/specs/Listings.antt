@@ -1,18 +1,13 @@
 -- A listed complex with its classes as rows, and what is tested of listed cochains.
-use Rattle.std.specs.Prelude.{◌≡◌, ℕ, ◌≤◌, true, List, get_or, length, Some, None}
-use Rattle.std.specs.declared.option.Option.{Option}
-use Rattle.std.specs.List.{AllZip}
+use Rattle.std.specs.{Prelude.{◌≡◌, ℕ, ◌≤◌, true, List, get_or, length, Some, None}, declared.option.Option.Option, List.AllZip}
 use Rattle.linear_law.specs.Names.{Congruent}
 use Rattle.simplicial_law.specs.Names.{IsSimplex, AgreesOnSimplices, Chain, Cochain as SimplexCochain, coboundary, pairing, cochain_of, terms_of}
 use Rattle.sparse_rows.specs.Rows.{IsBelow}
-use Rattle.complex_index.specs.declared.indexed.Cochain.{Cochain}
-use Rattle.complex_index.specs.Names.{list_at, IsIndexOf, level}
+use Rattle.complex_index.specs.{declared.indexed.Cochain.Cochain, Names.{list_at, IsIndexOf, level}}
 use Rattle.may_steenrod.specs.Cochains.{cochain_in}
-use Rattle.report.specs.declared.complex.ComplexPart.{ComplexPart}
-use Rattle.report.specs.declared.map.MapPart.{MapPart}
+use Rattle.certificate_law.specs.{Types.{ComplexPart, MapPart}, Names.{column_sum, IsOn, IsOnBelow, sent_by}}
 use Rattle.report_law.specs.Names.{boundary_coefficient, listed, classes_in, classes_of}
 use Rattle.report_text_law.specs.Names.{is_chain}
-use Rattle.certificate_law.specs.Names.{column_sum, IsOn, IsOnBelow, sent_by}
 use Rattle.line_difference.specs.Differences.{IsPlacedIn}
 use Rattle.column_check.specs.declared.listing.Listing.{Listing}
 

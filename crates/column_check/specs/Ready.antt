@@ -1,20 +1,9 @@
 -- What earlier conditions give of the blocks, columns and lines whose sums are tested.
-use Rattle.std.specs.Prelude.{◌≡◌, ℕ, ◌+◌, ◌^◌, ◌<◌, ◌≤◌, true, List, length, ℤ}
-use Rattle.std.specs.List.{list_all}
+use Rattle.std.specs.{Prelude.{◌≡◌, ℕ, ◌+◌, ◌^◌, ◌<◌, ◌≤◌, true, List, length, ℤ}, List.list_all}
 use Rattle.linear_law.specs.Names.{Each}
-use Rattle.report.specs.declared.columns.CartanAnswer.{CartanAnswer}
-use Rattle.report.specs.declared.columns.CartanAnswer.TheVariants.{Yes, No}
-use Rattle.report.specs.declared.columns.CartanPart.{CartanPart}
-use Rattle.report.specs.declared.columns.Column.{Column}
-use Rattle.report.specs.declared.columns.OperationPart.{OperationPart}
-use Rattle.report.specs.declared.columns.PairColumn.{PairColumn}
-use Rattle.report.specs.declared.columns.ProductPart.{ProductPart}
-use Rattle.report.specs.declared.complex.ComplexPart.{ComplexPart}
-use Rattle.report.specs.declared.map.InducedPart.{InducedPart}
-use Rattle.report.specs.declared.map.MapPart.{MapPart}
+use Rattle.certificate_law.specs.{Types.{CartanAnswer, Yes, No, CartanPart, Column, OperationPart, PairColumn, ProductPart, ComplexPart, InducedPart, MapPart}, Names.{Asks, rank_in, complex_stated, map_between}}
 use Rattle.report_law.specs.Names.{cartan_op, is_defined, target_degree, line_of, op_of}
 use Rattle.report_text_law.specs.Names.{complex_lines, map_lines, is_chain, is_line}
-use Rattle.certificate_law.specs.Names.{Asks, rank_in, complex_stated, map_between}
 use Rattle.line_difference.specs.Elements.{HasElement, HasElements}
 
 -- The lines of the complex are well formed, and meet the conditions 2, 3 and 5.

@@ -10,8 +10,7 @@ ghost use Rattle.report_law.specs.Names.{line_of as line_of_part};
 ghost use Rattle.report_text_law.specs.Names.{is_chain};
 ghost use Rattle.certificate_law.specs.Names.{Asks, IsRightAnswer, cartan_stated, numbered};
 ghost use Rattle.certificate_walk.specs.Names.{IsWalk};
-ghost use Rattle.column_check.specs.Listings.{IsClosedChain, PairsWithCycle, IsListing};
-ghost use Rattle.column_check.specs.Ready.{IsCartanReady};
+ghost use Rattle.column_check.specs.{Listings.{IsClosedChain, PairsWithCycle, IsListing}, Ready.IsCartanReady};
 
 use crate::columns::ask_column;
 use crate::listing::Listing;

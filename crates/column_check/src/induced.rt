@@ -5,8 +5,7 @@ ghost use Rattle.fp_field.specs.Served.{served};
 ghost use Rattle.certificate_law.specs.Names.{Asks, IsRightPullBack, rank_in, induced_column, induced_stated, numbered, with_stands};
 ghost use Rattle.certificate_walk.specs.Names.{induced_lines, IsWalk};
 ghost use Rattle.complex_file.specs.Names.{image};
-ghost use Rattle.column_check.specs.Listings.{IsListing, HasImagesOf};
-ghost use Rattle.column_check.specs.Ready.{IsColumnReady, IsInducedReady};
+ghost use Rattle.column_check.specs.{Listings.{IsListing, HasImagesOf}, Ready.{IsColumnReady, IsInducedReady}};
 
 use crate::columns::ask_column;
 use crate::listing::Listing;

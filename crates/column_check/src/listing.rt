@@ -1,13 +1,11 @@
 //! The classes of a listed complex as rows.
-ghost use Rattle.std.specs.Prelude.{◌≡◌, ◌≤◌, ◌<◌, ◌-◌, ℕ, [], length, get_or, map, IfOk, IsTrue};
-ghost use Rattle.std.specs.List.{AllZip};
+ghost use Rattle.std.specs.{Prelude.{◌≡◌, ◌≤◌, ◌<◌, ◌-◌, ℕ, [], length, get_or, map, IfOk, IsTrue}, List.AllZip};
 ghost use Rattle.linear_law.specs.Names.{Each};
 ghost use Rattle.fp_field.specs.Served.{served};
 ghost use Rattle.complex_index.specs.Names.{list_at, IsIndexOf};
 ghost use Rattle.report_law.specs.Names.{classes_in, classes_of};
 ghost use Rattle.certificate_law.specs.Names.{rank_in};
-ghost use Rattle.column_check.specs.Listings.{IsRowOfClass, IsListedOn, IsListing};
-ghost use Rattle.column_check.specs.Ready.{HasPassed};
+ghost use Rattle.column_check.specs.{Listings.{IsRowOfClass, IsListedOn, IsListing}, Ready.HasPassed};
 
 use complex_index::{Cochain, Indexed};
 use listed_rows::row_of;

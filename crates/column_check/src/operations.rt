@@ -5,8 +5,7 @@ ghost use Rattle.fp_field.specs.Served.{served};
 ghost use Rattle.certificate_law.specs.Names.{Asks, IsRightOperation, rank_in, numbered, operation_column, operation_stated, with_stands};
 ghost use Rattle.certificate_walk.specs.Names.{operation_lines, IsWalk};
 ghost use Rattle.report_law.specs.Names.{op_of as op_of_part};
-ghost use Rattle.column_check.specs.Listings.{IsListing};
-ghost use Rattle.column_check.specs.Ready.{IsColumnReady, IsOperationReady};
+ghost use Rattle.column_check.specs.{Listings.IsListing, Ready.{IsColumnReady, IsOperationReady}};
 
 use crate::columns::ask_column;
 use crate::listing::Listing;

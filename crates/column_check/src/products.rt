@@ -4,8 +4,7 @@ ghost use Rattle.linear_law.specs.Names.{Each};
 ghost use Rattle.fp_field.specs.Served.{served};
 ghost use Rattle.certificate_law.specs.Names.{Asks, IsRightProduct, rank_in, numbered, product_column, product_stated, with_stands};
 ghost use Rattle.certificate_walk.specs.Names.{product_lines, IsWalk};
-ghost use Rattle.column_check.specs.Listings.{IsListing};
-ghost use Rattle.column_check.specs.Ready.{IsPairReady, IsProductReady};
+ghost use Rattle.column_check.specs.{Listings.IsListing, Ready.{IsPairReady, IsProductReady}};
 
 use crate::columns::ask_column;
 use crate::listing::Listing;

@@ -2,10 +2,8 @@
 ghost use Rattle.std.specs.Prelude.{◌≡◌, ◌+◌, ◌<◌, ◌^◌, List, length, sum_by, IsTrue};
 ghost use Rattle.fp_field.specs.Served.{served};
 ghost use Rattle.complex_index.specs.Names.{IsIndexOf};
-ghost use Rattle.report.specs.declared.complex.ComplexPart.{ComplexPart};
-ghost use Rattle.report.specs.declared.map.MapPart.{MapPart};
+ghost use Rattle.certificate_law.specs.{Types.{ComplexPart, MapPart}, Names.{Asks, complex_stated, map_between}};
 ghost use Rattle.report_law.specs.Names.{ranks_of};
-ghost use Rattle.certificate_law.specs.Names.{Asks, complex_stated, map_between};
 ghost use Rattle.certificate_walk.specs.Names.{complex_lines as complex_lines_of, degree_lines, map_lines as map_lines_of, operation_lines, product_lines, IsWalk};
 ghost use Rattle.line_difference.specs.Elements.{AreStored};
 ghost use Rattle.column_check.specs.Ready.{HasPassed, HasPassedMap};

@@ -1,29 +1,15 @@
 -- The classes of a complex as they are kept by place, and as they are listed.
-use Rattle.std.proofs.Common.{◌≡◌, ◌∙◌, ℕ, zero, suc, ◌+◌, ◌-◌, ◌<◌, ◌≤◌, inl, inr, List, [], ◌∷◌, ◌++◌, length, map, take, get_or, arith, refl, sym, ap, ap₂, subst, Bool, IsTrue, slice_get, Some}
-use Rattle.std.specs.List.{AllZip}
-use Rattle.std.proofs.lemmas.Bool.{cases_lt}
-use Rattle.std.proofs.lemmas.List.{length-map, map-append, take_more}
-use Rattle.std.proofs.lemmas.Simd.{map-map}
+use Rattle.std.{proofs.Common.{◌≡◌, ◌∙◌, ℕ, zero, suc, ◌+◌, ◌-◌, ◌<◌, ◌≤◌, inl, inr, List, [], ◌∷◌, ◌++◌, length, map, take, get_or, arith, refl, sym, ap, ap₂, subst, Bool, IsTrue, slice_get, Some}, specs.List.AllZip, proofs.lemmas.Bool.cases_lt, proofs.lemmas.List.{length-map, map-append, take_more}, proofs.lemmas.Simd.map-map}
 use Rattle.signed_sum.specs.Names.{numbers_from}
-use Rattle.linear_law.specs.Names.{Among, Each, IsAscending}
-use Rattle.linear_law.proofs.Names.{each_among, each_get_or, each_itself, length_alike}
-use Rattle.simplicial_law.specs.Names.{IsSimplex, Chain, IsCoboundary, IsCocycle, IsCanonicalModulo, AreCanonicalModulo, cochain_of, of_degree, terms_of}
-use Rattle.simplicial_law.specs.ListedSimplices.{simplices}
-use Rattle.simplicial_law.proofs.Names.{listed_simplices_law}
-use Rattle.complex_index.specs.declared.indexed.Cochain.{Cochain}
-use Rattle.complex_index.specs.Names.{IsIndexOf, level}
+use Rattle.linear_law.{specs.Names.{Among, Each, IsAscending}, proofs.Names.{each_among, each_get_or, each_itself, length_alike}}
+use Rattle.simplicial_law.{specs.Names.{IsSimplex, Chain, IsCoboundary, IsCocycle, IsCanonicalModulo, AreCanonicalModulo, cochain_of, of_degree, terms_of}, specs.ListedSimplices.simplices, proofs.Names.listed_simplices_law}
+use Rattle.complex_index.specs.{declared.indexed.Cochain.Cochain, Names.{IsIndexOf, level}}
 use Rattle.sparse_rows.specs.Rows.{IsBelow}
 use Rattle.cohomology.specs.Names.{AreCanonicalIn, IsPlaced, chains_at}
-use Rattle.report.specs.declared.complex.DegreePart.{DegreePart}
-use Rattle.report.specs.declared.plan.Sizes.{Sizes}
-use Rattle.report_law.specs.Names.{ArePrimitives, AreClasses, Classes, ranks, AreSizes, simplex_counts}
-use Rattle.report_law.proofs.Names.{get_or-map, get_or-past, same-order}
+use Rattle.report_law.{specs.Types.{DegreePart, Sizes}, specs.Names.{ArePrimitives, AreClasses, Classes, ranks, AreSizes, simplex_counts}, proofs.Names.{get_or-map, get_or-past, same-order}}
 use Rattle.op_matrix.specs.Columns.{AreListedAs}
-use Rattle.class_matrices.proofs.ClassLemmas.{as-listed, count, on-level, ranks-are}
-use Rattle.class_matrices.proofs.ListLemmas.{numbers-count, numbers-length}
-use Rattle.class_matrices.specs.Names.{class_counts, listed_classes}
-use Rattle.job_report.specs.Listed.{level_counts}
-use Rattle.job_report.specs.Parts.{IsListedDegree}
+use Rattle.class_matrices.{proofs.ClassLemmas.{as-listed, count, on-level, ranks-are}, proofs.ListLemmas.{numbers-count, numbers-length}, specs.Names.{class_counts, listed_classes}}
+use Rattle.job_report.specs.{Listed.level_counts, Parts.IsListedDegree}
 
 -- ---- lists over numbers
 

@@ -1,34 +1,17 @@
 -- Chains and columns as they are kept, and as they are listed.
-use Rattle.std.proofs.Common.{◌≡◌, ◌∙◌, ℕ, zero, suc, ◌+◌, ◌*◌, ◌-◌, ◌<◌, inl, inr, Bool, List, [], ◌∷◌, ◌++◌, length, map, take, get_or, arith, refl, sym, ap, ap₂, subst, IsTrue, slice_get, Some, None, flat_map, length-append}
-use Rattle.std.specs.declared.option.Option.{Option}
-use Rattle.std.specs.List.{AllZip}
-use Rattle.std.proofs.lemmas.Bool.{cases_lt}
-use Rattle.std.proofs.lemmas.List.{length-map}
+use Rattle.std.{proofs.Common.{◌≡◌, ◌∙◌, ℕ, zero, suc, ◌+◌, ◌*◌, ◌-◌, ◌<◌, inl, inr, Bool, List, [], ◌∷◌, ◌++◌, length, map, take, get_or, arith, refl, sym, ap, ap₂, subst, IsTrue, slice_get, Some, None, flat_map, length-append}, specs.declared.option.Option.Option, specs.List.AllZip, proofs.lemmas.Bool.cases_lt, proofs.lemmas.List.length-map}
 use Rattle.signed_sum.specs.Names.{numbers_from}
-use Rattle.linear_law.specs.Names.{Each}
-use Rattle.linear_law.proofs.Names.{each_map, each_of_map, each_unmap}
-use Rattle.simplicial_law.specs.Names.{IsSimplex, Chain, Cochain as SimplexCochain, IsCanonicalPrimitive, IsCoboundaryPivot, AreTerms, cochain_of, terms_of}
-use Rattle.simplicial_law.proofs.Names.{no_bounds, ordered_places}
+use Rattle.linear_law.{specs.Names.Each, proofs.Names.{each_map, each_of_map, each_unmap}}
+use Rattle.simplicial_law.{specs.Names.{IsSimplex, Chain, Cochain as SimplexCochain, IsCanonicalPrimitive, IsCoboundaryPivot, AreTerms, cochain_of, terms_of}, proofs.Names.{no_bounds, ordered_places}}
 use Rattle.sparse_rows.specs.Rows.{IsBelow}
 use Rattle.steenrod_law.specs.Names.{cochain_products, cup_product}
-use Rattle.complex_index.specs.declared.indexed.Cochain.{Cochain}
-use Rattle.complex_index.specs.Names.{IsIndexOf, level}
-use Rattle.cohomology.specs.declared.basis.Column.{Column}
-use Rattle.cohomology.specs.declared.data.Coboundary.{Coboundary}
-use Rattle.cohomology.specs.Names.{IsPlaced, cochain_in, AreCoboundaries, IsCoboundaryOf, IsPlacedCoboundary, pivot_in}
-use Rattle.report.specs.declared.columns.CartanAnswer.{CartanAnswer}
-use Rattle.report.specs.declared.columns.CartanAnswer.TheVariants.{Yes, No}
-use Rattle.report.specs.declared.columns.Column.{Column as ListedColumn}
-use Rattle.report_law.specs.Names.{ArePrimitives, IsAnswer, IsColumn, IsCycleOf, IsPrimitive, IsPrimitiveAt, rest_of, number_pairs}
-use Rattle.report_law.proofs.Names.{get_or-past}
-use Rattle.op_matrix.specs.Columns.{listed_column, primitive_terms}
-use Rattle.op_matrix.proofs.ColumnLemmas.{terms}
-use Rattle.cartan_check.specs.declared.Verdict.{Verdict}
-use Rattle.cartan_check.specs.declared.Verdict.TheVariants.{Yes as Primitive, No as Cycle}
-use Rattle.cartan_check.specs.Verdicts.{cycle_terms, listed_answer}
+use Rattle.complex_index.specs.{declared.indexed.Cochain.Cochain, Names.{IsIndexOf, level}}
+use Rattle.cohomology.specs.{declared.basis.Column.Column, declared.data.Coboundary.Coboundary, Names.{IsPlaced, cochain_in, AreCoboundaries, IsCoboundaryOf, IsPlacedCoboundary, pivot_in}}
+use Rattle.report_law.{specs.Types.{CartanAnswer, Yes, No, Column as ListedColumn}, specs.Names.{ArePrimitives, IsAnswer, IsColumn, IsCycleOf, IsPrimitive, IsPrimitiveAt, rest_of, number_pairs}, proofs.Names.get_or-past}
+use Rattle.op_matrix.{specs.Columns.{listed_column, primitive_terms}, proofs.ColumnLemmas.terms}
+use Rattle.cartan_check.specs.{declared.Verdict.Verdict, declared.Verdict.TheVariants.{Yes as Primitive, No as Cycle}, Verdicts.{cycle_terms, listed_answer}}
 use Rattle.class_matrices.proofs.ListLemmas.{numbers-length}
-use Rattle.job_report.specs.Listed.{IsInside, IsListedColumn}
-use Rattle.job_report.specs.Parts.{IsInsideVerdict, IsSameAnswer}
+use Rattle.job_report.specs.{Listed.{IsInside, IsListedColumn}, Parts.{IsInsideVerdict, IsSameAnswer}}
 
 -- ---- places
 

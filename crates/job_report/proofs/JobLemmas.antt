@@ -1,22 +1,13 @@
 -- What the complexes and the maps of a job keep.
-use Rattle.std.proofs.Common.{◌≡◌, ℕ, ◌+◌, ◌<◌, ◌≤◌, ◌^◌, Bool, true, false, List, [], ◌∷◌, ◌++◌, length, map, subst, sym, ap, refl, arith, lit<, append_assoc, append-nil, IsTrue, Ok, Err, Some, None, if◌then◌else◌, is_none, nat_lt, ltb-false}
-use Rattle.std.specs.declared.result.Result.{Result}
-use Rattle.std.specs.List.{list_all}
-use Rattle.std.proofs.lemmas.Bool.{and_parts}
-use Rattle.linear_law.specs.Names.{Among, Each, IsAscending}
-use Rattle.linear_law.proofs.Names.{each_among, each_get_or, each_itself, each_map}
-use Rattle.simplicial_law.specs.Names.{IsSimplex}
-use Rattle.simplicial_law.specs.ListedSimplices.{simplices}
+use Rattle.std.{proofs.Common.{◌≡◌, ℕ, ◌+◌, ◌<◌, ◌≤◌, ◌^◌, Bool, true, false, List, [], ◌∷◌, ◌++◌, length, map, subst, sym, ap, refl, arith, lit<, append_assoc, append-nil, IsTrue, Ok, Err, Some, None, if◌then◌else◌, is_none, nat_lt, ltb-false}, specs.declared.result.Result.Result, specs.List.list_all, proofs.lemmas.Bool.and_parts}
+use Rattle.linear_law.{specs.Names.{Among, Each, IsAscending}, proofs.Names.{each_among, each_get_or, each_itself, each_map}}
+use Rattle.simplicial_law.specs.{Names.IsSimplex, ListedSimplices.simplices}
 use Rattle.steenrod_law.specs.Names.{IsWeakSimplex}
 use Rattle.fp_field.specs.Served.{served}
-use Rattle.complex_file.specs.declared.block.ComplexBlock.{ComplexBlock}
-use Rattle.complex_file.specs.declared.block.MapBlock.{MapBlock}
-use Rattle.complex_file.specs.declared.kind.InputKind.{InputKind}
-use Rattle.complex_file.specs.Names.{is_not_empty, complex_fault, facet_fault, first_facet_fault, is_complex, is_facet, facets_at, image}
-use Rattle.complex_file.specs.Jobs.{is_job}
+use Rattle.report_law.{specs.Types.{ComplexBlock, MapBlock, InputKind}, proofs.Names.{complex-ascends, job-maps, job-prime, no-earlier, no-end-fault, no-fault, simplicial}}
+use Rattle.complex_file.specs.{Names.{is_not_empty, complex_fault, facet_fault, first_facet_fault, is_complex, is_facet, facets_at, image}, Jobs.is_job}
 use Rattle.complex_index.specs.Names.{IsIndexOf, level}
 use Rattle.induced_map.specs.Induced.{IsMapIn}
-use Rattle.report_law.proofs.Names.{complex-ascends, job-maps, job-prime, no-earlier, no-end-fault, no-fault, simplicial}
 use Rattle.job_report.specs.Jobs.{CanBeIndexed, IsFreeMap}
 
 -- ---- complexes

@@ -1,22 +1,12 @@
 -- What is listed of a map between two complexes of a job.
-use Rattle.std.proofs.Common.{◌≡◌, ◌∙◌, ℕ, zero, suc, ◌<◌, Bool, List, [], ◌∷◌, length, get_or, arith, sym, ap, ap₂, subst, slice_get, Some}
-use Rattle.std.specs.List.{AllZip}
+use Rattle.std.{proofs.Common.{◌≡◌, ◌∙◌, ℕ, zero, suc, ◌<◌, Bool, List, [], ◌∷◌, length, get_or, arith, sym, ap, ap₂, subst, slice_get, Some}, specs.List.AllZip}
 use Rattle.linear_law.specs.Names.{Each}
-use Rattle.complex_file.specs.declared.block.ComplexBlock.{ComplexBlock}
-use Rattle.complex_file.specs.declared.block.MapBlock.{MapBlock}
+use Rattle.report_law.specs.{Types.{ComplexBlock, MapBlock, InducedPart, MapPart}, Names.{induced_degrees, Classes, ranks, AreOrderedSends, IsInducedPart, IsMapPart}}
 use Rattle.complex_file.specs.Names.{facets_at, image, name_at}
-use Rattle.complex_index.specs.declared.indexed.Cochain.{Cochain}
-use Rattle.complex_index.specs.Names.{IsIndexOf}
+use Rattle.complex_index.specs.{declared.indexed.Cochain.Cochain, Names.IsIndexOf}
 use Rattle.cohomology.specs.Names.{AreCanonicalIn}
-use Rattle.report.specs.declared.map.InducedPart.{InducedPart}
-use Rattle.report.specs.declared.map.MapPart.{MapPart}
-use Rattle.report_law.specs.Names.{induced_degrees, Classes, ranks, AreOrderedSends, IsInducedPart, IsMapPart}
-use Rattle.job_report.specs.declared.known.Known.{Known}
-use Rattle.job_report.specs.Jobs.{AreAllListed, IsFreeMap, IsKnown}
-use Rattle.class_matrices.specs.Names.{class_counts, listed_classes}
-use Rattle.job_report.specs.Parts.{IsListedInduced}
-use Rattle.class_matrices.proofs.ClassLemmas.{ranks-are}
-use Rattle.job_report.proofs.Zips.{headings, parts, zip-get}
+use Rattle.job_report.{specs.declared.known.Known.Known, specs.Jobs.{AreAllListed, IsFreeMap, IsKnown}, specs.Parts.IsListedInduced, proofs.Zips.{headings, parts, zip-get}}
+use Rattle.class_matrices.{specs.Names.{class_counts, listed_classes}, proofs.ClassLemmas.ranks-are}
 
 slice-of : {X : Type 0} (xs : List X) (i : ℕ) (x : X) → i < length xs → x ≡ get_or xs i x → slice_get xs i ≡ Some x
 slice-of [] i x l e = absurd (omega (arith, l))

@@ -1,36 +1,17 @@
 -- From the sections of complexes and maps to the report of a job.
-use Rattle.std.proofs.Common.{◌≡◌, ◌∙◌, ℕ, zero, suc, Bool, true, false, List, [], ◌∷◌, length, map, get_or, arith, refl, sym, ap, subst, IsTrue, ℤ}
-use Rattle.std.specs.List.{AllZip}
+use Rattle.std.{proofs.Common.{◌≡◌, ◌∙◌, ℕ, zero, suc, Bool, true, false, List, [], ◌∷◌, length, map, get_or, arith, refl, sym, ap, subst, IsTrue, ℤ}, specs.List.AllZip}
 use Rattle.signed_sum.specs.Names.{numbers_from}
 use Rattle.fp_field.specs.Served.{served}
-use Rattle.linear_law.specs.Names.{Each, IsAscending}
-use Rattle.linear_law.proofs.Names.{each_right, zip_change}
-use Rattle.complex_file.specs.declared.block.ComplexBlock.{ComplexBlock}
-use Rattle.complex_file.specs.declared.block.MapBlock.{MapBlock}
+use Rattle.linear_law.{specs.Names.{Each, IsAscending}, proofs.Names.{each_right, zip_change}}
+use Rattle.report_law.{specs.Types.{ComplexBlock, MapBlock, ComplexPart, Form, MapPart, Sizes}, specs.Names.{blocks, lines, products, AreClasses, Classes, ranks, block_of, classes_of, line_of, product_of, AreMaximalFacets, AreTables, IsCartanPart, IsComplexPart, IsInducedPart, IsMapPart, IsOperationPart, IsProductPart, IsReportOf, AreSizes}, proofs.Names.sizes_law}
 use Rattle.complex_file.specs.Names.{Spelled, facets_at, image}
-use Rattle.complex_index.specs.declared.indexed.Cochain.{Cochain}
-use Rattle.complex_index.specs.Names.{IsIndexOf, level}
+use Rattle.complex_index.specs.{declared.indexed.Cochain.Cochain, Names.{IsIndexOf, level}}
 use Rattle.cohomology.specs.Names.{AreCanonicalIn}
-use Rattle.report.specs.declared.complex.ComplexPart.{ComplexPart}
-use Rattle.report.specs.declared.form.Form.{Form}
-use Rattle.report.specs.declared.form.Form.TheVariants.{Basis}
-use Rattle.report.specs.declared.map.MapPart.{MapPart}
-use Rattle.report.specs.declared.plan.Sizes.{Sizes}
-use Rattle.report.specs.Names.{has_details, has_tables}
-use Rattle.report_law.specs.Names.{blocks, lines, products, AreClasses, Classes, ranks, block_of, classes_of, line_of, product_of, AreMaximalFacets, AreTables, IsCartanPart, IsComplexPart, IsInducedPart, IsMapPart, IsOperationPart, IsProductPart, IsReportOf, AreSizes}
-use Rattle.report_law.proofs.Names.{sizes_law}
+use Rattle.report.specs.{declared.form.Form.TheVariants.Basis, Names.{has_details, has_tables}}
 use Rattle.term_total.specs.Names.{IsPart}
-use Rattle.job_report.specs.declared.known.Known.{Known}
-use Rattle.job_report.specs.Jobs.{AreAllListed, CanBeIndexed, HasStored, IsDeeper, IsKnown, IsSize}
-use Rattle.job_report.proofs.JobLemmas.{ascending-facets}
-use Rattle.class_matrices.specs.Names.{class_counts, listed_classes}
-use Rattle.job_report.specs.Listed.{level_counts}
+use Rattle.job_report.{specs.declared.known.Known.Known, specs.Jobs.{AreAllListed, CanBeIndexed, HasStored, IsDeeper, IsKnown, IsSize}, proofs.JobLemmas.ascending-facets, specs.Listed.level_counts, specs.Parts.{IsListedDegree, IsListedLine, IsListedOperation, IsListedProduct}, proofs.ClassLemmas.{are-classes, below-are, degree-classes, sizes-are}, proofs.Zips.{headings, parts}}
+use Rattle.class_matrices.{specs.Names.{class_counts, listed_classes}, proofs.ListLemmas.numbers-count, proofs.ClassLemmas.ranks-are}
 use Rattle.line_difference.specs.Elements.{AreStored}
-use Rattle.job_report.specs.Parts.{IsListedDegree, IsListedLine, IsListedOperation, IsListedProduct}
-use Rattle.class_matrices.proofs.ListLemmas.{numbers-count}
-use Rattle.class_matrices.proofs.ClassLemmas.{ranks-are}
-use Rattle.job_report.proofs.ClassLemmas.{are-classes, below-are, degree-classes, sizes-are}
-use Rattle.job_report.proofs.Zips.{headings, parts}
 
 never : IsTrue false → ⊥
 never t = cc

@@ -1,37 +1,17 @@
 -- From matrices and verdicts by place to the parts of a report.
-use Rattle.std.proofs.Common.{◌≡◌, ◌∙◌, ℕ, ◌+◌, ◌-◌, ◌≤◌, Bool, List, arith, map, length, refl, sym, ap, ap₂, subst, IsTrue}
-use Rattle.std.specs.List.{AllZip}
-use Rattle.std.proofs.lemmas.List.{length-map}
-use Rattle.linear_law.specs.Names.{Among, Each}
-use Rattle.linear_law.proofs.Names.{among_map, length_alike}
+use Rattle.std.{proofs.Common.{◌≡◌, ◌∙◌, ℕ, ◌+◌, ◌-◌, ◌≤◌, Bool, List, arith, map, length, refl, sym, ap, ap₂, subst, IsTrue}, specs.List.AllZip, proofs.lemmas.List.length-map}
+use Rattle.linear_law.{specs.Names.{Among, Each}, proofs.Names.{among_map, length_alike}}
 use Rattle.steenrod_law.specs.Names.{cochain_products, pull_back}
 use Rattle.simplicial_law.specs.Names.{Cochain as SimplexCochain}
-use Rattle.complex_index.specs.declared.indexed.Cochain.{Cochain}
-use Rattle.complex_index.specs.Names.{IsIndexOf}
-use Rattle.cohomology.specs.declared.basis.Column.{Column}
-use Rattle.cohomology.specs.Names.{AreCanonicalIn}
-use Rattle.report.specs.declared.columns.CartanAnswer.{CartanAnswer}
-use Rattle.report.specs.declared.columns.Column.{Column as ListedColumn}
-use Rattle.report.specs.declared.columns.PairColumn.{PairColumn}
-use Rattle.report.specs.declared.plan.Block.{Block}
-use Rattle.report.specs.declared.plan.Line.{Line}
-use Rattle.report.specs.declared.plan.Op.{Op}
-use Rattle.report.specs.declared.plan.Product.{Product}
-use Rattle.report_law.specs.Names.{IsColumn, rest_of, Classes, IsOperationBlock, IsOperationColumn, classes_in, cochains_in, line_degree, number_pairs, numbers_of, op_named, unnumbered}
-use Rattle.op_matrix.specs.Columns.{AreListedAs, listed_columns}
-use Rattle.op_matrix.specs.Tables.{IsOperationMatrix, IsProductMatrix}
+use Rattle.complex_index.specs.{declared.indexed.Cochain.Cochain, Names.IsIndexOf}
+use Rattle.cohomology.specs.{declared.basis.Column.Column, Names.AreCanonicalIn}
+use Rattle.report_law.specs.{Types.{CartanAnswer, Column as ListedColumn, PairColumn, Block, Line, Op, Product}, Names.{IsColumn, rest_of, Classes, IsOperationBlock, IsOperationColumn, classes_in, cochains_in, line_degree, number_pairs, numbers_of, op_named, unnumbered}}
+use Rattle.op_matrix.specs.{Columns.{AreListedAs, listed_columns}, Tables.{IsOperationMatrix, IsProductMatrix}}
 use Rattle.induced_map.specs.Induced.{IsInducedMatrix}
-use Rattle.cartan_check.specs.declared.Verdict.{Verdict}
-use Rattle.cartan_check.specs.Verdicts.{IsVerdictOf, listed_answer}
-use Rattle.class_matrices.specs.declared.matrices.Matrices.{Matrices}
-use Rattle.class_matrices.specs.declared.matrices.ProductMatrix.{ProductMatrix}
-use Rattle.class_matrices.specs.Names.{class_counts, listed_classes, AreMatrices}
-use Rattle.class_matrices.proofs.ListLemmas.{numbers-count}
+use Rattle.cartan_check.specs.{declared.Verdict.Verdict, Verdicts.{IsVerdictOf, listed_answer}}
+use Rattle.class_matrices.{specs.declared.matrices.Matrices.Matrices, specs.declared.matrices.ProductMatrix.ProductMatrix, specs.Names.{class_counts, listed_classes, AreMatrices}, proofs.ListLemmas.numbers-count, proofs.ClassLemmas.as-listed}
 use Rattle.line_difference.proofs.PlanLemmas.{product-low}
-use Rattle.job_report.specs.Listed.{IsInside, IsListedColumn}
-use Rattle.job_report.specs.Parts.{IsInsideVerdict, IsListedInduced, IsListedLine, IsListedOperation, IsListedProduct, IsSameAnswer}
-use Rattle.class_matrices.proofs.ClassLemmas.{as-listed}
-use Rattle.job_report.proofs.ColumnLemmas.{answer-alike, column-alike, columns-inside, pairs-count, relisted, verdict-inside}
+use Rattle.job_report.{specs.Listed.{IsInside, IsListedColumn}, specs.Parts.{IsInsideVerdict, IsListedInduced, IsListedLine, IsListedOperation, IsListedProduct, IsSameAnswer}, proofs.ColumnLemmas.{answer-alike, column-alike, columns-inside, pairs-count, relisted, verdict-inside}}
 
 module _ (p : ℕ) (detailed : Bool) (levels : List (List (List ℕ))) (classes : ℕ → List (Cochain p)) (canonical : (n : ℕ) → AreCanonicalIn p levels n (classes n)) where
   abbrev all : Classes

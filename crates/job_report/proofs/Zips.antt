@@ -1,12 +1,7 @@
 -- Lists that are made item by item, and parts with their headings.
-use Rattle.std.proofs.Common.{◌≡◌, ◌∙◌, Bool, true, false, cond, ℕ, zero, suc, ◌+◌, ◌<◌, ◌≤◌, List, [], ◌∷◌, ◌++◌, length, map, take, get_or, append_assoc, arith, refl, sym, ap, ap₂, subst, take_all, flat_map, fold, append-nil}
-use Rattle.std.specs.List.{AllZip, filter}
-use Rattle.std.proofs.lemmas.List.{length-map, map-append, take_more}
-use Rattle.std.proofs.lemmas.Grind.{flat_map-append}
-use Rattle.std.proofs.lemmas.List.Sums.{fold-append}
+use Rattle.std.{proofs.Common.{◌≡◌, ◌∙◌, Bool, true, false, cond, ℕ, zero, suc, ◌+◌, ◌<◌, ◌≤◌, List, [], ◌∷◌, ◌++◌, length, map, take, get_or, append_assoc, arith, refl, sym, ap, ap₂, subst, take_all, flat_map, fold, append-nil}, specs.List.{AllZip, filter}, proofs.lemmas.List.{length-map, map-append, take_more}, proofs.lemmas.Grind.flat_map-append, proofs.lemmas.List.Sums.fold-append}
 use Rattle.signed_sum.specs.Names.{numbers_from}
-use Rattle.linear_law.specs.Names.{Among, Each}
-use Rattle.linear_law.proofs.Names.{each_get_or, each_itself, zip_push}
+use Rattle.linear_law.{specs.Names.{Among, Each}, proofs.Names.{each_get_or, each_itself, zip_push}}
 use Rattle.complex_index.specs.Names.{IsIndexOf}
 use Rattle.report_law.proofs.Names.{get_or-map}
 use Rattle.class_matrices.proofs.ListLemmas.{numbers-more}

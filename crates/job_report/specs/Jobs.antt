@@ -2,16 +2,11 @@
 use Rattle.std.specs.Prelude.{◌≡◌, ℕ, ◌≤◌, ◌<◌, ◌^◌, List, [], get_or, length, slice_get, None, Some, ℤ}
 use Rattle.linear_law.specs.Names.{Each, IsAscending}
 use Rattle.simplicial_law.specs.ListedSimplices.{simplices}
-use Rattle.complex_file.specs.declared.block.ComplexBlock.{ComplexBlock}
-use Rattle.complex_file.specs.declared.block.MapBlock.{MapBlock}
+use Rattle.report_law.specs.{Types.{ComplexBlock, MapBlock, Sizes}, Names.{Classes, AreSizes}}
 use Rattle.complex_file.specs.Names.{facets_at, map_fault}
-use Rattle.complex_index.specs.declared.indexed.Cochain.{Cochain}
-use Rattle.complex_index.specs.Names.{IsIndexOf}
-use Rattle.report.specs.declared.plan.Sizes.{Sizes}
-use Rattle.report_law.specs.Names.{Classes, AreSizes}
-use Rattle.job_report.specs.declared.known.Known.{Known}
+use Rattle.complex_index.specs.{declared.indexed.Cochain.Cochain, Names.IsIndexOf}
+use Rattle.job_report.specs.{declared.known.Known.Known, Listed.level_counts}
 use Rattle.class_matrices.specs.Names.{class_counts, listed_classes}
-use Rattle.job_report.specs.Listed.{level_counts}
 use Rattle.line_difference.specs.Elements.{AreStored}
 
 -- ascending facets of 1 to 16 vertices, with fewer than 2^32 simplices in all

@@ -1,12 +1,9 @@
 -- Classes, columns and blocks that are kept by place, as a report lists them.
-use Rattle.std.specs.Prelude.{◌≡◌, ℕ, Bool, IfSome, IsTrue, List, length, map}
-use Rattle.std.specs.declared.option.Option.{Option}
+use Rattle.std.specs.{Prelude.{◌≡◌, ℕ, Bool, IfSome, IsTrue, List, length, map}, declared.option.Option.Option}
 use Rattle.signed_sum.specs.Names.{numbers_from}
 use Rattle.sparse_rows.specs.Rows.{IsBelow}
-use Rattle.complex_index.specs.declared.indexed.Cochain.{Cochain}
-use Rattle.complex_index.specs.Names.{level}
-use Rattle.cohomology.specs.declared.basis.Column.{Column}
-use Rattle.cohomology.specs.Names.{chains_at}
+use Rattle.complex_index.specs.{declared.indexed.Cochain.Cochain, Names.level}
+use Rattle.cohomology.specs.{declared.basis.Column.Column, Names.chains_at}
 use Rattle.report.specs.declared.columns.Column.{Column as ListedColumn}
 use Rattle.report_law.specs.Names.{Classes}
 use Rattle.op_matrix.specs.Columns.{primitive_terms}

@@ -1,23 +1,11 @@
 -- The parts of a report, over the levels and the classes of a complex.
 use Rattle.std.specs.Prelude.{◌≡◌, ℕ, ◌-◌, Bool, IsSome, IsTrue, List, [], ℤ}
 use Rattle.linear_law.specs.Names.{Each}
-use Rattle.complex_index.specs.declared.indexed.Cochain.{Cochain}
-use Rattle.complex_index.specs.Names.{IsIndexOf, level}
+use Rattle.complex_index.specs.{declared.indexed.Cochain.Cochain, Names.{IsIndexOf, level}}
 use Rattle.cohomology.specs.Names.{chains_at}
 use Rattle.may_elements.specs.Stored.{stored_at}
-use Rattle.report.specs.declared.columns.CartanAnswer.{CartanAnswer}
-use Rattle.report.specs.declared.columns.CartanAnswer.TheVariants.{Yes, No}
-use Rattle.report.specs.declared.columns.CartanPart.{CartanPart}
-use Rattle.report.specs.declared.columns.OperationPart.{OperationPart}
-use Rattle.report.specs.declared.columns.ProductPart.{ProductPart}
-use Rattle.report.specs.declared.complex.DegreePart.{DegreePart}
-use Rattle.report.specs.declared.map.InducedPart.{InducedPart}
-use Rattle.report.specs.declared.plan.Block.{Block}
-use Rattle.report.specs.declared.plan.Line.{Line}
-use Rattle.report.specs.declared.plan.Product.{Product}
-use Rattle.report_law.specs.Names.{ArePrimitives, block_of, line_of, product_of, IsCartanPart, IsInducedPart, IsOperationPart, IsProductPart, complex_elements}
-use Rattle.cartan_check.specs.declared.Verdict.{Verdict}
-use Rattle.cartan_check.specs.declared.Verdict.TheVariants.{Yes as Primitive, No as Cycle}
+use Rattle.report_law.specs.{Types.{CartanAnswer, Yes, No, CartanPart, OperationPart, ProductPart, DegreePart, InducedPart, Block, Line, Product}, Names.{ArePrimitives, block_of, line_of, product_of, IsCartanPart, IsInducedPart, IsOperationPart, IsProductPart, complex_elements}}
+use Rattle.cartan_check.specs.declared.{Verdict.Verdict, Verdict.TheVariants.{Yes as Primitive, No as Cycle}}
 use Rattle.class_matrices.specs.Names.{listed_classes}
 use Rattle.job_report.specs.Listed.{IsInside}
 

@@ -1,5 +1,4 @@
-ghost use Rattle.std.specs.Prelude.{◌≡◌, ◌-◌, ◌++◌, IfOk, IsTrue, OnOk, length, map};
-ghost use Rattle.std.specs.List.{AllZip};
+ghost use Rattle.std.specs.{Prelude.{◌≡◌, ◌-◌, ◌++◌, IfOk, IsTrue, OnOk, length, map}, List.AllZip};
 ghost use Rattle.linear_law.specs.Names.{Each};
 ghost use Rattle.signed_sum.specs.Names.{numbers_from};
 ghost use Rattle.report_law.specs.Names.{number_pairs as number_pairs_of, numbers_of, unnumbered};

@@ -1,9 +1,7 @@
-ghost use Rattle.std.specs.Prelude.{◌≡◌, ◌≤◌, length, IfOk, OnOk};
-ghost use Rattle.std.specs.List.{AllZip};
+ghost use Rattle.std.specs.{Prelude.{◌≡◌, ◌≤◌, length, IfOk, OnOk}, List.AllZip};
 ghost use Rattle.signed_sum.specs.Names.{numbers_from};
 ghost use Rattle.class_matrices.specs.Names.{class_counts};
-ghost use Rattle.job_report.specs.Listed.{level_counts};
-ghost use Rattle.job_report.specs.Parts.{IsListedDegree};
+ghost use Rattle.job_report.specs.{Listed.level_counts, Parts.IsListedDegree};
 
 use crate::chains::class_chains;
 use crate::depth::Depth;

@@ -1,5 +1,4 @@
-ghost use Rattle.std.specs.Prelude.{IfOk, IsTrue};
-ghost use Rattle.std.specs.List.{AllZip};
+ghost use Rattle.std.specs.{Prelude.{IfOk, IsTrue}, List.AllZip};
 ghost use Rattle.fp_field.specs.Served.{served};
 ghost use Rattle.linear_law.specs.Names.{Each};
 ghost use Rattle.job_report.specs.Jobs.{CanBeIndexed, IsDeeper, IsKnown, IsSize};

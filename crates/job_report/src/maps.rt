@@ -1,13 +1,11 @@
-ghost use Rattle.std.specs.Prelude.{◌≡◌, ◌≤◌, ◌<◌, ◌&&◌, List, [], IfOk, IsTrue, OnOk, ◌++◌, ◌∷◌, get_or, length};
-ghost use Rattle.std.specs.List.{AllZip, filter};
+ghost use Rattle.std.specs.{Prelude.{◌≡◌, ◌≤◌, ◌<◌, ◌&&◌, List, [], IfOk, IsTrue, OnOk, ◌++◌, ◌∷◌, get_or, length}, List.{AllZip, filter}};
 ghost use Rattle.fp_field.specs.Served.{served};
 ghost use Rattle.linear_law.specs.Names.{Each, IsAscending};
 ghost use Rattle.complex_index.specs.Names.{IsComplexIndex};
 ghost use Rattle.induced_map.specs.Induced.{IsMapIn};
 ghost use Rattle.report_law.specs.Names.{has_class, induced_degrees, Classes, IsMapPart};
-ghost use Rattle.job_report.specs.Jobs.{AreAllListed, IsFreeMap, IsKnown};
+ghost use Rattle.job_report.specs.{Jobs.{AreAllListed, IsFreeMap, IsKnown}, Parts.IsListedInduced};
 ghost use Rattle.class_matrices.specs.Names.{class_counts};
-ghost use Rattle.job_report.specs.Parts.{IsListedInduced};
 
 use crate::columns::listed_columns;
 use crate::degrees::ranks_of;

@@ -1,5 +1,4 @@
-ghost use Rattle.std.specs.Prelude.{◌≡◌, ◌≤◌, ◌^◌, ℕ, Err, IfOk, IsTrue, None, OnOk, Some};
-ghost use Rattle.std.specs.List.{AllZip};
+ghost use Rattle.std.specs.{Prelude.{◌≡◌, ◌≤◌, ◌^◌, ℕ, Err, IfOk, IsTrue, None, OnOk, Some}, List.AllZip};
 ghost use Rattle.fp_field.specs.Served.{served};
 ghost use Rattle.linear_law.specs.Names.{Each};
 ghost use Rattle.cohomology.specs.Names.{AreClassesOf};

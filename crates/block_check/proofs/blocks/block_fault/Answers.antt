@@ -1,11 +1,7 @@
 use Rattle.std.proofs.Common.{ℕ, ◌+◌, ◌++◌, sym, ap, arith, refl, subst, List, [], ◌∷◌, length, sum_by, Ok, Err}
-use Rattle.report.specs.declared.complex.ComplexPart.{ComplexPart}
-use Rattle.report.specs.declared.map.MapPart.{MapPart}
-use Rattle.certificate_law.specs.Names.{Asks, behind, complex_stated, finish, map_stated, stated}
-use Rattle.certificate_walk.specs.Names.{complex_lines, map_lines, IsWalk}
-use Rattle.certificate_walk.proofs.Names.{walk_both, walk_stops}
-use Rattle.block_check.proofs.BlockLemmas.{maps_walk, stated_length, stated_walk}
-use Rattle.block_check.proofs.FacetLemmas.{walked_passed}
+use Rattle.certificate_law.specs.{Types.{ComplexPart, MapPart}, Names.{Asks, behind, complex_stated, finish, map_stated, stated}}
+use Rattle.certificate_walk.{specs.Names.{complex_lines, map_lines, IsWalk}, proofs.Names.{walk_both, walk_stops}}
+use Rattle.block_check.proofs.{BlockLemmas.{maps_walk, stated_length, stated_walk}, FacetLemmas.walked_passed}
 use Rattle.block_check.proofs.blocks.block_fault.Goals as goal
 
 pub complexes-requires : goal.complexes-requires

@@ -1,10 +1,8 @@
 use Rattle.std.proofs.Common.{◌+◌, ◌++◌, subst, [], ◌∷◌, Err}
 use Rattle.linear_law.specs.Names.{Each}
 use Rattle.certificate_law.specs.Names.{Asks, behind, complex_opens, complex_stated}
-use Rattle.certificate_walk.specs.Names.{complex_lines, IsWalk}
-use Rattle.certificate_walk.proofs.Names.{walk_both, walk_stops, walk_tested}
-use Rattle.block_check.proofs.BlockLemmas.{complex_walked, under_facets}
-use Rattle.block_check.proofs.FacetLemmas.{facet_line, walked_passed}
+use Rattle.certificate_walk.{specs.Names.{complex_lines, IsWalk}, proofs.Names.{walk_both, walk_stops, walk_tested}}
+use Rattle.block_check.proofs.{BlockLemmas.{complex_walked, under_facets}, FacetLemmas.{facet_line, walked_passed}}
 use Rattle.block_check.proofs.blocks.complex.Goals as goal
 
 pub returns-in_err-complex-clause-walk : goal.returns-in_err-complex-clause-walk

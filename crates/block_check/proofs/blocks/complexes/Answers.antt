@@ -1,10 +1,7 @@
-use Rattle.std.proofs.Common.{◌≡◌, ℕ, ◌+◌, ◌++◌, sym, ◌∙◌, ap, ap₂, [], ◌∷◌, Ok, subst, sum_by, take}
-use Rattle.std.proofs.lemmas.List.{map_more}
+use Rattle.std.proofs.{Common.{◌≡◌, ℕ, ◌+◌, ◌++◌, sym, ◌∙◌, ap, ap₂, [], ◌∷◌, Ok, subst, sum_by, take}, lemmas.List.map_more}
 use Rattle.certificate_law.specs.Names.{Asks, itself, behind, complex_stated}
-use Rattle.certificate_walk.specs.Names.{complex_lines, IsWalk}
-use Rattle.certificate_walk.proofs.Names.{rest_less, behind_end, behind_more, behind_stop}
-use Rattle.block_check.proofs.BlockLemmas.{complexes_length}
-use Rattle.block_check.proofs.FacetLemmas.{walked_passed}
+use Rattle.certificate_walk.{specs.Names.{complex_lines, IsWalk}, proofs.Names.{rest_less, behind_end, behind_more, behind_stop}}
+use Rattle.block_check.proofs.{BlockLemmas.complexes_length, FacetLemmas.walked_passed}
 use Rattle.block_check.proofs.blocks.complexes.Goals as goal
 
 pub returns-in_err-complex-clause-walk : goal.returns-in_err-complex-clause-walk

@@ -1,7 +1,6 @@
 use Rattle.std.proofs.Common.{◌≡◌, ℕ, ◌+◌, [], drop, map, sum_by, take}
 use Rattle.certificate_law.specs.Names.{Asks, itself, behind, complex_stated}
-use Rattle.certificate_walk.specs.Names.{complex_lines}
-use Rattle.certificate_walk.proofs.Names.{Leads}
+use Rattle.certificate_walk.{specs.Names.complex_lines, proofs.Names.Leads}
 use Rattle.block_check.proofs.blocks.complexes.Given as goal
 
 abbrev pub invariant-loop-place : goal.invariant-loop-place

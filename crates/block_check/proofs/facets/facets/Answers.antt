@@ -1,9 +1,7 @@
-use Rattle.std.proofs.Common.{◌≡◌, ℕ, ◌+◌, sym, ◌∙◌, ap, subst, arith, List, [], ◌∷◌, ◌++◌, length, take, Ok, Err}
-use Rattle.std.proofs.lemmas.List.{take_more}
+use Rattle.std.proofs.{Common.{◌≡◌, ℕ, ◌+◌, sym, ◌∙◌, ap, subst, arith, List, [], ◌∷◌, ◌++◌, length, take, Ok, Err}, lemmas.List.take_more}
 use Rattle.certificate_law.specs.Names.{Asks, behind}
 use Rattle.certificate_walk.proofs.Names.{behind_end, behind_more, behind_stop}
-use Rattle.block_check.specs.Blocks.{IsFacetWalk}
-use Rattle.block_check.proofs.FacetLemmas.{facet_line, facet_more, facet_stops, walked_passed}
+use Rattle.block_check.{specs.Blocks.IsFacetWalk, proofs.FacetLemmas.{facet_line, facet_more, facet_stops, walked_passed}}
 use Rattle.block_check.proofs.facets.facets.Goals as goal
 
 pub returns-in_err-complex-clause-walk : goal.returns-in_err-complex-clause-walk

@@ -1,8 +1,7 @@
 use Rattle.std.proofs.Common.{◌+◌, refl, [], ◌∷◌}
 use Rattle.certificate_law.specs.Names.{Asks, complex_named, map_opens}
 use Rattle.certificate_walk.proofs.Names.{walk_both}
-use Rattle.block_check.specs.Blocks.{under_map}
-use Rattle.block_check.proofs.BlockLemmas.{new_of, same_facets}
+use Rattle.block_check.{specs.Blocks.under_map, proofs.BlockLemmas.{new_of, same_facets}}
 use Rattle.block_check.proofs.maps.map.Goals as goal
 
 pub returns-clause-walk : goal.returns-clause-walk

@@ -1,7 +1,6 @@
 use Rattle.std.proofs.Common.{[]}
 use Rattle.certificate_law.specs.Names.{Asks, behind, map_stated}
-use Rattle.certificate_walk.specs.Names.{map_lines}
-use Rattle.certificate_walk.proofs.Names.{rest_less, behind_end, behind_more, behind_stop, walk_passed}
+use Rattle.certificate_walk.{specs.Names.map_lines, proofs.Names.{rest_less, behind_end, behind_more, behind_stop, walk_passed}}
 use Rattle.block_check.proofs.maps.maps.Goals as goal
 
 pub returns-in_err-at : goal.returns-in_err-at

@@ -1,8 +1,7 @@
 use Rattle.std.proofs.Common.{◌+◌, ◌∙◌, sym, subst, arith}
 use Rattle.certificate_law.specs.Names.{Asks}
 use Rattle.certificate_walk.specs.Names.{FailsBehind}
-use Rattle.block_check.specs.Blocks.{under_map}
-use Rattle.block_check.proofs.SendLemmas.{same_fault, under_fails, under_free}
+use Rattle.block_check.{specs.Blocks.under_map, proofs.SendLemmas.{same_fault, under_fails, under_free}}
 use Rattle.block_check.proofs.maps.sends.Goals as goal
 
 pub returns-in-None-clause-walk : goal.returns-in-None-clause-walk

@@ -1,5 +1,4 @@
-use Rattle.std.proofs.Common.{◌∙◌, sym, ap}
-use Rattle.std.specs.Str.{bytes_eq}
+use Rattle.std.{proofs.Common.{◌∙◌, sym, ap}, specs.Str.bytes_eq}
 use Rattle.block_check.proofs.NameLemmas.{found_block, not_there, not_yet}
 use Rattle.block_check.proofs.names.block_named.Goals as goal
 

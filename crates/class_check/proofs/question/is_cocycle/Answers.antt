@@ -1,8 +1,7 @@
 use Rattle.std.proofs.Common.{arith, subst, Some, refl, ◌+◌}
 use Rattle.sparse_rows.specs.Rows.{IsRow}
 use Rattle.fp_field.proofs.ServedLemmas.{served_large}
-use Rattle.listed_rows.specs.ListedChains.{IsRowIn}
-use Rattle.listed_rows.proofs.ValueLemmas.{coboundary_row, row_on}
+use Rattle.listed_rows.{specs.ListedChains.IsRowIn, proofs.ValueLemmas.{coboundary_row, row_on}}
 use Rattle.class_check.proofs.LeadLemmas.{closed_past, cocycle_told}
 use Rattle.class_check.proofs.question.is_cocycle.Goals as goal
 

@@ -1,8 +1,6 @@
-use Rattle.std.proofs.Common.{◌≡◌, ◌<◌, arith, ◌∙◌, true, false, not, inr, refl, sym, ap, subst, length, get_or, MatchOption, slice_set}
-use Rattle.std.proofs.lemmas.List.{get_or_default}
+use Rattle.std.proofs.{Common.{◌≡◌, ◌<◌, arith, ◌∙◌, true, false, not, inr, refl, sym, ap, subst, length, get_or, MatchOption, slice_set}, lemmas.List.get_or_default}
 use Rattle.sparse_rows.specs.Rows.{IsBelow, IsRow}
-use Rattle.class_check.specs.Questions.{IsLeadTaken}
-use Rattle.class_check.proofs.LeadLemmas.{first_inside}
+use Rattle.class_check.{specs.Questions.IsLeadTaken, proofs.LeadLemmas.first_inside}
 use Rattle.class_check.proofs.question.is_new.Goals as goal
 
 pub index-requires : goal.index-requires

@@ -1,9 +1,7 @@
 use Rattle.std.proofs.Common.{[], ◌∷◌, sym, subst}
 use Rattle.fp_field.proofs.ServedLemmas.{served_large}
 use Rattle.complex_index.specs.Names.{level}
-use Rattle.class_check.specs.declared.question.Question.{Question}
-use Rattle.class_check.specs.Questions.{AreLeads, AreReady, IsAnswerOf, others_of, stands_in}
-use Rattle.class_check.proofs.LeadLemmas.{below_answer, class_answer}
+use Rattle.class_check.{specs.declared.question.Question.Question, specs.Questions.{AreLeads, AreReady, IsAnswerOf, others_of, stands_in}, proofs.LeadLemmas.{below_answer, class_answer}}
 use Rattle.class_check.proofs.question.passes.Goals as goal
 
 pub returns-in_ok-coboundary_of-in-Below-clause-told : goal.returns-in_ok-coboundary_of-in-Below-clause-told

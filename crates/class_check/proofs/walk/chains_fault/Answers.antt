@@ -3,8 +3,7 @@ use Rattle.simplicial_law.specs.Names.{Chain}
 use Rattle.complex_index.specs.Names.{level}
 use Rattle.certificate_law.specs.Names.{Asks}
 use Rattle.certificate_walk.proofs.Names.{walk_passed}
-use Rattle.class_check.specs.Questions.{chain_lines, condition_of}
-use Rattle.class_check.proofs.WalkLemmas.{passed_on, ready_here, walk_ends, walk_goes_on, walk_stops_here}
+use Rattle.class_check.{specs.Questions.{chain_lines, condition_of}, proofs.WalkLemmas.{passed_on, ready_here, walk_ends, walk_goes_on, walk_stops_here}}
 use Rattle.class_check.proofs.walk.chains_fault.Goals as goal
 
 pub returns-in_err-at-clause-walk : goal.returns-in_err-at-clause-walk

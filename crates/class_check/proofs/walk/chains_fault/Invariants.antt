@@ -1,8 +1,7 @@
 use Rattle.std.proofs.Common.{◌≡◌, ◌+◌, [], length}
 use Rattle.complex_index.specs.Names.{IsIndexOf, level}
 use Rattle.report.specs.declared.complex.ComplexPart.{ComplexPart}
-use Rattle.class_check.specs.Questions.{AreLeads, AreReady, chain_lines, others_of}
-use Rattle.class_check.proofs.WalkLemmas.{IsWalkedTo}
+use Rattle.class_check.{specs.Questions.{AreLeads, AreReady, chain_lines, others_of}, proofs.WalkLemmas.IsWalkedTo}
 use Rattle.class_check.proofs.walk.chains_fault.Given as goal
 
 abbrev pub invariant-loop-chain : goal.invariant-loop-chain

@@ -1,12 +1,8 @@
 use Rattle.std.proofs.Common.{◌+◌, ap, sym, subst, Ok}
 use Rattle.complex_index.specs.Names.{level}
 use Rattle.certificate_law.specs.Names.{Asks, degree_stated}
-use Rattle.certificate_walk.specs.Names.{IsWalk}
-use Rattle.certificate_walk.proofs.Names.{walk_passed}
-use Rattle.class_check.specs.declared.question.Question.{Question}
-use Rattle.class_check.specs.Questions.{AreReady, condition_of}
-use Rattle.class_check.proofs.LeadLemmas.{no_leads}
-use Rattle.class_check.proofs.WalkLemmas.{belows_end, belows_stop, classes_end, classes_ready, classes_stop, cocycles_end, degree_formed, marks_first}
+use Rattle.certificate_walk.{specs.Names.IsWalk, proofs.Names.walk_passed}
+use Rattle.class_check.{specs.declared.question.Question.Question, specs.Questions.{AreReady, condition_of}, proofs.LeadLemmas.no_leads, proofs.WalkLemmas.{belows_end, belows_stop, classes_end, classes_ready, classes_stop, cocycles_end, degree_formed, marks_first}}
 use Rattle.class_check.proofs.walk.degree_fault.Goals as goal
 
 pub chains_fault-requires-clause-listed : goal.chains_fault-requires-clause-listed

@@ -1,10 +1,7 @@
-use Rattle.std.proofs.Common.{arith, ap}
-use Rattle.std.proofs.lemmas.List.Sums.{sum_by-drop_more}
+use Rattle.std.proofs.{Common.{arith, ap}, lemmas.List.Sums.sum_by-drop_more}
 use Rattle.certificate_law.specs.Names.{Asks, degree_stated, numbered}
-use Rattle.certificate_walk.specs.Names.{degree_lines}
-use Rattle.certificate_walk.proofs.Names.{numbered_end, numbered_more, numbered_stop, walk_passed}
-use Rattle.class_check.specs.Questions.{condition_of}
-use Rattle.class_check.proofs.WalkLemmas.{degree_formed, below_is, formed_at, ready_at}
+use Rattle.certificate_walk.{specs.Names.degree_lines, proofs.Names.{numbered_end, numbered_more, numbered_stop, walk_passed}}
+use Rattle.class_check.{specs.Questions.condition_of, proofs.WalkLemmas.{degree_formed, below_is, formed_at, ready_at}}
 use Rattle.class_check.proofs.walk.degrees_fault.Goals as goal
 
 pub overflow_cast-n : goal.overflow_cast-n

@@ -2,8 +2,7 @@ use Rattle.std.proofs.Common.{◌≡◌, ◌+◌, drop, sum_by}
 use Rattle.complex_index.specs.Names.{IsIndexOf}
 use Rattle.report.specs.declared.complex.ComplexPart.{ComplexPart}
 use Rattle.certificate_law.specs.Names.{Asks, degree_stated, numbered}
-use Rattle.certificate_walk.specs.Names.{degree_lines}
-use Rattle.certificate_walk.proofs.Names.{Leads}
+use Rattle.certificate_walk.{specs.Names.degree_lines, proofs.Names.Leads}
 use Rattle.class_check.specs.Questions.{AreReady, condition_of}
 use Rattle.class_check.proofs.walk.degrees_fault.Given as goal
 

@@ -1,8 +1,6 @@
 use Rattle.std.proofs.Common.{◌↔◌, ◌==◌, IsTrue, sym, subst}
 use Rattle.certificate_law.specs.Names.{Asks, complex_ends}
-use Rattle.class_check.specs.declared.question.Question.{Question}
-use Rattle.class_check.specs.Questions.{condition_of}
-use Rattle.class_check.proofs.WalkLemmas.{ends_told}
+use Rattle.class_check.{specs.declared.question.Question.Question, specs.Questions.condition_of, proofs.WalkLemmas.ends_told}
 use Rattle.class_check.proofs.walk.is_ended.Goals as goal
 
 pub returns-in-Below : goal.returns-in-Below

@@ -1,10 +1,8 @@
 use Rattle.std.proofs.Common.{◌≡◌, ◌+◌, ◌*◌, ◌∙◌, List, ap, ap₂, sym, subst, length, sum_by, Ok, Err}
 use Rattle.report.specs.declared.complex.DegreePart.{DegreePart}
 use Rattle.certificate_law.specs.Names.{Asks, complex_stated, degree_stated, numbered}
-use Rattle.certificate_walk.specs.Names.{operation_lines, product_lines, IsWalk}
-use Rattle.certificate_walk.proofs.Names.{walk_passed}
-use Rattle.class_check.specs.Questions.{AreReady, condition_of}
-use Rattle.class_check.proofs.WalkLemmas.{part_ends, part_formed, part_stops}
+use Rattle.certificate_walk.{specs.Names.{operation_lines, product_lines, IsWalk}, proofs.Names.walk_passed}
+use Rattle.class_check.{specs.Questions.{AreReady, condition_of}, proofs.WalkLemmas.{part_ends, part_formed, part_stops}}
 use Rattle.class_check.proofs.walk.part_fault.Goals as goal
 
 pub returns-in_err-at : goal.returns-in_err-at

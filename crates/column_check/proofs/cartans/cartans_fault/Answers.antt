@@ -1,8 +1,7 @@
 use Rattle.std.proofs.Common.{◌^◌, lit<, refl}
 use Rattle.certificate_law.specs.Names.{Asks, cartan_stated, numbered}
 use Rattle.certificate_walk.proofs.Names.{walk_passed}
-use Rattle.column_check.specs.Ready.{IsCartanReady}
-use Rattle.column_check.proofs.WalkLemmas.{loop-end, loop-item, loop-more, loop-room, loop-stop}
+use Rattle.column_check.{specs.Ready.IsCartanReady, proofs.WalkLemmas.{loop-end, loop-item, loop-more, loop-room, loop-stop}}
 use Rattle.column_check.proofs.cartans.cartans_fault.Goals as goal
 
 pub line_fault-requires : goal.line_fault-requires

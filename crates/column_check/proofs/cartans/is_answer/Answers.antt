@@ -1,11 +1,9 @@
-use Rattle.std.proofs.Common.{Bool, ℕ, IsTrue, subst, sym, ◌↔◌}
-use Rattle.std.proofs.lemmas.Result.{IfOk-weaker}
+use Rattle.std.proofs.{Common.{Bool, ℕ, IsTrue, subst, sym, ◌↔◌}, lemmas.Result.IfOk-weaker}
 use Rattle.simplicial_law.specs.Names.{Chain}
 use Rattle.may_steenrod.specs.Cochains.{cochain_in}
 use Rattle.report.specs.declared.columns.CartanAnswer.{CartanAnswer}
 use Rattle.certificate_law.specs.Names.{IsRightAnswer}
-use Rattle.column_check.specs.Listings.{IsBoundOf, PairsWithCycle}
-use Rattle.column_check.proofs.CycleLemmas.{no-tells, yes-tells}
+use Rattle.column_check.{specs.Listings.{IsBoundOf, PairsWithCycle}, proofs.CycleLemmas.{no-tells, yes-tells}}
 use Rattle.column_check.proofs.cartans.is_answer.Goals as goal
 
 pub returns-in-Yes : goal.returns-in-Yes

@@ -1,8 +1,7 @@
 use Rattle.std.proofs.Common.{◌+◌, arith, lit<, Ok, Err}
 use Rattle.certificate_law.specs.Names.{Asks, rank_in, induced_column, induced_opens, induced_stated, numbered, with_stands}
 use Rattle.certificate_walk.proofs.Names.{walk_passed}
-use Rattle.column_check.specs.Ready.{IsColumnReady}
-use Rattle.column_check.proofs.WalkLemmas.{columned, headed, item, loop-end, loop-more, loop-stop}
+use Rattle.column_check.{specs.Ready.IsColumnReady, proofs.WalkLemmas.{columned, headed, item, loop-end, loop-more, loop-stop}}
 use Rattle.column_check.proofs.induced.block_fault.Goals as goal
 
 pub column_fault-requires : goal.column_fault-requires

@@ -2,8 +2,7 @@ use Rattle.std.proofs.Common.{◌≡◌, ◌+◌, ◌*◌, drop}
 use Rattle.report.specs.declared.map.MapPart.{MapPart}
 use Rattle.certificate_law.specs.Names.{Asks, induced_column, numbered, with_stands}
 use Rattle.certificate_walk.proofs.Names.{Leads}
-use Rattle.column_check.specs.Listings.{HasImagesOf}
-use Rattle.column_check.proofs.WalkLemmas.{columned}
+use Rattle.column_check.{specs.Listings.HasImagesOf, proofs.WalkLemmas.columned}
 use Rattle.column_check.proofs.induced.block_fault.Given as goal
 
 abbrev pub invariant-loop-k : goal.invariant-loop-k

@@ -1,11 +1,8 @@
 use Rattle.std.proofs.Common.{◌≡◌, ◌^◌, ℕ, List, get_or, lit<, subst}
-use Rattle.complex_file.specs.declared.block.Sent.{Sent}
-use Rattle.complex_file.specs.Names.{image}
+use Rattle.complex_file.specs.{declared.block.Sent.Sent, Names.image}
 use Rattle.certificate_law.specs.Names.{Asks, induced_stated, numbered}
-use Rattle.certificate_walk.specs.Names.{induced_lines}
-use Rattle.certificate_walk.proofs.Names.{induced_length, walk_passed}
-use Rattle.column_check.specs.Ready.{IsInducedReady}
-use Rattle.column_check.proofs.WalkLemmas.{loop-end, loop-item, loop-more, loop-room, loop-stop}
+use Rattle.certificate_walk.{specs.Names.induced_lines, proofs.Names.{induced_length, walk_passed}}
+use Rattle.column_check.{specs.Ready.IsInducedReady, proofs.WalkLemmas.{loop-end, loop-item, loop-more, loop-room, loop-stop}}
 use Rattle.column_check.proofs.induced.blocks_fault.Goals as goal
 
 pub block_fault-requires : goal.block_fault-requires

@@ -1,9 +1,7 @@
-use Rattle.std.proofs.Common.{Bool, ℕ, IsTrue, List, get_or, refl, subst, ◌↔◌}
-use Rattle.std.proofs.lemmas.Result.{IfOk-weaker}
+use Rattle.std.proofs.{Common.{Bool, ℕ, IsTrue, List, get_or, refl, subst, ◌↔◌}, lemmas.Result.IfOk-weaker}
 use Rattle.simplicial_law.specs.Names.{Chain}
 use Rattle.may_steenrod.specs.Cochains.{cochain_in}
-use Rattle.column_check.specs.Listings.{IsColumnSum}
-use Rattle.column_check.proofs.ColumnLemmas.{pull_back-tells}
+use Rattle.column_check.{specs.Listings.IsColumnSum, proofs.ColumnLemmas.pull_back-tells}
 use Rattle.column_check.proofs.induced.is_pull_back.Goals as goal
 
 pub returns : goal.returns

@@ -1,5 +1,4 @@
-use Rattle.std.proofs.Common.{◌∙◌, ℕ, List, ap, take_all}
-use Rattle.std.proofs.lemmas.Result.{IfOk-weaker}
+use Rattle.std.proofs.{Common.{◌∙◌, ℕ, List, ap, take_all}, lemmas.Result.IfOk-weaker}
 use Rattle.complex_index.specs.Names.{image_of}
 use Rattle.column_check.proofs.MapLemmas.{image-turned, turned, turned-more}
 use Rattle.column_check.proofs.induced.map_of.Goals as goal

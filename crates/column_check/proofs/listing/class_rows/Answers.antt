@@ -1,10 +1,8 @@
-use Rattle.std.proofs.Common.{◌∙◌, ◌<◌, ◌≤◌, ℕ, List, arith, length, lit<, map, subst, sym}
-use Rattle.std.proofs.lemmas.List.{length-map}
+use Rattle.std.proofs.{Common.{◌∙◌, ◌<◌, ◌≤◌, ℕ, List, arith, length, lit<, map, subst, sym}, lemmas.List.length-map}
 use Rattle.linear_law.specs.Names.{Each}
 use Rattle.simplicial_law.specs.Names.{Chain}
 use Rattle.report.specs.declared.complex.DegreePart.{DegreePart}
-use Rattle.column_check.specs.Listings.{IsListedOn}
-use Rattle.column_check.proofs.ListingLemmas.{class-at, rows-all, rows-more}
+use Rattle.column_check.{specs.Listings.IsListedOn, proofs.ListingLemmas.{class-at, rows-all, rows-more}}
 use Rattle.column_check.proofs.listing.class_rows.Goals as goal
 
 pub degree_rows-requires : goal.degree_rows-requires

@@ -1,6 +1,5 @@
 use Rattle.std.proofs.Common.{◌∙◌, subst}
-use Rattle.column_check.specs.Listings.{IsRowOfClass}
-use Rattle.column_check.proofs.ListLemmas.{zip-next}
+use Rattle.column_check.{specs.Listings.IsRowOfClass, proofs.ListLemmas.zip-next}
 use Rattle.column_check.proofs.listing.degree_rows.Goals as goal
 
 pub loop-class-preserved : goal.loop-class-preserved

@@ -1,5 +1,4 @@
-use Rattle.std.proofs.Common.{take}
-use Rattle.std.specs.List.{AllZip}
+use Rattle.std.{proofs.Common.take, specs.List.AllZip}
 use Rattle.column_check.specs.Listings.{IsRowOfClass}
 use Rattle.column_check.proofs.listing.degree_rows.Given as goal
 

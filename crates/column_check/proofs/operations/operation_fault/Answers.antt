@@ -1,8 +1,7 @@
 use Rattle.std.proofs.Common.{◌^◌, ◌+◌, arith, lit<, refl, Ok, Err}
 use Rattle.certificate_law.specs.Names.{Asks, rank_in, numbered, operation_column, operation_opens, operation_stated, with_stands}
 use Rattle.certificate_walk.proofs.Names.{walk_passed}
-use Rattle.column_check.specs.Ready.{IsColumnReady}
-use Rattle.column_check.proofs.WalkLemmas.{column-size, columned, headed, inside, loop-end, loop-item, loop-more, loop-room, loop-stop}
+use Rattle.column_check.{specs.Ready.IsColumnReady, proofs.WalkLemmas.{column-size, columned, headed, inside, loop-end, loop-item, loop-more, loop-room, loop-stop}}
 use Rattle.column_check.proofs.operations.operation_fault.Goals as goal
 
 pub column_fault-requires : goal.column_fault-requires

@@ -1,9 +1,7 @@
 use Rattle.std.proofs.Common.{◌^◌, lit<}
 use Rattle.certificate_law.specs.Names.{Asks, numbered, operation_stated}
-use Rattle.certificate_walk.specs.Names.{operation_lines}
-use Rattle.certificate_walk.proofs.Names.{operation_length, walk_passed}
-use Rattle.column_check.specs.Ready.{IsOperationReady}
-use Rattle.column_check.proofs.WalkLemmas.{loop-end, loop-item, loop-more, loop-room, loop-stop}
+use Rattle.certificate_walk.{specs.Names.operation_lines, proofs.Names.{operation_length, walk_passed}}
+use Rattle.column_check.{specs.Ready.IsOperationReady, proofs.WalkLemmas.{loop-end, loop-item, loop-more, loop-room, loop-stop}}
 use Rattle.column_check.proofs.operations.operations_fault.Goals as goal
 
 pub operation_fault-requires : goal.operation_fault-requires

@@ -1,9 +1,7 @@
-use Rattle.std.proofs.Common.{◌+◌, Bool, ℕ, IsTrue, List, subst, ◌↔◌}
-use Rattle.std.proofs.lemmas.Result.{IfOk-weaker}
+use Rattle.std.proofs.{Common.{◌+◌, Bool, ℕ, IsTrue, List, subst, ◌↔◌}, lemmas.Result.IfOk-weaker}
 use Rattle.simplicial_law.specs.Names.{Chain}
 use Rattle.may_steenrod.specs.Cochains.{cochain_in}
-use Rattle.column_check.specs.Listings.{IsColumnSum}
-use Rattle.column_check.proofs.ColumnLemmas.{product-tells}
+use Rattle.column_check.{specs.Listings.IsColumnSum, proofs.ColumnLemmas.product-tells}
 use Rattle.column_check.proofs.products.is_product.Goals as goal
 
 pub returns : goal.returns

@@ -1,8 +1,7 @@
 use Rattle.std.proofs.Common.{◌^◌, ◌+◌, lit<, refl, Ok, Err}
 use Rattle.certificate_law.specs.Names.{Asks, numbered, product_column, product_opens, product_stated, with_stands}
 use Rattle.certificate_walk.proofs.Names.{walk_passed}
-use Rattle.column_check.specs.Ready.{IsPairReady}
-use Rattle.column_check.proofs.WalkLemmas.{column-size, columned, headed, loop-end, loop-item, loop-more, loop-room, loop-stop}
+use Rattle.column_check.{specs.Ready.IsPairReady, proofs.WalkLemmas.{column-size, columned, headed, loop-end, loop-item, loop-more, loop-room, loop-stop}}
 use Rattle.column_check.proofs.products.product_fault.Goals as goal
 
 pub column_fault-requires : goal.column_fault-requires

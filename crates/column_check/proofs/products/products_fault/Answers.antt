@@ -1,9 +1,7 @@
 use Rattle.std.proofs.Common.{◌^◌, lit<}
 use Rattle.certificate_law.specs.Names.{Asks, numbered, product_stated}
-use Rattle.certificate_walk.specs.Names.{product_lines}
-use Rattle.certificate_walk.proofs.Names.{product_length, walk_passed}
-use Rattle.column_check.specs.Ready.{IsProductReady}
-use Rattle.column_check.proofs.WalkLemmas.{loop-end, loop-item, loop-more, loop-room, loop-stop}
+use Rattle.certificate_walk.{specs.Names.product_lines, proofs.Names.{product_length, walk_passed}}
+use Rattle.column_check.{specs.Ready.IsProductReady, proofs.WalkLemmas.{loop-end, loop-item, loop-more, loop-room, loop-stop}}
 use Rattle.column_check.proofs.products.products_fault.Goals as goal
 
 pub product_fault-requires : goal.product_fault-requires

@@ -1,5 +1,4 @@
-use Rattle.std.proofs.Common.{ℕ, length, subst}
-use Rattle.std.proofs.lemmas.Result.{IfOk-weaker}
+use Rattle.std.proofs.{Common.{ℕ, length, subst}, lemmas.Result.IfOk-weaker}
 use Rattle.complex_index.specs.Names.{level}
 use Rattle.listed_rows.specs.ListedChains.{IsCoboundaryRowIn}
 use Rattle.column_check.proofs.ColumnLemmas.{bounded-tells}

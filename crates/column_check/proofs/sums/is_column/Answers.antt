@@ -1,8 +1,6 @@
-use Rattle.std.proofs.Common.{ℕ, length, subst}
-use Rattle.std.proofs.lemmas.Result.{IfOk-weaker}
+use Rattle.std.proofs.{Common.{ℕ, length, subst}, lemmas.Result.IfOk-weaker}
 use Rattle.complex_index.specs.Names.{level}
-use Rattle.column_check.specs.Listings.{IsSumRowIn}
-use Rattle.column_check.proofs.ColumnLemmas.{column-tells}
+use Rattle.column_check.{specs.Listings.IsSumRowIn, proofs.ColumnLemmas.column-tells}
 use Rattle.column_check.proofs.sums.is_column.Goals as goal
 
 pub returns-in-Some : goal.returns-in-Some

@@ -1,11 +1,9 @@
 use Rattle.std.proofs.Common.{◌∙◌, ℕ, List, ap, length, lit<, map, subst, sym, ◌+◌, refl}
 use Rattle.linear_law.specs.Names.{Congruent, Each, combination}
 use Rattle.sparse_rows.specs.Rows.{IsBelow, value_in}
-use Rattle.complex_index.specs.declared.indexed.Cochain.{Cochain}
-use Rattle.complex_index.specs.Names.{list_at}
+use Rattle.complex_index.specs.{declared.indexed.Cochain.Cochain, Names.list_at}
 use Rattle.listed_rows.specs.ListedChains.{IsCoboundaryRowIn}
-use Rattle.column_check.proofs.ColumnLemmas.{sum-row}
-use Rattle.column_check.proofs.ListingLemmas.{count}
+use Rattle.column_check.proofs.{ColumnLemmas.sum-row, ListingLemmas.count}
 use Rattle.column_check.proofs.sums.sum_of.Goals as goal
 
 pub add_classes-requires : goal.add_classes-requires

@@ -2,11 +2,8 @@ use Rattle.std.proofs.Common.{◌≡◌, ◌+◌, ◌<◌, ◌≤◌, ◌^◌, �
 use Rattle.linear_law.specs.Names.{Each}
 use Rattle.report.specs.declared.complex.ComplexPart.{ComplexPart}
 use Rattle.certificate_law.specs.Names.{Asks, cartan_stated, complex_stated, numbered}
-use Rattle.certificate_walk.specs.Names.{degree_lines, operation_lines, product_lines, IsWalk}
-use Rattle.certificate_walk.proofs.Names.{walk_passed}
-use Rattle.column_check.specs.Ready.{IsCartanReady}
-use Rattle.column_check.proofs.ReadyLemmas.{cartans-ready}
-use Rattle.column_check.proofs.SectionLemmas.{cartan-end, cartan-stops, cartans-room}
+use Rattle.certificate_walk.{specs.Names.{degree_lines, operation_lines, product_lines, IsWalk}, proofs.Names.walk_passed}
+use Rattle.column_check.{specs.Ready.IsCartanReady, proofs.ReadyLemmas.cartans-ready, proofs.SectionLemmas.{cartan-end, cartan-stops, cartans-room}}
 use Rattle.column_check.proofs.walks.cartan_fault.Goals as goal
 
 pub cartans_fault-requires : goal.cartans_fault-requires

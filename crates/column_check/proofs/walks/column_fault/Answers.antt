@@ -2,11 +2,8 @@ use Rattle.std.proofs.Common.{◌≡◌, ◌+◌, ◌*◌, ◌<◌, ◌≤◌, �
 use Rattle.linear_law.specs.Names.{Each}
 use Rattle.report.specs.declared.complex.ComplexPart.{ComplexPart}
 use Rattle.certificate_law.specs.Names.{Asks, complex_stated, numbered, operation_stated, product_stated}
-use Rattle.certificate_walk.specs.Names.{degree_lines, IsWalk}
-use Rattle.certificate_walk.proofs.Names.{walk_passed}
-use Rattle.column_check.specs.Ready.{IsOperationReady, IsProductReady}
-use Rattle.column_check.proofs.ReadyLemmas.{operations-ready, products-ready}
-use Rattle.column_check.proofs.SectionLemmas.{column-end, column-operations, column-products, end-room, operations-room, products-room}
+use Rattle.certificate_walk.{specs.Names.{degree_lines, IsWalk}, proofs.Names.walk_passed}
+use Rattle.column_check.{specs.Ready.{IsOperationReady, IsProductReady}, proofs.ReadyLemmas.{operations-ready, products-ready}, proofs.SectionLemmas.{column-end, column-operations, column-products, end-room, operations-room, products-room}}
 use Rattle.column_check.proofs.walks.column_fault.Goals as goal
 use Rattle.column_check.proofs.walks.column_fault.Given as given
 

@@ -2,11 +2,8 @@ use Rattle.std.proofs.Common.{◌≡◌, ◌+◌, ◌<◌, ◌^◌, ℕ, [], ap,
 use Rattle.linear_law.specs.Names.{Each}
 use Rattle.report.specs.declared.complex.ComplexPart.{ComplexPart}
 use Rattle.certificate_law.specs.Names.{Asks, induced_stated, map_between, numbered}
-use Rattle.certificate_walk.specs.Names.{IsWalk}
-use Rattle.certificate_walk.proofs.Names.{walk_passed}
-use Rattle.column_check.specs.Ready.{IsInducedReady}
-use Rattle.column_check.proofs.ReadyLemmas.{blocks-ready}
-use Rattle.column_check.proofs.SectionLemmas.{map-end, map-room, map-stops}
+use Rattle.certificate_walk.{specs.Names.IsWalk, proofs.Names.walk_passed}
+use Rattle.column_check.{specs.Ready.IsInducedReady, proofs.ReadyLemmas.blocks-ready, proofs.SectionLemmas.{map-end, map-room, map-stops}}
 use Rattle.column_check.proofs.walks.induced_fault.Goals as goal
 
 -- what holds of two complexes holds of two that are the same

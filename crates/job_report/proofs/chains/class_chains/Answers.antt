@@ -1,6 +1,5 @@
 use Rattle.std.proofs.Common.{◌∙◌, ◌≤◌, List, ap, arith, length, lit<, take_all}
-use Rattle.complex_index.specs.declared.indexed.Cochain.{Cochain}
-use Rattle.complex_index.specs.Names.{level}
+use Rattle.complex_index.specs.{declared.indexed.Cochain.Cochain, Names.level}
 use Rattle.cohomology.specs.Names.{chains_at}
 use Rattle.job_report.proofs.ClassLemmas.{chains-more, class-inside}
 use Rattle.job_report.proofs.chains.class_chains.Goals as goal

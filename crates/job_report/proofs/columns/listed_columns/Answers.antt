@@ -1,7 +1,6 @@
 use Rattle.std.proofs.Common.{◌-◌, lit<, IsTrue}
 use Rattle.cohomology.specs.declared.basis.Column.{Column}
-use Rattle.job_report.specs.Listed.{IsInside, IsListedColumn}
-use Rattle.job_report.proofs.Zips.{each-item, zip-more}
+use Rattle.job_report.{specs.Listed.{IsInside, IsListedColumn}, proofs.Zips.{each-item, zip-more}}
 use Rattle.job_report.proofs.columns.listed_columns.Goals as goal
 
 pub listed_column-requires : goal.listed_column-requires

@@ -1,11 +1,7 @@
-use Rattle.std.proofs.Common.{◌≡◌, ℕ, length, rules}
-use Rattle.std.proofs.lemmas.Slice.Zip.{zip_turn}
-use Rattle.std.specs.Iterator.Adapters.{zip_first, zip_second}
-use Rattle.std.specs.Slice.Iter.{iter_rest}
+use Rattle.std.{proofs.Common.{◌≡◌, ℕ, length, rules}, proofs.lemmas.Slice.Zip.zip_turn, specs.Iterator.Adapters.{zip_first, zip_second}, specs.Slice.Iter.iter_rest}
 use Rattle.linear_law.proofs.Names.{length_push}
 use Rattle.report_law.specs.Names.{numbers_of, unnumbered}
-use Rattle.job_report.specs.Listed.{IsListedColumn}
-use Rattle.job_report.proofs.Zips.{mapped-turn, zip-turn}
+use Rattle.job_report.{specs.Listed.IsListedColumn, proofs.Zips.{mapped-turn, zip-turn}}
 use Rattle.job_report.proofs.columns.pair_columns.Goals as goal
 
 pub loop-pair-preserved : goal.loop-pair-preserved

@@ -1,5 +1,4 @@
-use Rattle.std.proofs.Common.{◌≡◌, length, map, take}
-use Rattle.std.specs.List.{AllZip}
+use Rattle.std.{proofs.Common.{◌≡◌, length, map, take}, specs.List.AllZip}
 use Rattle.report_law.specs.Names.{numbers_of, unnumbered}
 use Rattle.job_report.specs.Listed.{IsListedColumn}
 use Rattle.job_report.proofs.columns.pair_columns.Given as goal

@@ -1,11 +1,7 @@
-use Rattle.std.proofs.Common.{◌≡◌, ◌≤◌, arith, false, get_or, length, rules, subst, sym}
-use Rattle.std.proofs.lemmas.Slice.Zip.{zip_end, zip_turn}
-use Rattle.std.specs.Iterator.Adapters.{zip_first, zip_second}
-use Rattle.std.specs.Slice.Iter.{iter_rest}
+use Rattle.std.{proofs.Common.{◌≡◌, ◌≤◌, arith, false, get_or, length, rules, subst, sym}, proofs.lemmas.Slice.Zip.{zip_end, zip_turn}, specs.Iterator.Adapters.{zip_first, zip_second}, specs.Slice.Iter.iter_rest}
 use Rattle.linear_law.proofs.Names.{length_alike, length_push}
 use Rattle.report_law.specs.Names.{IsComplexPart}
-use Rattle.job_report.specs.Jobs.{IsKnown}
-use Rattle.job_report.proofs.Zips.{all-items, zip-get, zip-turn-plain}
+use Rattle.job_report.{specs.Jobs.IsKnown, proofs.Zips.{all-items, zip-get, zip-turn-plain}}
 use Rattle.job_report.proofs.complexes.basis_parts.Goals as goal
 
 pub basis_part-requires : goal.basis_part-requires

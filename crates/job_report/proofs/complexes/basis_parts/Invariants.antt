@@ -1,5 +1,4 @@
-use Rattle.std.proofs.Common.{false, length, take}
-use Rattle.std.specs.List.{AllZip}
+use Rattle.std.{proofs.Common.{false, length, take}, specs.List.AllZip}
 use Rattle.report_law.specs.Names.{IsComplexPart}
 use Rattle.job_report.proofs.complexes.basis_parts.Given as goal
 

@@ -1,11 +1,8 @@
-use Rattle.std.proofs.Common.{◌∙◌, ℕ, List, ap, arith, length, lit<, subst, sym}
-use Rattle.std.specs.List.{AllZip}
+use Rattle.std.{proofs.Common.{◌∙◌, ℕ, List, ap, arith, length, lit<, subst, sym}, specs.List.AllZip}
 use Rattle.report.specs.declared.complex.ComplexPart.{ComplexPart}
 use Rattle.report_law.specs.Names.{blocks, lines, products}
-use Rattle.class_matrices.specs.Names.{AreMatrices}
-use Rattle.job_report.specs.Parts.{IsListedLine, IsListedOperation, IsListedProduct}
-use Rattle.class_matrices.proofs.ListLemmas.{numbers-count}
-use Rattle.job_report.proofs.PartLemmas.{classes-are, part-is, stored-for}
+use Rattle.class_matrices.{specs.Names.AreMatrices, proofs.ListLemmas.numbers-count}
+use Rattle.job_report.{specs.Parts.{IsListedLine, IsListedOperation, IsListedProduct}, proofs.PartLemmas.{classes-are, part-is, stored-for}}
 use Rattle.job_report.proofs.complexes.complex_part.Goals as goal
 
 pub of-requires : goal.of-requires

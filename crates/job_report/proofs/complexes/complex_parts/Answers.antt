@@ -1,16 +1,8 @@
-use Rattle.std.proofs.Common.{◌≡◌, ◌≤◌, ℕ, arith, get_or, length, lit<, rules, subst, sym, true}
-use Rattle.std.proofs.lemmas.Slice.Zip.{zip_end, zip_turn}
-use Rattle.std.specs.Iterator.Adapters.{zip_first, zip_second}
-use Rattle.std.specs.Slice.Iter.{iter_rest}
+use Rattle.std.{proofs.Common.{◌≡◌, ◌≤◌, ℕ, arith, get_or, length, lit<, rules, subst, sym, true}, proofs.lemmas.Slice.Zip.{zip_end, zip_turn}, specs.Iterator.Adapters.{zip_first, zip_second}, specs.Slice.Iter.iter_rest}
 use Rattle.linear_law.proofs.Names.{each_get_or, length_alike, length_push}
-use Rattle.complex_file.specs.declared.block.ComplexBlock.{ComplexBlock}
-use Rattle.report.specs.declared.complex.ComplexPart.{ComplexPart}
-use Rattle.report_law.specs.Names.{classes_of, IsComplexPart}
-use Rattle.job_report.specs.declared.known.Known.{Known}
-use Rattle.job_report.specs.Jobs.{CanBeIndexed, HasStored, IsKnown}
+use Rattle.report_law.specs.{Types.{ComplexBlock, ComplexPart}, Names.{classes_of, IsComplexPart}}
+use Rattle.job_report.{specs.declared.known.Known.Known, specs.Jobs.{CanBeIndexed, HasStored, IsKnown}, proofs.PartLemmas.all-listed, proofs.Zips.{all-items, zip-get, zip-turn-plain}}
 use Rattle.class_matrices.specs.Names.{listed_classes}
-use Rattle.job_report.proofs.PartLemmas.{all-listed}
-use Rattle.job_report.proofs.Zips.{all-items, zip-get, zip-turn-plain}
 use Rattle.job_report.proofs.complexes.complex_parts.Goals as goal
 
 pub complex_part-requires : goal.complex_part-requires

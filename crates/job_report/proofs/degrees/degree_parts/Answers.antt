@@ -1,9 +1,7 @@
-use Rattle.std.proofs.Common.{◌≡◌, ℕ, List, arith, length, subst, sym}
-use Rattle.std.specs.List.{AllZip}
+use Rattle.std.{proofs.Common.{◌≡◌, ℕ, List, arith, length, subst, sym}, specs.List.AllZip}
 use Rattle.signed_sum.specs.Names.{numbers_from}
 use Rattle.report.specs.declared.complex.DegreePart.{DegreePart}
-use Rattle.job_report.specs.Parts.{IsListedDegree}
-use Rattle.job_report.proofs.Zips.{counted-more}
+use Rattle.job_report.{specs.Parts.IsListedDegree, proofs.Zips.counted-more}
 use Rattle.job_report.proofs.degrees.degree_parts.Goals as goal
 
 pub loop-n-preserved : goal.loop-n-preserved

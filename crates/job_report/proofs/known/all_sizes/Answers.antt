@@ -1,5 +1,4 @@
-use Rattle.job_report.specs.Jobs.{IsSize}
-use Rattle.job_report.proofs.Zips.{zip-more}
+use Rattle.job_report.{specs.Jobs.IsSize, proofs.Zips.zip-more}
 use Rattle.job_report.proofs.known.all_sizes.Goals as goal
 
 pub loop-complex-preserved : goal.loop-complex-preserved

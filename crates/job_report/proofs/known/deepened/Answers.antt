@@ -1,5 +1,4 @@
-use Rattle.job_report.specs.Jobs.{IsDeeper}
-use Rattle.job_report.proofs.Zips.{zip-pushed}
+use Rattle.job_report.{specs.Jobs.IsDeeper, proofs.Zips.zip-pushed}
 use Rattle.job_report.proofs.known.deepened.Goals as goal
 
 pub loop-complex-preserved : goal.loop-complex-preserved

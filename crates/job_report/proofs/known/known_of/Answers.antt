@@ -1,6 +1,5 @@
-use Rattle.job_report.specs.Jobs.{CanBeIndexed, IsKnown}
+use Rattle.job_report.{specs.Jobs.{CanBeIndexed, IsKnown}, proofs.Zips.{each-item, zip-more}}
 use Rattle.complex_file.specs.declared.block.ComplexBlock.{ComplexBlock}
-use Rattle.job_report.proofs.Zips.{each-item, zip-more}
 use Rattle.job_report.proofs.known.known_of.Goals as goal
 
 pub of-requires : goal.of-requires

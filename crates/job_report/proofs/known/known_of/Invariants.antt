@@ -1,5 +1,4 @@
-use Rattle.std.proofs.Common.{take}
-use Rattle.std.specs.List.{AllZip}
+use Rattle.std.{proofs.Common.take, specs.List.AllZip}
 use Rattle.job_report.specs.Jobs.{IsKnown}
 use Rattle.job_report.proofs.known.known_of.Given as goal
 

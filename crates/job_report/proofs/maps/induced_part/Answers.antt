@@ -1,9 +1,7 @@
-use Rattle.std.proofs.Common.{◌-◌, ℕ, List, get_or, lit<, subst, sym, IsTrue}
-use Rattle.std.specs.List.{AllZip}
+use Rattle.std.{proofs.Common.{◌-◌, ℕ, List, get_or, lit<, subst, sym, IsTrue}, specs.List.AllZip}
 use Rattle.linear_law.specs.Names.{Each}
 use Rattle.cohomology.specs.declared.basis.Column.{Column}
-use Rattle.job_report.specs.Listed.{IsInside, IsListedColumn}
-use Rattle.job_report.proofs.TableLemmas.{induced-inside, listed-induced}
+use Rattle.job_report.{specs.Listed.{IsInside, IsListedColumn}, proofs.TableLemmas.{induced-inside, listed-induced}}
 use Rattle.job_report.proofs.maps.induced_part.Goals as goal
 
 pub listed_columns-requires : goal.listed_columns-requires

@@ -1,8 +1,7 @@
 use Rattle.std.proofs.Common.{◌∙◌, ℕ, List, ap, ap₂, arith, get_or, length}
 use Rattle.report_law.specs.Names.{induced_degrees}
-use Rattle.job_report.specs.Parts.{IsListedInduced}
+use Rattle.job_report.{specs.Parts.IsListedInduced, proofs.Zips.{all-items, zip-next}}
 use Rattle.class_matrices.proofs.ListLemmas.{numbers-count}
-use Rattle.job_report.proofs.Zips.{all-items, zip-next}
 use Rattle.job_report.proofs.maps.induced_parts.Goals as goal
 
 pub live_degrees-requires : goal.live_degrees-requires

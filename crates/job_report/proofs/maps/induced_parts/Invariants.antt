@@ -1,5 +1,4 @@
-use Rattle.std.proofs.Common.{get_or, take}
-use Rattle.std.specs.List.{AllZip}
+use Rattle.std.{proofs.Common.{get_or, take}, specs.List.AllZip}
 use Rattle.job_report.specs.Parts.{IsListedInduced}
 use Rattle.job_report.proofs.maps.induced_parts.Given as goal
 

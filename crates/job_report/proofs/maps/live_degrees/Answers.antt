@@ -1,5 +1,4 @@
-use Rattle.std.proofs.Common.{◌≡◌, ◌∙◌, ◌&&◌, ap, arith, length}
-use Rattle.std.specs.List.{filter}
+use Rattle.std.{proofs.Common.{◌≡◌, ◌∙◌, ◌&&◌, ap, arith, length}, specs.List.filter}
 use Rattle.signed_sum.specs.Names.{numbers_from}
 use Rattle.report_law.specs.Names.{has_class}
 use Rattle.job_report.proofs.Zips.{numbers-filtered}

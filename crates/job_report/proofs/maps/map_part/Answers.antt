@@ -1,15 +1,10 @@
 use Rattle.std.proofs.Common.{◌∙◌, ℕ, List, ap, arith, get_or, subst, sym}
 use Rattle.linear_law.proofs.Names.{length_alike}
 use Rattle.simplicial_law.proofs.Names.{get_or_any}
-use Rattle.complex_file.specs.declared.block.ComplexBlock.{ComplexBlock}
-use Rattle.complex_file.specs.declared.block.Sent.{Sent}
+use Rattle.report_law.specs.{Types.{ComplexBlock, Sent}, Names.AreOrderedSends}
 use Rattle.complex_file.specs.Names.{facets_at, image}
-use Rattle.report_law.specs.Names.{AreOrderedSends}
-use Rattle.job_report.specs.Jobs.{IsKnown}
-use Rattle.ordered_sends.specs.Sends.{IsOnce}
-use Rattle.job_report.proofs.JobLemmas.{map-in}
-use Rattle.job_report.proofs.MapLemmas.{known-at, map-is}
-use Rattle.ordered_sends.proofs.SendLemmas.{once}
+use Rattle.job_report.{specs.Jobs.IsKnown, proofs.JobLemmas.map-in, proofs.MapLemmas.{known-at, map-is}}
+use Rattle.ordered_sends.{specs.Sends.IsOnce, proofs.SendLemmas.once}
 use Rattle.job_report.proofs.maps.map_part.Goals as goal
 
 pub map_of-requires : goal.map_of-requires

@@ -1,7 +1,6 @@
 use Rattle.std.proofs.Common.{[]}
 use Rattle.report_law.specs.Names.{IsMapPart}
-use Rattle.job_report.specs.Jobs.{IsFreeMap}
-use Rattle.job_report.proofs.Zips.{each-item, zip-more}
+use Rattle.job_report.{specs.Jobs.IsFreeMap, proofs.Zips.{each-item, zip-more}}
 use Rattle.job_report.proofs.maps.map_parts.Goals as goal
 
 pub map_part-requires : goal.map_part-requires

@@ -1,5 +1,4 @@
-use Rattle.std.proofs.Common.{List, [], take}
-use Rattle.std.specs.List.{AllZip}
+use Rattle.std.{proofs.Common.{List, [], take}, specs.List.AllZip}
 use Rattle.report_law.specs.Names.{Classes, IsMapPart}
 use Rattle.job_report.specs.Jobs.{AreAllListed}
 use Rattle.job_report.proofs.maps.map_parts.Given as goal

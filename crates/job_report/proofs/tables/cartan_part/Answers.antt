@@ -1,10 +1,9 @@
 use Rattle.std.proofs.Common.{◌≡◌, ◌∙◌, ◌+◌, ℕ, ap, lit<, subst, sym}
 use Rattle.report_law.specs.Names.{line_degree, cartan_op, target}
 use Rattle.cartan_check.specs.Verdicts.{listed_answer}
-use Rattle.job_report.specs.Parts.{IsInsideVerdict, IsSameAnswer}
+use Rattle.job_report.{specs.Parts.{IsInsideVerdict, IsSameAnswer}, proofs.TableLemmas.{listed-line, verdict-fits}}
 use Rattle.class_matrices.proofs.CoordinateLemmas.{target-is}
 use Rattle.report.specs.declared.plan.Op.{Op}
-use Rattle.job_report.proofs.TableLemmas.{listed-line, verdict-fits}
 use Rattle.job_report.proofs.tables.cartan_part.Goals as goal
 
 pub answer_of-requires : goal.answer_of-requires

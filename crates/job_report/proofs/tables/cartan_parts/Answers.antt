@@ -1,11 +1,8 @@
 use Rattle.std.proofs.Common.{◌∙◌, ◌≤◌, ℕ, List, get_or, lit<, subst}
-use Rattle.report_law.specs.Names.{lines}
-use Rattle.job_report.specs.Parts.{IsListedLine}
+use Rattle.report_law.{specs.Names.lines, proofs.Names.of-lines}
+use Rattle.job_report.{specs.Parts.IsListedLine, proofs.Zips.{all-items, zip-next}}
 use Rattle.line_difference.proofs.PlanLemmas.{line-classes, line-low, line-stored}
-use Rattle.report_law.proofs.Names.{of-lines}
-use Rattle.class_matrices.proofs.ClassLemmas.{rank-at}
-use Rattle.class_matrices.proofs.ListLemmas.{item-among}
-use Rattle.job_report.proofs.Zips.{all-items, zip-next}
+use Rattle.class_matrices.proofs.{ClassLemmas.rank-at, ListLemmas.item-among}
 use Rattle.job_report.proofs.tables.cartan_parts.Goals as goal
 
 pub cartan_part-requires : goal.cartan_part-requires

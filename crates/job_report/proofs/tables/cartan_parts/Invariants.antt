@@ -1,5 +1,4 @@
-use Rattle.std.proofs.Common.{take}
-use Rattle.std.specs.List.{AllZip}
+use Rattle.std.{proofs.Common.take, specs.List.AllZip}
 use Rattle.job_report.specs.Parts.{IsListedLine}
 use Rattle.job_report.proofs.tables.cartan_parts.Given as goal
 

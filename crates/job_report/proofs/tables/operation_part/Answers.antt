@@ -1,9 +1,7 @@
-use Rattle.std.proofs.Common.{ℕ, List, lit<, subst, sym}
-use Rattle.std.specs.List.{AllZip}
+use Rattle.std.{proofs.Common.{ℕ, List, lit<, subst, sym}, specs.List.AllZip}
 use Rattle.linear_law.specs.Names.{Each}
 use Rattle.cohomology.specs.declared.basis.Column.{Column}
-use Rattle.job_report.specs.Listed.{IsListedColumn}
-use Rattle.job_report.proofs.TableLemmas.{inside, listed-operation, operations-inside}
+use Rattle.job_report.{specs.Listed.IsListedColumn, proofs.TableLemmas.{inside, listed-operation, operations-inside}}
 use Rattle.job_report.proofs.tables.operation_part.Goals as goal
 
 pub listed_columns-requires : goal.listed_columns-requires

@@ -1,10 +1,8 @@
 use Rattle.std.proofs.Common.{◌∙◌, ℕ, List, ap, lit<, map, subst, sym}
 use Rattle.linear_law.specs.Names.{Each}
-use Rattle.class_matrices.specs.declared.matrices.OperationMatrix.{OperationMatrix}
-use Rattle.class_matrices.specs.Names.{class_counts, IsOperationOf}
+use Rattle.class_matrices.specs.{declared.matrices.OperationMatrix.OperationMatrix, Names.{class_counts, IsOperationOf}}
 use Rattle.report_law.specs.Names.{blocks}
-use Rattle.job_report.specs.Parts.{IsListedOperation}
-use Rattle.job_report.proofs.Zips.{all-headings, each-item, heading-more}
+use Rattle.job_report.{specs.Parts.IsListedOperation, proofs.Zips.{all-headings, each-item, heading-more}}
 use Rattle.job_report.proofs.tables.operation_parts.Goals as goal
 
 pub operation_part-requires : goal.operation_part-requires

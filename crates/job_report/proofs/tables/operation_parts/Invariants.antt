@@ -1,5 +1,4 @@
-use Rattle.std.proofs.Common.{map, take}
-use Rattle.std.specs.List.{AllZip}
+use Rattle.std.{proofs.Common.{map, take}, specs.List.AllZip}
 use Rattle.job_report.specs.Parts.{IsListedOperation}
 use Rattle.job_report.proofs.tables.operation_parts.Given as goal
 

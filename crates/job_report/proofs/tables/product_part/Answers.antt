@@ -1,10 +1,8 @@
-use Rattle.std.proofs.Common.{◌∙◌, ◌+◌, ℕ, List, ap, ap₂, length, lit<, map, subst, sym}
-use Rattle.std.specs.List.{AllZip}
+use Rattle.std.{proofs.Common.{◌∙◌, ◌+◌, ℕ, List, ap, ap₂, length, lit<, map, subst, sym}, specs.List.AllZip}
 use Rattle.linear_law.specs.Names.{Each}
-use Rattle.job_report.specs.Listed.{IsListedColumn}
+use Rattle.job_report.{specs.Listed.IsListedColumn, proofs.TableLemmas.{inside, listed-product, products-inside, same-count}}
 use Rattle.cohomology.specs.declared.basis.Column.{Column}
 use Rattle.report_law.specs.Names.{number_pairs, unnumbered}
-use Rattle.job_report.proofs.TableLemmas.{inside, listed-product, products-inside, same-count}
 use Rattle.job_report.proofs.tables.product_part.Goals as goal
 
 pub pair_columns-requires : goal.pair_columns-requires

@@ -1,12 +1,8 @@
 use Rattle.std.proofs.Common.{◌∙◌, ℕ, List, ap, lit<, map, subst, sym}
 use Rattle.linear_law.specs.Names.{Among, Each}
-use Rattle.class_matrices.specs.declared.matrices.ProductMatrix.{ProductMatrix}
-use Rattle.class_matrices.specs.Names.{IsProductOf, class_counts}
-use Rattle.class_matrices.proofs.ListLemmas.{item-among}
+use Rattle.class_matrices.{specs.declared.matrices.ProductMatrix.ProductMatrix, specs.Names.{IsProductOf, class_counts}, proofs.ListLemmas.item-among}
 use Rattle.report_law.specs.Names.{products}
-use Rattle.job_report.specs.Parts.{IsListedProduct}
-use Rattle.job_report.proofs.TableLemmas.{product-sum}
-use Rattle.job_report.proofs.Zips.{all-headings, each-item, heading-more}
+use Rattle.job_report.{specs.Parts.IsListedProduct, proofs.TableLemmas.product-sum, proofs.Zips.{all-headings, each-item, heading-more}}
 use Rattle.job_report.proofs.tables.product_parts.Goals as goal
 
 pub product_part-requires : goal.product_part-requires

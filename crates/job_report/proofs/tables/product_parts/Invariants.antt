@@ -1,5 +1,4 @@
-use Rattle.std.proofs.Common.{map, take}
-use Rattle.std.specs.List.{AllZip}
+use Rattle.std.{proofs.Common.{map, take}, specs.List.AllZip}
 use Rattle.job_report.specs.Parts.{IsListedProduct}
 use Rattle.job_report.proofs.tables.product_parts.Given as goal
 

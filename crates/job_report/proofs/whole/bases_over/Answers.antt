@@ -1,15 +1,9 @@
-use Rattle.std.proofs.Common.{ℕ, List, false, subst, sym}
-use Rattle.std.specs.List.{AllZip}
+use Rattle.std.{proofs.Common.{ℕ, List, false, subst, sym}, specs.List.AllZip}
 use Rattle.linear_law.specs.Names.{Each}
-use Rattle.complex_file.specs.declared.block.ComplexBlock.{ComplexBlock}
+use Rattle.report_law.specs.{Types.{ComplexBlock, MapPart}, Names.{IsComplexPart, IsReportOf}}
 use Rattle.complex_file.specs.Names.{content}
 use Rattle.report.specs.declared.form.Form.TheVariants.{Basis}
-use Rattle.report.specs.declared.map.MapPart.{MapPart}
-use Rattle.report_law.specs.Names.{IsComplexPart, IsReportOf}
-use Rattle.job_report.specs.declared.known.Known.{Known}
-use Rattle.job_report.specs.Jobs.{CanBeIndexed, IsKnown}
-use Rattle.job_report.proofs.JobLemmas.{is-served, job-fits}
-use Rattle.job_report.proofs.PartLemmas.{bases-report}
+use Rattle.job_report.{specs.declared.known.Known.Known, specs.Jobs.{CanBeIndexed, IsKnown}, proofs.JobLemmas.{is-served, job-fits}, proofs.PartLemmas.bases-report}
 use Rattle.job_report.proofs.whole.bases_over.Goals as goal
 
 pub known_of-requires : goal.known_of-requires

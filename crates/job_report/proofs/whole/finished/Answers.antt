@@ -1,10 +1,6 @@
-use Rattle.std.proofs.Common.{List, lit<, subst, sym}
-use Rattle.std.specs.List.{AllZip}
+use Rattle.std.{proofs.Common.{List, lit<, subst, sym}, specs.List.AllZip}
 use Rattle.cohomology.specs.Names.{AreClassesOf, IsCohomologyOf}
-use Rattle.job_report.specs.declared.known.Known.{Known}
-use Rattle.job_report.specs.Jobs.{IsKnown}
-use Rattle.job_report.proofs.JobLemmas.{is-served}
-use Rattle.job_report.proofs.PartLemmas.{deeper-known}
+use Rattle.job_report.{specs.declared.known.Known.Known, specs.Jobs.IsKnown, proofs.JobLemmas.is-served, proofs.PartLemmas.deeper-known}
 use Rattle.job_report.proofs.whole.finished.Goals as goal
 
 pub deepened-requires : goal.deepened-requires

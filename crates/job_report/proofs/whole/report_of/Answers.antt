@@ -1,13 +1,8 @@
-use Rattle.std.proofs.Common.{ℕ, List, [], lit<, map, subst, sym, true}
-use Rattle.std.specs.List.{AllZip}
+use Rattle.std.{proofs.Common.{ℕ, List, [], lit<, map, subst, sym, true}, specs.List.AllZip}
 use Rattle.linear_law.specs.Names.{Each, IsAscending}
-use Rattle.complex_file.specs.declared.block.ComplexBlock.{ComplexBlock}
-use Rattle.complex_file.specs.declared.block.MapBlock.{MapBlock}
+use Rattle.report_law.specs.{Types.{ComplexBlock, MapBlock}, Names.{classes_of, IsComplexPart, IsMapPart}}
 use Rattle.complex_file.specs.Names.{content}
-use Rattle.report_law.specs.Names.{classes_of, IsComplexPart, IsMapPart}
-use Rattle.job_report.specs.Jobs.{CanBeIndexed, HasStored, IsFreeMap, IsKnown}
-use Rattle.job_report.proofs.JobLemmas.{ascending-facets, free-maps, is-served, job-fits}
-use Rattle.job_report.proofs.PartLemmas.{whole-report}
+use Rattle.job_report.{specs.Jobs.{CanBeIndexed, HasStored, IsFreeMap, IsKnown}, proofs.JobLemmas.{ascending-facets, free-maps, is-served, job-fits}, proofs.PartLemmas.whole-report}
 use Rattle.job_report.proofs.whole.report_of.Goals as goal
 
 pub complex_parts-requires : goal.complex_parts-requires

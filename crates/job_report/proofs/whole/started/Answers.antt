@@ -1,15 +1,9 @@
-use Rattle.std.proofs.Common.{◌≡◌, ℕ, List, lit<, subst, sym, None, Some}
-use Rattle.std.specs.List.{AllZip}
+use Rattle.std.{proofs.Common.{◌≡◌, ℕ, List, lit<, subst, sym, None, Some}, specs.List.AllZip}
 use Rattle.linear_law.specs.Names.{Each}
-use Rattle.complex_file.specs.declared.block.ComplexBlock.{ComplexBlock}
-use Rattle.report.specs.declared.plan.Sizes.{Sizes}
-use Rattle.report_law.specs.Names.{AreSizes, passing_sum}
+use Rattle.report_law.specs.{Types.{ComplexBlock, Sizes}, Names.{AreSizes, passing_sum}}
 use Rattle.term_total.specs.Names.{IsPart}
-use Rattle.job_report.specs.declared.known.Known.{Known}
-use Rattle.job_report.specs.Jobs.{CanBeIndexed, IsKnown, IsSize}
+use Rattle.job_report.{specs.declared.known.Known.Known, specs.Jobs.{CanBeIndexed, IsKnown, IsSize}, proofs.JobLemmas.{ascending-facets, is-served, job-fits, same-error}, proofs.PartLemmas.{all-parts, all-stored, known-sizes}}
 use Rattle.line_difference.specs.Elements.{AreStored}
-use Rattle.job_report.proofs.JobLemmas.{ascending-facets, is-served, job-fits, same-error}
-use Rattle.job_report.proofs.PartLemmas.{all-parts, all-stored, known-sizes}
 use Rattle.job_report.proofs.whole.started.Goals as goal
 
 pub known_of-requires : goal.known_of-requires

@@ -1,10 +1,7 @@
 use Rattle.std.proofs.Common.{◌≡◌, ◌<◌, ◌-◌, ℕ, List, [], ap, arith, get_or, length, subst}
-use Rattle.complex_index.specs.declared.indexed.Cochain.{Cochain}
-use Rattle.complex_index.specs.Names.{list_at}
+use Rattle.complex_index.specs.{declared.indexed.Cochain.Cochain, Names.list_at}
 use Rattle.report_law.specs.Names.{classes_in, classes_of}
-use Rattle.column_check.specs.Listings.{IsRowOfClass}
-use Rattle.column_check.proofs.ListLemmas.{zip-at}
-use Rattle.column_check.proofs.ListingLemmas.{count}
+use Rattle.column_check.{specs.Listings.IsRowOfClass, proofs.ListLemmas.zip-at, proofs.ListingLemmas.count}
 use Rattle.column_check.proofs.listing.Listing.class.Goals as goal
 
 pub bounds-classes-i : goal.bounds-classes-i

@@ -1,6 +1,5 @@
 use Rattle.std.proofs.Common.{◌∙◌}
-use Rattle.column_check.proofs.ListLemmas.{list_at-here}
-use Rattle.column_check.proofs.ListingLemmas.{inside}
+use Rattle.column_check.proofs.{ListLemmas.list_at-here, ListingLemmas.inside}
 use Rattle.column_check.proofs.listing.Listing.classes.Goals as goal
 
 pub returns : goal.returns

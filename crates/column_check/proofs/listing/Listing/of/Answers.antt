@@ -1,8 +1,7 @@
 use Rattle.std.proofs.Common.{◌≡◌, ℕ, List, [], get_or, length, lit<, map, subst, sym}
 use Rattle.linear_law.specs.Names.{Each}
 use Rattle.report.specs.declared.complex.DegreePart.{DegreePart}
-use Rattle.column_check.specs.Listings.{IsListedOn}
-use Rattle.column_check.proofs.ReadyLemmas.{all-degrees, listed-classes}
+use Rattle.column_check.{specs.Listings.IsListedOn, proofs.ReadyLemmas.{all-degrees, listed-classes}}
 use Rattle.column_check.proofs.listing.Listing.of.Goals as goal
 
 pub class_rows-requires : goal.class_rows-requires

@@ -2,8 +2,7 @@ use Rattle.std.proofs.Common.{◌∙◌, ◌-◌, ◌≤◌, ◌<◌, ℕ, ap, a
 use Rattle.simplicial_law.specs.Names.{terms_of}
 use Rattle.sparse_rows.specs.Rows.{IsBelow}
 use Rattle.complex_index.specs.Names.{level}
-use Rattle.cohomology.specs.declared.data.Coboundary.{Coboundary}
-use Rattle.cohomology.specs.Names.{coboundaries_in}
+use Rattle.cohomology.specs.{declared.data.Coboundary.Coboundary, Names.coboundaries_in}
 use Rattle.report_law.specs.Names.{ArePrimitives}
 use Rattle.job_report.proofs.ColumnLemmas.{primitive-placed, primitives-are, primitives-more}
 use Rattle.job_report.proofs.depth.CohomologyDepth.primitives.Goals as goal
