@@ -1,24 +1,13 @@
 -- From the columns of the Bockstein to its matrix.
-use Rattle.std.proofs.Common.{◌≡◌, ℕ, ◌+◌, ◌*◌, ◌-◌, ◌<◌, Bool, List, [], ◌∷◌, ◌++◌, length, get_or, take, sym, ap, subst, ◌∙◌, arith, IsTrue, slice_get, Some}
-use Rattle.std.specs.List.{AllZip}
-use Rattle.std.proofs.lemmas.List.{length-map, take_more}
-use Rattle.std.proofs.lemmas.Option.{get_or_from_slice_get, slice_get-get_or, slice_get_within}
-use Rattle.fp_field.specs.Served.{served}
-use Rattle.fp_field.proofs.ServedLemmas.{served_field}
-use Rattle.linear_law.specs.Names.{IsField, Each, matrix_times}
-use Rattle.linear_law.proofs.Names.{each_get_or, each_unmap, zip_push, Congruent_of, Congruent_sym, coordinates-alike}
-use Rattle.simplicial_law.specs.Names.{cochain_of, AgreesOnSimplices, Chain, Cochain as SimplexCochain, HasCoordinates, IsCocycle, IsCohomologyBasis, terms_of}
-use Rattle.simplicial_law.proofs.Names.{coboundaries, cocycles, agree_by_place, value_by_place}
-use Rattle.bockstein_law.specs.Bockstein.{bockstein}
-use Rattle.bockstein_law.proofs.Lifts.{closed, matrix}
-use Rattle.bockstein_law.proofs.Powers.{power_law}
+use Rattle.std.{proofs.Common.{◌≡◌, ℕ, ◌+◌, ◌*◌, ◌-◌, ◌<◌, Bool, List, [], ◌∷◌, ◌++◌, length, get_or, take, sym, ap, subst, ◌∙◌, arith, IsTrue, slice_get, Some}, specs.List.AllZip, proofs.lemmas.List.{length-map, take_more}, proofs.lemmas.Option.{get_or_from_slice_get, slice_get-get_or, slice_get_within}}
+use Rattle.fp_field.{specs.Served.served, proofs.ServedLemmas.served_field}
+use Rattle.linear_law.{specs.Names.{IsField, Each, matrix_times}, proofs.Names.{each_get_or, each_unmap, zip_push, Congruent_of, Congruent_sym, coordinates-alike}}
+use Rattle.simplicial_law.{specs.Names.{cochain_of, AgreesOnSimplices, Chain, Cochain as SimplexCochain, HasCoordinates, IsCocycle, IsCohomologyBasis, terms_of}, proofs.Names.{coboundaries, cocycles, agree_by_place, value_by_place}}
+use Rattle.bockstein_law.{specs.Bockstein.bockstein, proofs.Lifts.{closed, matrix}, proofs.Powers.power_law}
 use Rattle.sparse_rows.specs.Rows.{IsBelow}
-use Rattle.complex_index.specs.Names.{IsIndexOf, level}
-use Rattle.complex_index.specs.declared.indexed.Cochain.{Cochain}
-use Rattle.cohomology.specs.Names.{IsColumnOf, AreCanonicalIn, IsPlaced, chains_at, cochain_in, IsClosedIn, cochains_at}
-use Rattle.cohomology.specs.declared.basis.Column.{Column}
-use Rattle.bockstein.specs.Matrices.{IsBocksteinColumn, IsBocksteinMatrix, values_of}
-use Rattle.bockstein.specs.Places.{IsBocksteinAt}
+use Rattle.complex_index.specs.{Names.{IsIndexOf, level}, declared.indexed.Cochain.Cochain}
+use Rattle.cohomology.specs.{Names.{IsColumnOf, AreCanonicalIn, IsPlaced, chains_at, cochain_in, IsClosedIn, cochains_at}, declared.basis.Column.Column}
+use Rattle.bockstein.specs.{Matrices.{IsBocksteinColumn, IsBocksteinMatrix, values_of}, Places.IsBocksteinAt}
 
 each-item : {X : Type 0} (P : X → Type 0) (xs : List X) (i : ℕ) (x : X) → slice_get xs i ≡ Some x → Each P xs → P x
 each-item P xs i x e h = subst P (get_or_from_slice_get xs i x x e) (each_get_or P xs i x (slice_get_within xs i x e) h)

@@ -1,28 +1,14 @@
 -- From sums over places to the Bockstein.
-use Rattle.std.proofs.Common.{◌≡◌, ◌≢◌, ℕ, zero, suc, ◌+◌, ◌*◌, ◌-◌, ◌/◌, ◌%◌, ◌<◌, ◌≤◌, List, [], ◌∷◌, ◌++◌, map, length, get_or, drop, arith, refl, sym, ap, ap₂, subst, ◌∙◌, inl, inr, mod-lt, mod-eq_of_lt, lit≤, ℤ, pos, negsuc, ◌+ℤ◌, ◌⊎◌, neg_ℤ, IsTrue}
-use Rattle.std.specs.Int.{int_rem_euclid}
-use Rattle.std.proofs.Math.Seq.{drop-cons}
-use Rattle.std.proofs.lemmas.Bool.{cases_lt}
-use Rattle.std.proofs.lemmas.Int.{ints}
-use Rattle.std.proofs.lemmas.List.{drop_all}
-use Rattle.std.proofs.lemmas.Simd.{map-map}
+use Rattle.std.{proofs.Common.{◌≡◌, ◌≢◌, ℕ, zero, suc, ◌+◌, ◌*◌, ◌-◌, ◌/◌, ◌%◌, ◌<◌, ◌≤◌, List, [], ◌∷◌, ◌++◌, map, length, get_or, drop, arith, refl, sym, ap, ap₂, subst, ◌∙◌, inl, inr, mod-lt, mod-eq_of_lt, lit≤, ℤ, pos, negsuc, ◌+ℤ◌, ◌⊎◌, neg_ℤ, IsTrue}, specs.Int.int_rem_euclid, proofs.Math.Seq.drop-cons, proofs.lemmas.Bool.cases_lt, proofs.lemmas.Int.ints, proofs.lemmas.List.drop_all, proofs.lemmas.Simd.map-map}
 use native.Mathlib.Nat.{zero-mod}
-use Rattle.fp_field.specs.Served.{served}
-use Rattle.fp_field.proofs.ServedLemmas.{for_served}
-use Rattle.linear_law.specs.Names.{Congruent, IsField, negated, Each, unit_vector}
-use Rattle.linear_law.proofs.Names.{Congruent_cancel, Congruent_from, Congruent_multiple, Congruent_of, Congruent_sym, Congruent_trans, add-negated, each_append, each_map, unit_one, unit_other, sum_append}
+use Rattle.fp_field.{specs.Served.served, proofs.ServedLemmas.for_served}
+use Rattle.linear_law.{specs.Names.{Congruent, IsField, negated, Each, unit_vector}, proofs.Names.{Congruent_cancel, Congruent_from, Congruent_multiple, Congruent_of, Congruent_sym, Congruent_trans, add-negated, each_append, each_map, unit_one, unit_other, sum_append}}
 use Rattle.signed_sum.specs.Names.{unless_empty, without_one}
-use Rattle.simplicial_law.specs.Names.{coboundary, faces, CongruentInt}
-use Rattle.simplicial_law.proofs.Names.{integral_coboundary_law, CongruentInt_of, CongruentInt_sym, CongruentInt_trans, agree_by_place, simplex_at as on_simplex, value_by_place}
-use Rattle.steenrod_law.proofs.Complexes.{residue-same}
-use Rattle.steenrod_law.proofs.OperationLaws.{to_residues}
-use Rattle.steenrod_law.specs.Names.{residue}
-use Rattle.bockstein_law.specs.Bockstein.{lift}
-use Rattle.bockstein_law.proofs.Lifts.{lift-same}
-use Rattle.sparse_rows.specs.Rows.{IsBelow, value_in}
-use Rattle.sparse_rows.proofs.RowLemmas.{value_in-none}
-use Rattle.complex_index.specs.Names.{ArePlaces, simplex_at, IsComplexIndex, level}
-use Rattle.complex_index.specs.declared.indexed.Cochain.{Cochain}
+use Rattle.simplicial_law.{specs.Names.{coboundary, faces, CongruentInt}, proofs.Names.{integral_coboundary_law, CongruentInt_of, CongruentInt_sym, CongruentInt_trans, agree_by_place, simplex_at as on_simplex, value_by_place}}
+use Rattle.steenrod_law.{proofs.Complexes.residue-same, proofs.OperationLaws.to_residues, specs.Names.residue}
+use Rattle.bockstein_law.{specs.Bockstein.lift, proofs.Lifts.lift-same}
+use Rattle.sparse_rows.{specs.Rows.{IsBelow, value_in}, proofs.RowLemmas.value_in-none}
+use Rattle.complex_index.specs.{Names.{ArePlaces, simplex_at, IsComplexIndex, level}, declared.indexed.Cochain.Cochain}
 use Rattle.cohomology.specs.Names.{cochain_in, IsClosedIn, IsOpenAt, coboundary_at}
 use Rattle.bockstein.specs.Places.{AreDivided, IsBocksteinAt, IsQuotient, IsRemainder, IsSumFrom, alternating, lift_at, sum_at}
 

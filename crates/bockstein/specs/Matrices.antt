@@ -1,14 +1,11 @@
 -- The matrix of the Bockstein, and what it carries.
-use Rattle.std.specs.Prelude.{◌≡◌, ℕ, ◌+◌, ◌*◌, ◌-◌, Bool, List, length, map}
-use Rattle.std.specs.List.{AllZip}
+use Rattle.std.specs.{Prelude.{◌≡◌, ℕ, ◌+◌, ◌*◌, ◌-◌, Bool, List, length, map}, List.AllZip}
 use Rattle.linear_law.specs.Names.{matrix_times}
 use Rattle.simplicial_law.specs.Names.{Cochain as SimplexCochain, HasCoordinates, IsCocycle}
 use Rattle.steenrod_law.specs.Names.{IsBocksteinPower, IsPower}
 use Rattle.bockstein_law.specs.Bockstein.{bockstein}
-use Rattle.complex_index.specs.Names.{IsIndexOf}
-use Rattle.complex_index.specs.declared.indexed.Cochain.{Cochain}
-use Rattle.cohomology.specs.Names.{IsColumnOf, cochains_at}
-use Rattle.cohomology.specs.declared.basis.Column.{Column}
+use Rattle.complex_index.specs.{Names.IsIndexOf, declared.indexed.Cochain.Cochain}
+use Rattle.cohomology.specs.{Names.{IsColumnOf, cochains_at}, declared.basis.Column.Column}
 use Rattle.bockstein.specs.Places.{IsBocksteinAt}
 
 -- c is the column of the Bockstein of the class z of degree n

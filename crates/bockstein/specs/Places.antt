@@ -1,15 +1,12 @@
 -- The Bockstein of a cochain that is kept by the places of its simplices.
-use Rattle.std.specs.Prelude.{◌≡◌, ◌≢◌, ℕ, ◌+◌, ◌-◌, ◌*◌, ◌<◌, ◌%◌, List, [], ◌∷◌, drop, length, get_or, map, ℤ, pos, ◌+ℤ◌, ◌≤ℤ◌, neg_ℤ}
+use Rattle.std.specs.{Prelude.{◌≡◌, ◌≢◌, ℕ, ◌+◌, ◌-◌, ◌*◌, ◌<◌, ◌%◌, List, [], ◌∷◌, drop, length, get_or, map, ℤ, pos, ◌+ℤ◌, ◌≤ℤ◌, neg_ℤ}, Int.int_div_euclid}
 use Rattle.simplicial_law.specs.Names.{CongruentInt, integral_coboundary}
 use Rattle.steenrod_law.specs.Names.{residue}
-use Rattle.std.specs.Int.{int_div_euclid}
 use Rattle.sparse_rows.specs.Rows.{IsBelow, value_in}
 use Rattle.bockstein_law.specs.Bockstein.{bockstein, lift}
-use Rattle.complex_index.specs.Names.{level}
-use Rattle.complex_index.specs.declared.indexed.Cochain.{Cochain}
+use Rattle.complex_index.specs.{Names.level, declared.indexed.Cochain.Cochain}
 use Rattle.cohomology.specs.Names.{cochain_in, IsClosedIn, IsOpenAt}
-use Rattle.bockstein.specs.declared.cocycles.BocksteinRefused.{BocksteinRefused}
-use Rattle.bockstein.specs.declared.cocycles.BocksteinRefused.TheVariants.{NotClosed, OutOfMemory}
+use Rattle.bockstein.specs.declared.cocycles.{BocksteinRefused.BocksteinRefused, BocksteinRefused.TheVariants.{NotClosed, OutOfMemory}}
 
 -- z is a cocycle of each complex with these levels, and b is its Bockstein: one degree up, at each simplex with its value
 pub record IsBocksteinAt {p : ℕ} (levels : List (List (List ℕ))) (z b : Cochain p) : Type 0 where

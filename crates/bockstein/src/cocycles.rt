@@ -2,7 +2,7 @@ ghost use Rattle.std.specs.Prelude.{◌≡◌, ◌≢◌, ◌+◌, ◌<◌, ◌�
 ghost use Rattle.fp_field.specs.Served.{served};
 ghost use Rattle.sparse_rows.specs.Rows.{IsBelow, IsRow};
 ghost use Rattle.complex_index.specs.Names.{level};
-ghost use Rattle.bockstein.specs.Places.{IsBocksteinAt, RefusesBockstein, alternating, lift_at, IsQuotient, IsRemainder};
+ghost use Rattle.bockstein.specs.{Places.{IsBocksteinAt, RefusesBockstein, alternating, lift_at, IsQuotient, IsRemainder}, declared.cocycles.BocksteinRefused.TheVariants.OutOfMemory};
 
 use complex_index::{Cochain, Indexed};
 use fp_field::Fp;
@@ -16,8 +16,6 @@ pub enum BocksteinRefused {
     /// Its coboundary is not zero: the place of the least simplex where it is not, and its value there.
     NotClosed { place: u32, value: u32 },
 }
-
-ghost use Rattle.bockstein.specs.declared.cocycles.BocksteinRefused.TheVariants.{OutOfMemory};
 
 impl From<AllocError> for BocksteinRefused {
     ghost from_gives = { λ _ e. e ≡ OutOfMemory };

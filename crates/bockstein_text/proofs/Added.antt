@@ -1,13 +1,9 @@
 -- Lines of parts that are added to a text.
-use Rattle.std.proofs.Common.{◌≡◌, ◌∙◌, ℕ, suc, ◌+◌, ◌<◌, Bool, true, false, cond, List, [], ◌∷◌, ◌++◌, length, map, take, get_or, flat_map, append_assoc, append-nil, arith, ap, ap₂, refl, subst, sym, length-take, OnOk, Ok, Err, Result}
-use Rattle.std.specs.List.{AllZip, filter}
-use Rattle.std.proofs.lemmas.Grind.{flat_map-append}
-use Rattle.std.proofs.lemmas.List.{length-map, map-append, take_all, take_more}
+use Rattle.std.{proofs.Common.{◌≡◌, ◌∙◌, ℕ, suc, ◌+◌, ◌<◌, Bool, true, false, cond, List, [], ◌∷◌, ◌++◌, length, map, take, get_or, flat_map, append_assoc, append-nil, arith, ap, ap₂, refl, subst, sym, length-take, OnOk, Ok, Err, Result}, specs.List.{AllZip, filter}, proofs.lemmas.Grind.flat_map-append, proofs.lemmas.List.{length-map, map-append, take_all, take_more}}
 use Rattle.signed_sum.specs.Names.{numbers_from}
 use Rattle.job_report.proofs.Zips.{numbers-filtered}
 use Rattle.cohomology.specs.declared.basis.Column.{Column}
-use Rattle.report_text_law.specs.Names.{ended, spelled}
-use Rattle.report_text_law.specs.declared.line.Line.TheVariants.{Column as column_line}
+use Rattle.report_text_law.specs.{Names.{ended, spelled}, declared.line.Line.TheVariants.{Column as column_line}}
 use Rattle.bockstein.specs.Matrices.{values_of}
 use Rattle.bockstein_text.specs.Names.{Adds, columns_text}
 

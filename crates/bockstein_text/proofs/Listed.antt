@@ -1,30 +1,19 @@
 -- From the matrices of the Bockstein by place to the Bocksteins of a complex, and from these to the text of a job.
-use Rattle.std.proofs.Common.{◌≡◌, ◌∙◌, ℕ, ◌+◌, ◌&&◌, Bool, true, nat_lt, IsTrue, List, [], ◌∷◌, ◌++◌, length, map, get_or, flat_map, append_assoc, codes, ap, ap₂, subst, sym, refl}
-use Rattle.std.specs.List.{AllZip, filter}
-use Rattle.std.proofs.lemmas.List.{length-map}
-use Rattle.std.proofs.lemmas.List.Elements.{filter_agree}
+use Rattle.std.{proofs.Common.{◌≡◌, ◌∙◌, ℕ, ◌+◌, ◌&&◌, Bool, true, nat_lt, IsTrue, List, [], ◌∷◌, ◌++◌, length, map, get_or, flat_map, append_assoc, codes, ap, ap₂, subst, sym, refl}, specs.List.{AllZip, filter}, proofs.lemmas.List.length-map, proofs.lemmas.List.Elements.filter_agree}
 use Rattle.signed_sum.specs.Names.{numbers_from}
 use Rattle.fp_field.specs.Served.{served}
 use Rattle.linear_law.specs.Names.{Each}
 use Rattle.simplicial_law.specs.Names.{Chain, Cochain as SimplexCochain, HasCoordinates, cochain_of}
 use Rattle.bockstein_law.specs.Bockstein.{bockstein}
-use Rattle.complex_file.specs.declared.block.ComplexBlock.{ComplexBlock}
-use Rattle.complex_file.specs.Names.{Spelled}
-use Rattle.complex_index.specs.declared.indexed.Cochain.{Cochain}
-use Rattle.complex_index.specs.Names.{IsIndexOf, level}
-use Rattle.cohomology.specs.Names.{AreCanonicalIn, chains_at, cochains_at}
-use Rattle.cohomology.specs.declared.basis.Column.{Column}
-use Rattle.report_law.specs.Names.{Classes, classes_in, cochains_in, has_class, ranks}
-use Rattle.report_law.proofs.Names.{get_or-map}
-use Rattle.report_text_law.specs.Names.{ended, spelled}
-use Rattle.report_text_law.specs.declared.line.Line.TheVariants.{Complex as complex_line, Done as done_line, End as end_line, Prime as prime_line}
-use Rattle.class_matrices.specs.Names.{listed_classes}
-use Rattle.class_matrices.proofs.ClassLemmas.{as-listed, count}
+use Rattle.complex_file.specs.{declared.block.ComplexBlock.ComplexBlock, Names.Spelled}
+use Rattle.complex_index.specs.{declared.indexed.Cochain.Cochain, Names.{IsIndexOf, level}}
+use Rattle.cohomology.specs.{Names.{AreCanonicalIn, chains_at, cochains_at}, declared.basis.Column.Column}
+use Rattle.report_law.{specs.Names.{Classes, classes_in, cochains_in, has_class, ranks}, proofs.Names.get_or-map}
+use Rattle.report_text_law.specs.{Names.{ended, spelled}, declared.line.Line.TheVariants.{Complex as complex_line, Done as done_line, End as end_line, Prime as prime_line}}
+use Rattle.class_matrices.{specs.Names.listed_classes, proofs.ClassLemmas.{as-listed, count}}
 use Rattle.job_report.proofs.ClassLemmas.{are-classes}
-use Rattle.bockstein.specs.Matrices.{IsBocksteinMatrix, values_of}
-use Rattle.bockstein.proofs.MatrixLemmas.{value-columns}
-use Rattle.bockstein_text.specs.Names.{Adds, AreBocksteins, Bocksteins, IsBocksteinText, IsListed, IsMatrix, Matrix, bockstein_degrees, bocksteins_text, columns_text, is_live, matrix_heading, matrix_text}
-use Rattle.bockstein_text.proofs.Added.{one_added, test_holds}
+use Rattle.bockstein.{specs.Matrices.{IsBocksteinMatrix, values_of}, proofs.MatrixLemmas.value-columns}
+use Rattle.bockstein_text.{specs.Names.{Adds, AreBocksteins, Bocksteins, IsBocksteinText, IsListed, IsMatrix, Matrix, bockstein_degrees, bocksteins_text, columns_text, is_live, matrix_heading, matrix_text}, proofs.Added.{one_added, test_holds}}
 
 -- the matrix from degree q, where it stands
 pub matrix_added : {p : ℕ} (keeps : Bool) (levels : List (List (List ℕ))) (classes : ℕ → List (Cochain p)) (q : ℕ) (made : List (Column p)) (old headed new : List ℕ) → is_live {p = p} classes q ≡ true → IsBocksteinMatrix {p = p} keeps levels classes q made

@@ -1,15 +1,11 @@
 -- The text of the Bocksteins of a job: which matrices it lists, and how they are spelled.
-use Rattle.std.specs.Prelude.{◌≡◌, ℕ, ◌+◌, ◌&&◌, List, [], ◌∷◌, ◌++◌, codes, flat_map, map}
-use Rattle.std.specs.List.{AllZip, filter}
-use Rattle.std.specs.Fmt.{decimal}
+use Rattle.std.specs.{Prelude.{◌≡◌, ℕ, ◌+◌, ◌&&◌, List, [], ◌∷◌, ◌++◌, codes, flat_map, map}, List.{AllZip, filter}, Fmt.decimal}
 use Rattle.linear_law.specs.Names.{Each}
 use Rattle.simplicial_law.specs.Names.{HasCoordinates}
 use Rattle.bockstein_law.specs.Bockstein.{bockstein}
-use Rattle.complex_file.specs.Names.{Spelled}
-use Rattle.complex_file.specs.declared.block.ComplexBlock.{ComplexBlock}
+use Rattle.complex_file.specs.{Names.Spelled, declared.block.ComplexBlock.ComplexBlock}
 use Rattle.report_law.specs.Names.{AreClasses, Classes, classes_in, cochains_in, degrees, has_class, ranks}
-use Rattle.report_text_law.specs.Names.{ended, joined, spelled}
-use Rattle.report_text_law.specs.declared.line.Line.TheVariants.{Column as column_line, Complex as complex_line, Done as done_line, End as end_line, Prime as prime_line}
+use Rattle.report_text_law.specs.{Names.{ended, joined, spelled}, declared.line.Line.TheVariants.{Column as column_line, Complex as complex_line, Done as done_line, End as end_line, Prime as prime_line}}
 
 -- the matrix of the Bockstein from a degree to the next, column by column
 pub record Matrix : Type 0 where

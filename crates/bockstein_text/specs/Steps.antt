@@ -1,6 +1,5 @@
 -- What the steps of the text give: forms for the contracts of private functions.
-use Rattle.std.specs.Prelude.{◌≡◌, ℕ, ◌+◌, ◌&&◌, nat_lt, Bool, List, ◌++◌, flat_map, length}
-use Rattle.std.specs.List.{AllZip}
+use Rattle.std.specs.{Prelude.{◌≡◌, ℕ, ◌+◌, ◌&&◌, nat_lt, Bool, List, ◌++◌, flat_map, length}, List.AllZip}
 use Rattle.complex_index.specs.declared.indexed.Cochain.{Cochain}
 use Rattle.cohomology.specs.declared.basis.Column.{Column}
 use Rattle.bockstein.specs.Matrices.{IsBocksteinMatrix, values_of}

@@ -1,9 +1,7 @@
-ghost use Rattle.std.specs.Prelude.{◌≡◌, ◌≤◌, ◌++◌, ◌∷◌, [], length, IfOk, IsTrue, OnOk};
-ghost use Rattle.std.specs.List.{filter};
+ghost use Rattle.std.specs.{Prelude.{◌≡◌, ◌≤◌, ◌++◌, ◌∷◌, [], length, IfOk, IsTrue, OnOk}, List.filter};
 ghost use Rattle.fp_field.specs.Served.{served};
 ghost use Rattle.signed_sum.specs.Names.{numbers_from};
-ghost use Rattle.report_text_law.specs.Names.{ended, spelled};
-ghost use Rattle.report_text_law.specs.declared.line.Line.TheVariants.{Column as column_line};
+ghost use Rattle.report_text_law.specs.{Names.{ended, spelled}, declared.line.Line.TheVariants.{Column as column_line}};
 ghost use Rattle.bockstein.specs.Matrices.{values_of};
 ghost use Rattle.bockstein_text.specs.Names.{Adds, IsListed, columns_text, is_live, matrix_heading, matrix_text};
 

@@ -1,29 +1,17 @@
 -- The sides of a line by coordinates, and the verdict on it.
 use Rattle.std.proofs.Common.{◌≡◌, ◌∙◌, Bool, true, false, ℕ, ◌+◌, ◌-◌, ◌<◌, ◌≤◌, List, [], ◌∷◌, ◌++◌, length, get_or, arith, sym, ap, ap₂, subst, IsTrue, None}
-use Rattle.fp_field.specs.Served.{served}
-use Rattle.fp_field.proofs.ServedLemmas.{served_field}
-use Rattle.linear_law.specs.Names.{negated, sum_over, Each}
-use Rattle.linear_law.proofs.Names.{Congruent_refl, each_get_or, zip_push, sum_append}
+use Rattle.fp_field.{specs.Served.served, proofs.ServedLemmas.served_field}
+use Rattle.linear_law.{specs.Names.{negated, sum_over, Each}, proofs.Names.{Congruent_refl, each_get_or, zip_push, sum_append}}
 use Rattle.simplicial_law.specs.Names.{Chain, Cochain as SimplexCochain, HasCoordinates, cochain_of}
 use Rattle.steenrod_law.specs.Names.{cup_product, scaled_operation}
-use Rattle.complex_index.specs.declared.indexed.Cochain.{Cochain}
-use Rattle.complex_index.specs.Names.{level}
+use Rattle.complex_index.specs.{declared.indexed.Cochain.Cochain, Names.level}
 use Rattle.cohomology.specs.Names.{chains_at, cochains_at}
-use Rattle.report.specs.declared.plan.Line.{Line}
-use Rattle.report.specs.declared.plan.Op.{Op}
-use Rattle.report_law.specs.Names.{IsAnswer, IsCartanProduct, IsOperation, cartan_op, cartan_pairs, element_degree, is_defined, target_degree, Classes, IsVerdict, class_at, line_degree}
-use Rattle.report_law.proofs.Names.{bound-of-zeros, scaled}
+use Rattle.report.specs.declared.plan.{Line.Line, Op.Op}
+use Rattle.report_law.{specs.Names.{IsAnswer, IsCartanProduct, IsOperation, cartan_op, cartan_pairs, element_degree, is_defined, target_degree, Classes, IsVerdict, class_at, line_degree}, proofs.Names.{bound-of-zeros, scaled}}
 use Rattle.op_matrix.specs.Columns.{AreListedAs}
-use Rattle.class_matrices.specs.declared.coordinates.Coordinates.{Coordinates}
-use Rattle.class_matrices.specs.declared.matrices.Matrices.{Matrices}
-use Rattle.class_matrices.specs.Names.{HasThese, IsSetting, unit_coordinates}
-use Rattle.class_matrices.proofs.ClassCoordinates.{class-has}
-use Rattle.cartan_check.specs.declared.Verdict.{Verdict}
-use Rattle.cartan_check.specs.declared.Verdict.TheVariants.{Yes}
-use Rattle.cartan_check.specs.ByMatrices.{HasPart, IsLessParts}
-use Rattle.cartan_check.specs.Verdicts.{listed_answer}
+use Rattle.class_matrices.{specs.declared.coordinates.Coordinates.Coordinates, specs.declared.matrices.Matrices.Matrices, specs.Names.{HasThese, IsSetting, unit_coordinates}, proofs.ClassCoordinates.class-has}
+use Rattle.cartan_check.{specs.declared.Verdict.Verdict, specs.declared.Verdict.TheVariants.Yes, specs.ByMatrices.{HasPart, IsLessParts}, specs.Verdicts.listed_answer, proofs.VerdictLemmas.all-zero}
 use Rattle.line_difference.proofs.DifferenceLemmas.{IsDefinedPair, defined-pairs, targets-add}
-use Rattle.cartan_check.proofs.VerdictLemmas.{all-zero}
 
 never : IsTrue false → ⊥
 never q = cc

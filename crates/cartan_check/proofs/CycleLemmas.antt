@@ -1,16 +1,10 @@
 -- The canonical coboundaries of a complex, and the cycle of a class as a report tells it.
-use Rattle.std.proofs.Common.{◌≡◌, ◌≢◌, ◌⊎◌, inl, inr, ℕ, zero, suc, ◌+◌, ◌<◌, ◌≤◌, List, [], ◌∷◌, map, length, get_or, arith, refl, sym, ap, subst, ◌∙◌, slice_get, Some}
-use Rattle.std.specs.List.{AllZip}
-use Rattle.std.proofs.lemmas.Bool.{cases_lt}
-use Rattle.linear_law.specs.Names.{Congruent, IsField, Among, Each, IsAscending}
-use Rattle.linear_law.proofs.Names.{among_map, each_among, each_itself, each_map, each_of_map, reduced_apart, reduced_one, same_or_not}
-use Rattle.simplicial_law.specs.Names.{Precedes, Chain, Cochain as SimplexCochain, IsCanonicalClass, IsCanonicalCoboundary, IsCoboundaryPivot, cochain_of, terms_of}
-use Rattle.simplicial_law.proofs.Names.{lists_compare, lists_strict, ordered_places}
-use Rattle.complex_index.specs.declared.indexed.Cochain.{Cochain}
-use Rattle.complex_index.specs.Names.{IsIndexOf, level}
+use Rattle.std.{proofs.Common.{◌≡◌, ◌≢◌, ◌⊎◌, inl, inr, ℕ, zero, suc, ◌+◌, ◌<◌, ◌≤◌, List, [], ◌∷◌, map, length, get_or, arith, refl, sym, ap, subst, ◌∙◌, slice_get, Some}, specs.List.AllZip, proofs.lemmas.Bool.cases_lt}
+use Rattle.linear_law.{specs.Names.{Congruent, IsField, Among, Each, IsAscending}, proofs.Names.{among_map, each_among, each_itself, each_map, each_of_map, reduced_apart, reduced_one, same_or_not}}
+use Rattle.simplicial_law.{specs.Names.{Precedes, Chain, Cochain as SimplexCochain, IsCanonicalClass, IsCanonicalCoboundary, IsCoboundaryPivot, cochain_of, terms_of}, proofs.Names.{lists_compare, lists_strict, ordered_places}}
+use Rattle.complex_index.specs.{declared.indexed.Cochain.Cochain, Names.{IsIndexOf, level}}
 use Rattle.cohomology.specs.Names.{AreCanonicalIn, chains_at, cochain_in, IsCanonicalCycle}
-use Rattle.report_law.specs.Names.{ArePivots, IsCycleOf}
-use Rattle.report_law.proofs.Names.{BoundRows, Row, lead, listed-bounds, value, among_or_not, of-map}
+use Rattle.report_law.{specs.Names.{ArePivots, IsCycleOf}, proofs.Names.{BoundRows, Row, lead, listed-bounds, value, among_or_not, of-map}}
 use Rattle.op_matrix.proofs.ColumnLemmas.{terms}
 
 -- ---- the row of a pivot

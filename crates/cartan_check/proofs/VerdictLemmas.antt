@@ -1,28 +1,16 @@
 -- What a column tells of its cochain.
-use Rattle.std.proofs.Common.{◌≡◌, ℕ, zero, suc, ◌+◌, ◌-◌, ◌<◌, inl, inr, Bool, false, true, List, [], ◌∷◌, length, get_or, arith, refl, sym, ap, subst, ◌∙◌, IsTrue, MatchOption, Some, None, is_some, slice_get}
-use Rattle.std.specs.declared.option.Option.{Option}
-use Rattle.std.proofs.lemmas.Bool.{cases_lt}
-use Rattle.std.proofs.lemmas.List.{length-map}
-use Rattle.fp_field.specs.Served.{served}
-use Rattle.fp_field.proofs.ServedLemmas.{served_field}
-use Rattle.linear_law.specs.Names.{negated}
-use Rattle.linear_law.proofs.Names.{Congruent_of}
+use Rattle.std.{proofs.Common.{◌≡◌, ℕ, zero, suc, ◌+◌, ◌-◌, ◌<◌, inl, inr, Bool, false, true, List, [], ◌∷◌, length, get_or, arith, refl, sym, ap, subst, ◌∙◌, IsTrue, MatchOption, Some, None, is_some, slice_get}, specs.declared.option.Option.Option, proofs.lemmas.Bool.cases_lt, proofs.lemmas.List.length-map}
+use Rattle.fp_field.{specs.Served.served, proofs.ServedLemmas.served_field}
+use Rattle.linear_law.{specs.Names.negated, proofs.Names.Congruent_of}
 use Rattle.simplicial_law.specs.Names.{Chain, Cochain as SimplexCochain, HasCoordinates, cochain_of, terms_of}
-use Rattle.complex_index.specs.declared.indexed.Cochain.{Cochain}
-use Rattle.complex_index.specs.Names.{IsIndexOf, level}
-use Rattle.cohomology.specs.declared.basis.Column.{Column}
-use Rattle.cohomology.specs.Names.{IsColumnOf, AreCanonicalIn, chains_at, cochain_in, IsCanonicalCycle, IsClosedIn, cochains_at}
+use Rattle.complex_index.specs.{declared.indexed.Cochain.Cochain, Names.{IsIndexOf, level}}
+use Rattle.cohomology.specs.{declared.basis.Column.Column, Names.{IsColumnOf, AreCanonicalIn, chains_at, cochain_in, IsCanonicalCycle, IsClosedIn, cochains_at}}
 use Rattle.may_steenrod.specs.Cochains.{IsClosed}
 use Rattle.report.specs.declared.plan.Line.{Line}
-use Rattle.report_law.specs.Names.{IsAnswer, IsFirstValue, rest_of, IsCartanDifference, cartan_pairs, Classes, class_at, line_degree}
-use Rattle.report_law.proofs.Names.{bound-of-zeros, no-combination, get_or-past}
-use Rattle.op_matrix.specs.Columns.{AreListedAs, IsColumnFor, primitive_terms}
-use Rattle.op_matrix.proofs.ColumnLemmas.{column-for, primitive-alike}
-use Rattle.cartan_check.specs.declared.Verdict.{Verdict}
-use Rattle.cartan_check.specs.declared.Verdict.TheVariants.{Yes, No}
+use Rattle.report_law.{specs.Names.{IsAnswer, IsFirstValue, rest_of, IsCartanDifference, cartan_pairs, Classes, class_at, line_degree}, proofs.Names.{bound-of-zeros, no-combination, get_or-past}}
+use Rattle.op_matrix.{specs.Columns.{AreListedAs, IsColumnFor, primitive_terms}, proofs.ColumnLemmas.{column-for, primitive-alike}}
+use Rattle.cartan_check.{specs.declared.Verdict.Verdict, specs.declared.Verdict.TheVariants.{Yes, No}, specs.Verdicts.{IsVerdictFor, IsVerdictOf, listed_answer}, proofs.CycleLemmas.cycle-of}
 use Rattle.line_difference.specs.Differences.{IsLess}
-use Rattle.cartan_check.specs.Verdicts.{IsVerdictFor, IsVerdictOf, listed_answer}
-use Rattle.cartan_check.proofs.CycleLemmas.{cycle-of}
 
 -- coordinates that are 0 for each class are 0
 pub all-zero : (p : ℕ) (levels : List (List (List ℕ))) (n : ℕ) (classes : List (Cochain p)) (facets : List (List ℕ)) (z : SimplexCochain) (values : List ℕ) → HasCoordinates facets n p (cochains_at {p = p} levels n classes) z values

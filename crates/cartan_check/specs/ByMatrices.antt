@@ -1,13 +1,11 @@
 -- The sides of a Cartan line by coordinates.
-use Rattle.std.specs.Prelude.{ℕ, ◌+◌, List}
-use Rattle.std.specs.List.{AllZip}
+use Rattle.std.specs.{Prelude.{ℕ, ◌+◌, List}, List.AllZip}
 use Rattle.linear_law.specs.Names.{negated, sum_over}
 use Rattle.simplicial_law.specs.Names.{Cochain as SimplexCochain}
 use Rattle.complex_index.specs.declared.indexed.Cochain.{Cochain}
 use Rattle.report.specs.declared.plan.Line.{Line}
 use Rattle.report_law.specs.Names.{IsCartanProduct}
-use Rattle.class_matrices.specs.declared.coordinates.Coordinates.{Coordinates}
-use Rattle.class_matrices.specs.Names.{HasThese}
+use Rattle.class_matrices.specs.{declared.coordinates.Coordinates.Coordinates, Names.HasThese}
 
 -- the product of the operations of the pair on z and w, of degrees a and b, has these coordinates
 pub record HasPart {p : ℕ} (facets : List (List ℕ)) (levels : List (List (List ℕ))) (classes : ℕ → List (Cochain p)) (a b : ℕ) (z w : SimplexCochain) (pair : ℕ × ℕ) (c : Coordinates p) : Type 0 where

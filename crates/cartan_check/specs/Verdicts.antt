@@ -1,18 +1,12 @@
 -- Verdicts on Cartan lines.
-use Rattle.std.specs.Prelude.{◌≡◌, ℕ, Bool, List, [], Some, None, is_some}
-use Rattle.std.specs.declared.option.Option.{Option}
+use Rattle.std.specs.{Prelude.{◌≡◌, ℕ, Bool, List, [], Some, None, is_some}, declared.option.Option.Option}
 use Rattle.simplicial_law.specs.Names.{Chain, terms_of}
-use Rattle.complex_index.specs.declared.indexed.Cochain.{Cochain}
-use Rattle.complex_index.specs.Names.{IsIndexOf, level}
-use Rattle.cohomology.specs.declared.basis.Column.{Column}
-use Rattle.cohomology.specs.Names.{IsColumnOf, chains_at, cochain_in}
-use Rattle.report.specs.declared.columns.CartanAnswer.{CartanAnswer}
-use Rattle.report.specs.declared.columns.CartanAnswer.TheVariants.{Yes as ListedYes, No as ListedNo}
-use Rattle.report.specs.declared.plan.Line.{Line}
+use Rattle.complex_index.specs.{declared.indexed.Cochain.Cochain, Names.{IsIndexOf, level}}
+use Rattle.cohomology.specs.{declared.basis.Column.Column, Names.{IsColumnOf, chains_at, cochain_in}}
+use Rattle.report.specs.declared.{columns.CartanAnswer.CartanAnswer, columns.CartanAnswer.TheVariants.{Yes as ListedYes, No as ListedNo}, plan.Line.Line}
 use Rattle.report_law.specs.Names.{IsAnswer, Classes, IsVerdict, line_degree}
 use Rattle.op_matrix.specs.Columns.{AreListedAs, primitive_terms}
-use Rattle.cartan_check.specs.declared.Verdict.{Verdict}
-use Rattle.cartan_check.specs.declared.Verdict.TheVariants.{Yes, No}
+use Rattle.cartan_check.specs.declared.{Verdict.Verdict, Verdict.TheVariants.{Yes, No}}
 
 -- the terms of a cycle of degree n; none where none is kept
 abbrev pub cycle_terms : {p : ℕ} → List (List (List ℕ)) → ℕ → Option (Cochain p) → Chain

@@ -1,13 +1,11 @@
 ghost use Rattle.std.specs.Prelude.{◌≡◌, ◌≤◌, ◌+◌, ℕ, List, length, false, true, IfOk, IsTrue};
 ghost use Rattle.fp_field.specs.Served.{served};
 ghost use Rattle.simplicial_law.specs.Names.{Cochain as SimplexCochain, HasCoordinates};
-ghost use Rattle.complex_index.specs.declared.indexed.Cochain.{Cochain};
-ghost use Rattle.complex_index.specs.Names.{level};
+ghost use Rattle.complex_index.specs.{declared.indexed.Cochain.Cochain, Names.level};
 ghost use Rattle.cohomology.specs.Names.{chains_at, cochains_at};
 ghost use Rattle.report_law.specs.Names.{IsAnswer, cartan_op as cartan_op_at, cartan_pairs as cartan_pairs_of, is_defined, target_degree, line_degree};
 ghost use Rattle.class_matrices.specs.Names.{HasThese, IsSetting, class_counts, AreMatrices};
-ghost use Rattle.cartan_check.specs.ByMatrices.{HasPart, IsLessParts};
-ghost use Rattle.cartan_check.specs.Verdicts.{HasChain, IsVerdictOf, listed_answer};
+ghost use Rattle.cartan_check.specs.{ByMatrices.{HasPart, IsLessParts}, Verdicts.{HasChain, IsVerdictOf, listed_answer}};
 
 use crate::{Verdict, first_place};
 use class_matrices::{Coordinates, Matrices, difference, of_class, operated, product_of};

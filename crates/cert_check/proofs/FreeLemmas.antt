@@ -1,15 +1,8 @@
 -- Lines of which a condition asks nothing.
 use Rattle.std.proofs.Common.{◌≡◌, ℕ, zero, suc, ◌+◌, ◌<◌, ◌≤◌, refl, arith, lit<, List, [], ◌∷◌, ◌++◌}
-use Rattle.linear_law.specs.Names.{Each}
-use Rattle.linear_law.proofs.Names.{each_append}
+use Rattle.linear_law.{specs.Names.Each, proofs.Names.each_append}
 use Rattle.complex_file.specs.declared.block.Sent.{Sent}
-use Rattle.report.specs.declared.columns.CartanAnswer.{CartanAnswer}
-use Rattle.report.specs.declared.columns.CartanAnswer.TheVariants.{No, Yes}
-use Rattle.report.specs.declared.columns.Column.{Column}
-use Rattle.report.specs.declared.complex.ComplexPart.{ComplexPart}
-use Rattle.report.specs.declared.job.Report.{Report}
-use Rattle.report.specs.declared.map.InducedPart.{InducedPart}
-use Rattle.report.specs.declared.map.MapPart.{MapPart}
+use Rattle.report.specs.declared.{columns.CartanAnswer.CartanAnswer, columns.CartanAnswer.TheVariants.{No, Yes}, columns.Column.Column, complex.ComplexPart.ComplexPart, job.Report.Report, map.InducedPart.InducedPart, map.MapPart.MapPart}
 use Rattle.simplicial_law.specs.Names.{Chain}
 use Rattle.certificate_law.specs.Names.{Certifies, Holds, Asks, Stated, after, answer_stated, behind, below_stands, cartan_stated, class_stands, complex_ends, complex_opens, complex_stated, degree_stated, facet_stands, finish, heading, induced_column, induced_opens, induced_stated, map_between, map_ends, map_opens, numbered, operation_column, operation_stated, prime_is, product_column, product_stated, send_stands, stated, with_stands}
 

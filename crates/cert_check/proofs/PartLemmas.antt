@@ -1,32 +1,14 @@
 -- What a certificate asks, by its complexes and its maps.
-use Rattle.std.proofs.Common.{◌≡◌, ℕ, zero, suc, ◌+◌, ◌^◌, ◌<◌, ◌≤◌, refl, sym, ◌∙◌, ap, subst, inl, inr, arith, lit<, Bool, true, false, List, [], ◌∷◌, ◌++◌, append_assoc, flat_map, length, map, get_or, drop, cond, ◌||◌, ◌⊎◌, ◌≢◌, Some, None, nat_lt, if◌then◌else◌, ltb-false, append-nil}
-use Rattle.std.specs.List.{list_all}
-use Rattle.std.proofs.lemmas.Bool.{and_parts, cases_order}
-use Rattle.std.specs.Str.{bytes_eq}
-use Rattle.std.proofs.lemmas.List.{at_drop_more, drop_all}
-use Rattle.std.proofs.lemmas.List.Folds.{list_all-append}
-use Rattle.linear_law.specs.Names.{Each, IsAscending}
-use Rattle.linear_law.proofs.Names.{apart_short, each_among, each_get_or}
-use Rattle.simplicial_law.specs.Names.{IsSimplex, of_degree}
-use Rattle.simplicial_law.specs.ListedSimplices.{simplices}
-use Rattle.simplicial_law.proofs.Names.{listed_simplices_law}
-use Rattle.complex_file.specs.declared.kind.InputKind.{InputKind}
-use Rattle.report.specs.declared.complex.ComplexPart.{ComplexPart}
-use Rattle.report.specs.declared.job.Report.{Report}
-use Rattle.report.specs.declared.map.MapPart.{MapPart}
-use Rattle.report_text_law.specs.declared.line.Line.{Line}
-use Rattle.report_text_law.specs.declared.line.Line.TheVariants.{Facet as facet_said}
-use Rattle.report_text_law.specs.Names.{complex_lines, map_lines, is_line, is_simplex}
-use Rattle.report_text_law.specs.WellFormed.{is_well_formed}
+use Rattle.std.{proofs.Common.{◌≡◌, ℕ, zero, suc, ◌+◌, ◌^◌, ◌<◌, ◌≤◌, refl, sym, ◌∙◌, ap, subst, inl, inr, arith, lit<, Bool, true, false, List, [], ◌∷◌, ◌++◌, append_assoc, flat_map, length, map, get_or, drop, cond, ◌||◌, ◌⊎◌, ◌≢◌, Some, None, nat_lt, if◌then◌else◌, ltb-false, append-nil}, specs.List.list_all, proofs.lemmas.Bool.{and_parts, cases_order}, specs.Str.bytes_eq, proofs.lemmas.List.{at_drop_more, drop_all}, proofs.lemmas.List.Folds.list_all-append}
+use Rattle.linear_law.{specs.Names.{Each, IsAscending}, proofs.Names.{apart_short, each_among, each_get_or}}
+use Rattle.simplicial_law.{specs.Names.{IsSimplex, of_degree}, specs.ListedSimplices.simplices, proofs.Names.listed_simplices_law}
+use Rattle.complex_file.specs.{declared.kind.InputKind.InputKind, Names.has_name}
+use Rattle.report.specs.declared.{complex.ComplexPart.ComplexPart, job.Report.Report, map.MapPart.MapPart}
+use Rattle.report_text_law.specs.{declared.line.Line.Line, declared.line.Line.TheVariants.{Facet as facet_said}, Names.{complex_lines, map_lines, is_line, is_simplex}, WellFormed.is_well_formed}
 use Rattle.fp_field.specs.Served.{served}
-use Rattle.certificate_law.specs.Names.{Asks, complex_names, complex_named, Stated, behind, cartan_stated, complex_ends, complex_stated, degree_stated, facet_stands, map_stated, numbered, operation_stated, product_stated, stated}
-use Rattle.complex_file.specs.Names.{has_name}
+use Rattle.certificate_law.{specs.Names.{Asks, complex_names, complex_named, Stated, behind, cartan_stated, complex_ends, complex_stated, degree_stated, facet_stands, map_stated, numbered, operation_stated, product_stated, stated}, proofs.Asked.{each_left, each_right}, proofs.PivotCounts.ascending_apart, proofs.WellFormed.facet_ascends}
 use Rattle.block_check.proofs.NameLemmas.{IsBehind}
-use Rattle.certificate_law.proofs.Asked.{each_left, each_right}
-use Rattle.certificate_law.proofs.PivotCounts.{ascending_apart}
-use Rattle.certificate_law.proofs.WellFormed.{facet_ascends}
-use Rattle.count_check.specs.Columns.{AreFew}
-use Rattle.count_check.proofs.ComplexWalks.{few_classes}
+use Rattle.count_check.{specs.Columns.AreFew, proofs.ComplexWalks.few_classes}
 use Rattle.cert_check.specs.Ready.{CanIndex}
 
 -- ---- well-formed lines

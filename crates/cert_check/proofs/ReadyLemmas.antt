@@ -1,29 +1,16 @@
 -- What is known of the complexes and the maps of a certificate when a condition is tried.
-use Rattle.std.proofs.Common.{◌≡◌, ℕ, ◌+◌, ◌<◌, ◌≤◌, refl, sym, subst, inl, inr, arith, lit<, lit≤, OnOk, IsSome, true, List, [], ◌∷◌, ◌++◌, map, Ok, Err, ℤ, Result}
-use Rattle.std.specs.List.{AllZip, list_all}
-use Rattle.std.proofs.lemmas.Bool.{cases_order}
-use Rattle.linear_law.specs.Names.{Each}
-use Rattle.linear_law.proofs.Names.{each_map, each_unmap, each_zip, zip_change}
+use Rattle.std.{proofs.Common.{◌≡◌, ℕ, ◌+◌, ◌<◌, ◌≤◌, refl, sym, subst, inl, inr, arith, lit<, lit≤, OnOk, IsSome, true, List, [], ◌∷◌, ◌++◌, map, Ok, Err, ℤ, Result}, specs.List.{AllZip, list_all}, proofs.lemmas.Bool.cases_order}
+use Rattle.linear_law.{specs.Names.Each, proofs.Names.{each_map, each_unmap, each_zip, zip_change}}
 use Rattle.complex_index.specs.Names.{IsIndexOf}
-use Rattle.report.specs.declared.complex.ComplexPart.{ComplexPart}
-use Rattle.report.specs.declared.job.Report.{Report}
-use Rattle.report.specs.declared.map.MapPart.{MapPart}
-use Rattle.report_text_law.specs.Names.{complex_lines as lines_of, map_lines as map_lines_of, is_line}
-use Rattle.report_text_law.specs.WellFormed.{is_well_formed}
+use Rattle.report.specs.declared.{complex.ComplexPart.ComplexPart, job.Report.Report, map.MapPart.MapPart, plan.Sizes.Sizes}
+use Rattle.report_text_law.specs.{Names.{complex_lines as lines_of, map_lines as map_lines_of, is_line}, WellFormed.is_well_formed}
 use Rattle.certificate_law.specs.Names.{FailsAt, FailsFirst, Holds, Asks, complex_named, Stated, behind, complex_stated, finish, heading, map_between, map_stated, prime_is, stated}
-use Rattle.certificate_walk.specs.declared.stop.Stop.{Stop}
-use Rattle.certificate_walk.specs.declared.stop.Stop.TheVariants.{Fails}
-use Rattle.certificate_walk.specs.Names.{FailsBehind, IsWalk}
-use Rattle.certificate_walk.proofs.Names.{walk_both}
+use Rattle.certificate_walk.{specs.declared.stop.Stop.Stop, specs.declared.stop.Stop.TheVariants.Fails, specs.Names.{FailsBehind, IsWalk}, proofs.Names.walk_both}
 use Rattle.may_elements.specs.Stored.{stored_at}
-use Rattle.report.specs.declared.plan.Sizes.{Sizes}
 use Rattle.report_law.specs.Names.{ranks_of, elements, sizes_of}
-use Rattle.line_difference.specs.Elements.{AreStored}
-use Rattle.line_difference.proofs.PlanLemmas.{each-stored}
+use Rattle.line_difference.{specs.Elements.AreStored, proofs.PlanLemmas.each-stored}
 use Rattle.count_check.specs.Totals.{IsCountable, job_sizes}
-use Rattle.cert_check.specs.Ready.{CanIndex, IsKept, IsMapReady, IsReady}
-use Rattle.cert_check.proofs.FreeLemmas.{holds_none, outer_free}
-use Rattle.cert_check.proofs.PartLemmas.{can_index, complexes_asked, each_of_behind, few_of, formed, low_degrees, maps_asked}
+use Rattle.cert_check.{specs.Ready.{CanIndex, IsKept, IsMapReady, IsReady}, proofs.FreeLemmas.{holds_none, outer_free}, proofs.PartLemmas.{can_index, complexes_asked, each_of_behind, few_of, formed, low_degrees, maps_asked}}
 
 each_if : {X : Type 0} (A : Type 0) (Q : X → Type 0) (xs : List X) → (A → Each Q xs) → Each (λ x. A → Q x) xs
 each_if A Q [] h = tt

@@ -1,12 +1,10 @@
 -- What is known of a certificate when a condition is tried.
-use Rattle.std.specs.Prelude.{◌≡◌, ℕ, ◌^◌, ◌<◌, ◌≤◌, true, List, length, ℤ}
-use Rattle.std.specs.List.{list_all}
+use Rattle.std.specs.{Prelude.{◌≡◌, ℕ, ◌^◌, ◌<◌, ◌≤◌, true, List, length, ℤ}, List.list_all}
 use Rattle.linear_law.specs.Names.{Each, IsAscending}
 use Rattle.simplicial_law.specs.ListedSimplices.{simplices}
 use Rattle.complex_file.specs.Names.{has_name}
 use Rattle.complex_index.specs.Names.{IsIndexOf}
-use Rattle.report.specs.declared.complex.ComplexPart.{ComplexPart}
-use Rattle.report.specs.declared.map.MapPart.{MapPart}
+use Rattle.report.specs.declared.{complex.ComplexPart.ComplexPart, map.MapPart.MapPart}
 use Rattle.report_law.specs.Names.{ranks_of}
 use Rattle.report_text_law.specs.Names.{complex_lines, map_lines, is_line}
 use Rattle.certificate_law.specs.Names.{Asks, complex_names, complex_named, complex_stated, map_between}

@@ -1,6 +1,5 @@
 //! The conditions on complexes.
-ghost use Rattle.std.specs.Prelude.{◌≡◌, ◌<◌, ◌≤◌, ◌+◌, ◌^◌, [], ℕ, List, length, map, sum_by, IfOk, IsTrue};
-ghost use Rattle.std.specs.List.{AllZip};
+ghost use Rattle.std.specs.{Prelude.{◌≡◌, ◌<◌, ◌≤◌, ◌+◌, ◌^◌, [], ℕ, List, length, map, sum_by, IfOk, IsTrue}, List.AllZip};
 ghost use Rattle.linear_law.specs.Names.{Each, IsAscending};
 ghost use Rattle.simplicial_law.specs.ListedSimplices.{simplices};
 ghost use Rattle.fp_field.specs.Served.{served};

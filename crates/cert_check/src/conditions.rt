@@ -1,12 +1,10 @@
 //! The conditions from 2 to 8.
-ghost use Rattle.std.specs.Prelude.{◌≡◌, ◌<◌, ◌≤◌, ◌+◌, ◌^◌, [], ℕ, true, length, IfOk, IsTrue, OnOk};
-ghost use Rattle.std.specs.List.{AllZip};
+ghost use Rattle.std.specs.{Prelude.{◌≡◌, ◌<◌, ◌≤◌, ◌+◌, ◌^◌, [], ℕ, true, length, IfOk, IsTrue, OnOk}, List.AllZip};
 ghost use Rattle.fp_field.specs.Served.{served};
 ghost use Rattle.report_text_law.specs.WellFormed.{is_well_formed};
 ghost use Rattle.certificate_law.specs.Names.{Holds, Asks, stated};
 ghost use Rattle.certificate_walk.specs.Names.{IsWalk};
-ghost use Rattle.cert_check.specs.Checked.{IsChecked};
-ghost use Rattle.cert_check.specs.Ready.{AreAllStored, IsKept};
+ghost use Rattle.cert_check.specs.{Checked.IsChecked, Ready.{AreAllStored, IsKept}};
 
 use crate::Checked;
 use crate::complexes::complexes_fault;

@@ -1,11 +1,9 @@
 //! The conditions on maps.
-ghost use Rattle.std.specs.Prelude.{◌≡◌, ◌<◌, ◌≤◌, ◌+◌, ◌^◌, [], ℕ, List, length, true, get_or, sum_by, IsTrue};
-ghost use Rattle.std.specs.List.{AllZip, list_all};
+ghost use Rattle.std.specs.{Prelude.{◌≡◌, ◌<◌, ◌≤◌, ◌+◌, ◌^◌, [], ℕ, List, length, true, get_or, sum_by, IsTrue}, List.{AllZip, list_all}};
 ghost use Rattle.linear_law.specs.Names.{Each};
 ghost use Rattle.fp_field.specs.Served.{served};
 ghost use Rattle.complex_file.specs.Names.{has_name};
-ghost use Rattle.report.specs.declared.complex.ComplexPart.{ComplexPart as Listed};
-ghost use Rattle.report.specs.declared.map.MapPart.{MapPart as ListedMap};
+ghost use Rattle.report.specs.declared.{complex.ComplexPart.{ComplexPart as Listed}, map.MapPart.{MapPart as ListedMap}};
 ghost use Rattle.report_text_law.specs.Names.{map_lines as lines_of, is_line};
 ghost use Rattle.certificate_law.specs.Names.{Asks, complex_names, complex_named, behind, map_between, map_stated};
 ghost use Rattle.certificate_walk.specs.Names.{map_lines as map_lines_of, IsWalk};

@@ -1,31 +1,15 @@
 -- Coordinates of products and of results of operations, by the matrices that are found.
-use Rattle.std.proofs.Common.{◌≡◌, ◌≢◌, ◌∙◌, ℕ, zero, suc, ◌+◌, ◌<◌, ◌⊎◌, inl, inr, Bool, true, List, [], ◌∷◌, length, arith, refl, sym, ap, subst, IsTrue}
-use Rattle.std.specs.List.{AllZip}
-use Rattle.std.proofs.lemmas.List.{length-map}
-use Rattle.fp_field.specs.Served.{served}
-use Rattle.fp_field.proofs.ServedLemmas.{served_field}
-use Rattle.linear_law.specs.Names.{IsField, Among, Each, copies}
-use Rattle.linear_law.proofs.Names.{each_among, length-copies}
+use Rattle.std.{proofs.Common.{◌≡◌, ◌≢◌, ◌∙◌, ℕ, zero, suc, ◌+◌, ◌<◌, ◌⊎◌, inl, inr, Bool, true, List, [], ◌∷◌, length, arith, refl, sym, ap, subst, IsTrue}, specs.List.AllZip, proofs.lemmas.List.length-map}
+use Rattle.fp_field.{specs.Served.served, proofs.ServedLemmas.served_field}
+use Rattle.linear_law.{specs.Names.{IsField, Among, Each, copies}, proofs.Names.{each_among, length-copies}}
 use Rattle.simplicial_law.specs.Names.{Cochain as SimplexCochain, HasCoordinates, IsCocycle, IsCohomologyBasis, cochain_of}
-use Rattle.steenrod_law.specs.Names.{coefficient_products, cup_product}
-use Rattle.steenrod_law.proofs.ClassLaws.{product-closed}
+use Rattle.steenrod_law.{specs.Names.{coefficient_products, cup_product}, proofs.ClassLaws.product-closed}
 use Rattle.complex_index.specs.declared.indexed.Cochain.{Cochain}
-use Rattle.cohomology.specs.declared.basis.Column.{Column}
-use Rattle.cohomology.specs.Names.{cochains_at}
-use Rattle.report.specs.declared.columns.Column.{Column as ListedColumn}
-use Rattle.report.specs.declared.plan.Block.{Block}
-use Rattle.report.specs.declared.plan.Op.{Op}
-use Rattle.report.specs.declared.plan.Product.{Product}
-use Rattle.report_law.specs.Names.{IsColumn, IsOperation, block_on, has_class, is_defined, target_degree, Classes, IsOperationColumn, classes_in, cochains_in}
-use Rattle.report_law.proofs.Names.{in-blocks, no-coordinates, scaled, scaled-closed}
-use Rattle.op_matrix.specs.Columns.{listed_column, listed_columns, values_of}
-use Rattle.op_matrix.specs.Tables.{IsOperationMatrix, IsProductMatrix, IsPairColumn, IsResultColumn}
-use Rattle.op_matrix.proofs.TableLemmas.{basis-in, operation-matrix, pairs_of, product-matrix-of}
-use Rattle.class_matrices.specs.Names.{Matrices, OperationMatrix, ProductMatrix, IsSetting, class_counts, listed_classes, IsFound, IsOperationOf, IsProductOf, Fits, sum_onto}
-use Rattle.class_matrices.proofs.ClassLemmas.{as-listed, class-or-none}
-use Rattle.class_matrices.proofs.ListLemmas.{no-heading}
-use Rattle.class_matrices.proofs.PlanLemmas.{in-products}
-use Rattle.class_matrices.proofs.SumLemmas.{sum-matrix}
+use Rattle.cohomology.specs.{declared.basis.Column.Column, Names.cochains_at}
+use Rattle.report.specs.declared.{columns.Column.{Column as ListedColumn}, plan.Block.Block, plan.Op.Op, plan.Product.Product}
+use Rattle.report_law.{specs.Names.{IsColumn, IsOperation, block_on, has_class, is_defined, target_degree, Classes, IsOperationColumn, classes_in, cochains_in}, proofs.Names.{in-blocks, no-coordinates, scaled, scaled-closed}}
+use Rattle.op_matrix.{specs.Columns.{listed_column, listed_columns, values_of}, specs.Tables.{IsOperationMatrix, IsProductMatrix, IsPairColumn, IsResultColumn}, proofs.TableLemmas.{basis-in, operation-matrix, pairs_of, product-matrix-of}}
+use Rattle.class_matrices.{specs.Names.{Matrices, OperationMatrix, ProductMatrix, IsSetting, class_counts, listed_classes, IsFound, IsOperationOf, IsProductOf, Fits, sum_onto}, proofs.ClassLemmas.{as-listed, class-or-none}, proofs.ListLemmas.no-heading, proofs.PlanLemmas.in-products, proofs.SumLemmas.sum-matrix}
 
 zeros-small : (p h : ℕ) → 1 < p → Each (λ x. x < p) (copies h 0)
 zeros-small p zero large = tt

@@ -1,22 +1,14 @@
 -- The coordinates of classes and of differences.
-use Rattle.std.proofs.Common.{◌≡◌, ◌∙◌, ◌==◌, Bool, true, false, cond, ℕ, zero, suc, ◌+◌, ◌*◌, ◌-◌, ◌%◌, ◌<◌, ◌≤◌, inl, inr, List, [], ◌∷◌, length, map, get_or, arith, refl, sym, ap, ap₂, subst, IsTrue, eqb-true}
-use Rattle.std.proofs.Math.Nat.{mod-eq_of_lt}
-use Rattle.std.proofs.lemmas.Bool.{cases_Bool}
-use Rattle.std.proofs.lemmas.List.{length-map}
-use Rattle.fp_field.specs.Served.{served}
-use Rattle.fp_field.proofs.ServedLemmas.{served_field}
+use Rattle.std.proofs.{Common.{◌≡◌, ◌∙◌, ◌==◌, Bool, true, false, cond, ℕ, zero, suc, ◌+◌, ◌*◌, ◌-◌, ◌%◌, ◌<◌, ◌≤◌, inl, inr, List, [], ◌∷◌, length, map, get_or, arith, refl, sym, ap, ap₂, subst, IsTrue, eqb-true}, Math.Nat.mod-eq_of_lt, lemmas.Bool.cases_Bool, lemmas.List.length-map}
+use Rattle.fp_field.{specs.Served.served, proofs.ServedLemmas.served_field}
 use Rattle.signed_sum.specs.Names.{numbers_from}
-use Rattle.linear_law.specs.Names.{Congruent, IsField, negated, Each, copies, plus_scaled, combination}
-use Rattle.linear_law.proofs.Names.{Congruent_add, Congruent_mod, Congruent_mul, Congruent_of, Congruent_refl, Congruent_scale, Congruent_trans, add-negated, each_get_or, columns-combined}
-use Rattle.simplicial_law.specs.Names.{Chain, Cochain as SimplexCochain, HasCoordinates, IsCocycle, cochain_of}
-use Rattle.simplicial_law.proofs.Names.{coboundaries, cocycles}
-use Rattle.complex_index.specs.declared.indexed.Cochain.{Cochain}
-use Rattle.complex_index.specs.Names.{level}
+use Rattle.linear_law.{specs.Names.{Congruent, IsField, negated, Each, copies, plus_scaled, combination}, proofs.Names.{Congruent_add, Congruent_mod, Congruent_mul, Congruent_of, Congruent_refl, Congruent_scale, Congruent_trans, add-negated, each_get_or, columns-combined}}
+use Rattle.simplicial_law.{specs.Names.{Chain, Cochain as SimplexCochain, HasCoordinates, IsCocycle, cochain_of}, proofs.Names.{coboundaries, cocycles}}
+use Rattle.complex_index.specs.{declared.indexed.Cochain.Cochain, Names.level}
 use Rattle.cohomology.specs.Names.{chains_at, cochains_at}
 use Rattle.report_law.proofs.Names.{coordinates-alike, get_or-map}
 use Rattle.op_matrix.proofs.TableLemmas.{basis-in}
-use Rattle.class_matrices.specs.Names.{Coordinates, Matrices, HasThese, IsSetting, unit_coordinates}
-use Rattle.class_matrices.proofs.ListLemmas.{numbers-count}
+use Rattle.class_matrices.{specs.Names.{Coordinates, Matrices, HasThese, IsSetting, unit_coordinates}, proofs.ListLemmas.numbers-count}
 
 -- ---- differences
 

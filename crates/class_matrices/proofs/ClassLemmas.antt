@@ -1,19 +1,12 @@
 -- The classes of a complex as they are kept by place, and as they are listed.
-use Rattle.std.proofs.Common.{◌≡◌, ◌∙◌, ℕ, ◌<◌, ◌≤◌, ◌⊎◌, inl, inr, true, List, [], ◌∷◌, length, map, get_or, arith, refl, sym, ap, ap₂, subst, lt-ltb}
-use Rattle.std.specs.List.{AllZip}
-use Rattle.std.proofs.lemmas.Bool.{cases_lt}
-use Rattle.std.proofs.lemmas.List.{length-map}
-use Rattle.std.proofs.lemmas.Simd.{map-map}
+use Rattle.std.{proofs.Common.{◌≡◌, ◌∙◌, ℕ, ◌<◌, ◌≤◌, ◌⊎◌, inl, inr, true, List, [], ◌∷◌, length, map, get_or, arith, refl, sym, ap, ap₂, subst, lt-ltb}, specs.List.AllZip, proofs.lemmas.Bool.cases_lt, proofs.lemmas.List.length-map, proofs.lemmas.Simd.map-map}
 use Rattle.signed_sum.specs.Names.{numbers_from}
 use Rattle.simplicial_law.specs.Names.{IsSimplex, Chain, IsCoboundary, IsCocycle, IsCanonicalModulo, AreCanonicalModulo, cochain_of}
-use Rattle.complex_index.specs.declared.indexed.Cochain.{Cochain}
-use Rattle.complex_index.specs.Names.{IsIndexOf, level}
+use Rattle.complex_index.specs.{declared.indexed.Cochain.Cochain, Names.{IsIndexOf, level}}
 use Rattle.cohomology.specs.Names.{AreCanonicalIn, chains_at}
-use Rattle.report_law.specs.Names.{has_class, Classes, ranks}
-use Rattle.report_law.proofs.Names.{get_or-past}
+use Rattle.report_law.{specs.Names.{has_class, Classes, ranks}, proofs.Names.get_or-past}
 use Rattle.op_matrix.specs.Columns.{AreListedAs}
-use Rattle.class_matrices.specs.Names.{class_counts, listed_classes}
-use Rattle.class_matrices.proofs.ListLemmas.{numbers-at, numbers-count}
+use Rattle.class_matrices.{specs.Names.{class_counts, listed_classes}, proofs.ListLemmas.{numbers-at, numbers-count}}
 
 module _ (p : ℕ) (levels : List (List (List ℕ))) (classes : ℕ → List (Cochain p)) (canonical : (n : ℕ) → AreCanonicalIn p levels n (classes n)) where
   abbrev listed : Classes

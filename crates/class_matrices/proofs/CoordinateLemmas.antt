@@ -1,20 +1,15 @@
 -- What the coordinates are that were added up.
-use Rattle.std.proofs.Common.{◌≡◌, ◌∙◌, Bool, true, ℕ, ◌+◌, ◌*◌, ◌%◌, List, [], ◌∷◌, length, map, arith, refl, sym, ap, ap₂, subst, IsTrue, None, Some, if◌then◌else◌, unwrap_or}
-use Rattle.std.specs.declared.option.Option.{Option}
-use Rattle.fp_field.specs.Served.{served}
-use Rattle.fp_field.proofs.ServedLemmas.{served_field}
+use Rattle.std.{proofs.Common.{◌≡◌, ◌∙◌, Bool, true, ℕ, ◌+◌, ◌*◌, ◌%◌, List, [], ◌∷◌, length, map, arith, refl, sym, ap, ap₂, subst, IsTrue, None, Some, if◌then◌else◌, unwrap_or}, specs.declared.option.Option.Option}
+use Rattle.fp_field.{specs.Served.served, proofs.ServedLemmas.served_field}
 use Rattle.linear_law.specs.Names.{copies}
 use Rattle.simplicial_law.specs.Names.{Cochain as SimplexCochain, HasCoordinates, IsCocycle}
 use Rattle.steenrod_law.specs.Names.{coefficient_products, cup_product}
 use Rattle.complex_index.specs.declared.indexed.Cochain.{Cochain}
-use Rattle.cohomology.specs.declared.basis.Column.{Column}
-use Rattle.cohomology.specs.Names.{cochains_at}
+use Rattle.cohomology.specs.{declared.basis.Column.Column, Names.cochains_at}
 use Rattle.report.specs.declared.plan.Op.{Op}
 use Rattle.report_law.specs.Names.{IsOperation, is_defined, target, target_degree}
 use Rattle.op_matrix.specs.Columns.{values_of}
-use Rattle.class_matrices.specs.Names.{Coordinates, Matrices, OperationMatrix, ProductMatrix, HasThese, IsSetting, IsFound, Fits, sum_onto}
-use Rattle.class_matrices.proofs.CarryLemmas.{closed-product, closed-result, product-values, result-values}
-use Rattle.class_matrices.proofs.SumLemmas.{bit-mod}
+use Rattle.class_matrices.{specs.Names.{Coordinates, Matrices, OperationMatrix, ProductMatrix, HasThese, IsSetting, IsFound, Fits, sum_onto}, proofs.CarryLemmas.{closed-product, closed-result, product-values, result-values}, proofs.SumLemmas.bit-mod}
 
 -- the degree of a result
 pub target-is : (p q d : ℕ) (op : Op) → is_defined p q op ≡ true → target p op q ≡ Some d → d ≡ target_degree p q op

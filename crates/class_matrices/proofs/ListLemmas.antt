@@ -1,10 +1,7 @@
 -- Lists over numbers, and lists that are made item by item.
-use Rattle.std.proofs.Common.{◌≡◌, ◌≢◌, ◌∙◌, ℕ, zero, suc, ◌+◌, ◌<◌, ◌≤◌, ◌⊎◌, inl, inr, List, [], ◌∷◌, ◌++◌, drop, length, map, min, take, get_or, arith, refl, sym, ap, ap₂, subst}
-use Rattle.std.proofs.lemmas.Bool.{cases_lt}
-use Rattle.std.proofs.lemmas.List.{drop-map, drop_min, length-map, map-append, take_min, take_more}
+use Rattle.std.proofs.{Common.{◌≡◌, ◌≢◌, ◌∙◌, ℕ, zero, suc, ◌+◌, ◌<◌, ◌≤◌, ◌⊎◌, inl, inr, List, [], ◌∷◌, ◌++◌, drop, length, map, min, take, get_or, arith, refl, sym, ap, ap₂, subst}, lemmas.Bool.cases_lt, lemmas.List.{drop-map, drop_min, length-map, map-append, take_min, take_more}}
 use Rattle.signed_sum.specs.Names.{numbers_from}
-use Rattle.linear_law.specs.Names.{Among, Each, copies}
-use Rattle.linear_law.proofs.Names.{each_get_or, each_itself, each_push}
+use Rattle.linear_law.{specs.Names.{Among, Each, copies}, proofs.Names.{each_get_or, each_itself, each_push}}
 
 -- ---- lists over numbers
 

@@ -1,11 +1,8 @@
 -- The live products of a complex.
-use Rattle.std.proofs.Common.{◌≡◌, ℕ, ◌+◌, ◌&&◌, true, List, length, map, arith, refl}
-use Rattle.std.proofs.lemmas.Bool.{and_from}
-use Rattle.linear_law.specs.Names.{Among}
-use Rattle.linear_law.proofs.Names.{among_map}
+use Rattle.std.proofs.{Common.{◌≡◌, ℕ, ◌+◌, ◌&&◌, true, List, length, map, arith, refl}, lemmas.Bool.and_from}
+use Rattle.linear_law.{specs.Names.Among, proofs.Names.among_map}
 use Rattle.report.specs.declared.plan.Product.{Product}
-use Rattle.report_law.specs.Names.{degrees, has_class, products}
-use Rattle.report_law.proofs.Names.{has-degree, in-filter, in-flat_map, in-numbers}
+use Rattle.report_law.{specs.Names.{degrees, has_class, products}, proofs.Names.{has-degree, in-filter, in-flat_map, in-numbers}}
 
 pub in-products : (ranks : List ℕ) (a b : ℕ) → has_class ranks a ≡ true → has_class ranks b ≡ true → has_class ranks (a + b) ≡ true → Among (record { a = a; b = b }) (products ranks)
 in-products ranks a b h k l =

@@ -1,12 +1,8 @@
 -- Sums of columns, in any order and by parts.
-use Rattle.std.proofs.Common.{◌≡◌, Bool, true, false, cond, ℕ, zero, suc, ◌+◌, ◌*◌, ◌%◌, ◌<◌, ◌≤◌, ◌⊎◌, inl, inr, List, [], ◌∷◌, ◌++◌, map, length, take, drop, get_or, arith, refl, sym, ap, ap₂, subst, ◌∙◌, mod-lt}
-use Rattle.std.proofs.Math.Nat.{mod-eq_of_lt}
-use Rattle.std.proofs.lemmas.List.{drop_more, length-map}
-use Rattle.linear_law.specs.Names.{Congruent, Each, copies, matrix_times, plus_scaled}
-use Rattle.linear_law.proofs.Names.{Congruent_add, Congruent_mod, Congruent_mul, Congruent_of, Congruent_refl, Congruent_sym, Congruent_trans, each_get_or, each_take}
+use Rattle.std.proofs.{Common.{◌≡◌, Bool, true, false, cond, ℕ, zero, suc, ◌+◌, ◌*◌, ◌%◌, ◌<◌, ◌≤◌, ◌⊎◌, inl, inr, List, [], ◌∷◌, ◌++◌, map, length, take, drop, get_or, arith, refl, sym, ap, ap₂, subst, ◌∙◌, mod-lt}, Math.Nat.mod-eq_of_lt, lemmas.List.{drop_more, length-map}}
+use Rattle.linear_law.{specs.Names.{Congruent, Each, copies, matrix_times, plus_scaled}, proofs.Names.{Congruent_add, Congruent_mod, Congruent_mul, Congruent_of, Congruent_refl, Congruent_sym, Congruent_trans, each_get_or, each_take}}
 use Rattle.steenrod_law.specs.Names.{coefficient_products}
-use Rattle.class_matrices.specs.Names.{Fits, sum_onto}
-use Rattle.class_matrices.proofs.ListLemmas.{mapped-at}
+use Rattle.class_matrices.{specs.Names.{Fits, sum_onto}, proofs.ListLemmas.mapped-at}
 
 module _ (p : ℕ) where
   -- ---- one column

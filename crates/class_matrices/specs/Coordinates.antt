@@ -1,13 +1,9 @@
 -- Coordinates of cocycles for the classes of a complex.
 use Rattle.std.specs.Prelude.{ℕ, Bool, List}
 use Rattle.simplicial_law.specs.Names.{Cochain as SimplexCochain, HasCoordinates, IsCocycle}
-use Rattle.complex_index.specs.declared.indexed.Cochain.{Cochain}
-use Rattle.complex_index.specs.Names.{IsIndexOf}
+use Rattle.complex_index.specs.{declared.indexed.Cochain.Cochain, Names.IsIndexOf}
 use Rattle.cohomology.specs.Names.{AreCanonicalIn, cochains_at}
-use Rattle.class_matrices.specs.declared.coordinates.Coordinates.{Coordinates}
-use Rattle.class_matrices.specs.declared.matrices.Matrices.{Matrices}
-use Rattle.class_matrices.specs.Listed.{class_counts}
-use Rattle.class_matrices.specs.Matrices.{AreMatrices}
+use Rattle.class_matrices.specs.{declared.coordinates.Coordinates.Coordinates, declared.matrices.Matrices.Matrices, Listed.class_counts, Matrices.AreMatrices}
 
 -- a complex with these levels, its canonical classes, and its matrices
 pub record IsSetting {p : ℕ} (detailed : Bool) (facets : List (List ℕ)) (levels : List (List (List ℕ))) (classes : ℕ → List (Cochain p)) (m : Matrices p) : Type 0 where

@@ -1,8 +1,7 @@
 -- The classes of a complex by degree, as a report lists them.
 use Rattle.std.specs.Prelude.{ℕ, List, length, map}
 use Rattle.signed_sum.specs.Names.{numbers_from}
-use Rattle.complex_index.specs.declared.indexed.Cochain.{Cochain}
-use Rattle.complex_index.specs.Names.{level}
+use Rattle.complex_index.specs.{declared.indexed.Cochain.Cochain, Names.level}
 use Rattle.cohomology.specs.Names.{chains_at}
 use Rattle.report_law.specs.Names.{Classes}
 

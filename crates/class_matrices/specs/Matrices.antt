@@ -5,9 +5,7 @@ use Rattle.complex_index.specs.declared.indexed.Cochain.{Cochain}
 use Rattle.may_elements.specs.Stored.{stored_at}
 use Rattle.report_law.specs.Names.{blocks, products, complex_elements}
 use Rattle.op_matrix.specs.Tables.{IsOperationMatrix, IsProductMatrix}
-use Rattle.class_matrices.specs.declared.matrices.Matrices.{Matrices}
-use Rattle.class_matrices.specs.declared.matrices.OperationMatrix.{OperationMatrix}
-use Rattle.class_matrices.specs.declared.matrices.ProductMatrix.{ProductMatrix}
+use Rattle.class_matrices.specs.declared.matrices.{Matrices.Matrices, OperationMatrix.OperationMatrix, ProductMatrix.ProductMatrix}
 
 -- m is the matrix of its product, or of its block, on the classes of each complex with these levels
 abbrev pub IsProductOf : {p : ℕ} → Bool → List (List (List ℕ)) → (ℕ → List (Cochain p)) → ProductMatrix p → Type 0

@@ -1,16 +1,7 @@
 -- From the clauses of clap to what is given.
-use Rattle.std.proofs.Common.{◌≡◌, ◌∙◌, ◌⊎◌, List, [], ◌∷◌, Some, None, true, refl, ap, subst, inl, inr, sym, codes, Ok, Err, Result, IfOk, MatchResult}
-use Rattle.std.specs.declared.option.Option.{Option}
-use Rattle.clap.specs.Words.{App, Row, Text, HasMatchesOf, FailsBy, HasKind, IsAmong, Kinds, fault_of, found_of, is_simple, is_simple_and_free, kind_of, matches_of, rows_of}
-use Rattle.clap.specs.declared.error.Error.{Error}
-use Rattle.clap.specs.declared.error.kind.ErrorKind.{ErrorKind}
-use Rattle.clap.specs.declared.error.kind.ErrorKind.TheVariants.{OutOfMemory}
-use Rattle.clap.specs.declared.parser.matches.ArgMatches.{ArgMatches}
-use Rattle.clap.specs.declared.parser.matches.Found.{Found}
-use Rattle.clap.proofs.WalkLemmas.{first_value-rows, raw_values-rows}
-use Rattle.clap.proofs.OnLiterals.{clap_on_literals}
-use Rattle.comch_app.specs.CommandLine.{line}
-use Rattle.comch_app.specs.Names.{given, given_at, given_by, given_in, Given, GivesUp}
+use Rattle.std.{proofs.Common.{◌≡◌, ◌∙◌, ◌⊎◌, List, [], ◌∷◌, Some, None, true, refl, ap, subst, inl, inr, sym, codes, Ok, Err, Result, IfOk, MatchResult}, specs.declared.option.Option.Option}
+use Rattle.clap.{specs.Words.{App, Row, Text, HasMatchesOf, FailsBy, HasKind, IsAmong, Kinds, fault_of, found_of, is_simple, is_simple_and_free, kind_of, matches_of, rows_of}, specs.declared.error.Error.Error, specs.declared.error.kind.ErrorKind.ErrorKind, specs.declared.error.kind.ErrorKind.TheVariants.OutOfMemory, specs.declared.parser.matches.ArgMatches.ArgMatches, specs.declared.parser.matches.Found.Found, proofs.WalkLemmas.{first_value-rows, raw_values-rows}, proofs.OnLiterals.clap_on_literals}
+use Rattle.comch_app.specs.{CommandLine.line, Names.{given, given_at, given_by, given_in, Given, GivesUp}}
 
 pub line_is_simple : is_simple line ≡ true
 unfolding line clap_on_literals

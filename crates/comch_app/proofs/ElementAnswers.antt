@@ -1,15 +1,11 @@
 -- What is known of a request, and of the candidates of an element.
-use Rattle.std.proofs.Common.{◌≡◌, ℕ, ◌≤◌, ◌^◌, ◌&&◌, Bool, true, false, List, [], ◌∷◌, Some, None, Ok, Err, Result, IfOk, IfSome, ℤ, if◌then◌else◌, nat_le, option_and_then, option_map, refl, arith, codes, bytes_eq, leb-true}
-use Rattle.std.specs.declared.option.Option.{Option}
-use Rattle.std.specs.Cmp.Lexicographic.{slice_cmp}
-use Rattle.std.specs.Ordering.{nat_cmp}
+use Rattle.std.{proofs.Common.{◌≡◌, ℕ, ◌≤◌, ◌^◌, ◌&&◌, Bool, true, false, List, [], ◌∷◌, Some, None, Ok, Err, Result, IfOk, IfSome, ℤ, if◌then◌else◌, nat_le, option_and_then, option_map, refl, arith, codes, bytes_eq, leb-true}, specs.declared.option.Option.Option, specs.Cmp.Lexicographic.slice_cmp, specs.Ordering.nat_cmp}
 use Rattle.operad_law.specs.FormalSums.{IsFormalSum, IsSameSum}
 use Rattle.table_reduction_law.specs.Names.{may_element}
 use Rattle.clap.specs.Words.{Text}
 use Rattle.fp_field.specs.Served.{served}
 use Rattle.may_elements.specs.Counted.{cut_off}
-use Rattle.comch_app.specs.Names.{IsElementText, Given, element_text, Request, Basis, Bockstein, Certify, Check, May, Report, Sample, IsAnswerable, alone, certify_request, limit_of, may_request, sample_request, report_request, request_by}
-use Rattle.comch_app.specs.Requests.{number_word}
+use Rattle.comch_app.specs.{Names.{IsElementText, Given, element_text, Request, Basis, Bockstein, Certify, Check, May, Report, Sample, IsAnswerable, alone, certify_request, limit_of, may_request, sample_request, report_request, request_by}, Requests.number_word}
 
 both : (a b : Bool) → (a && b) ≡ true → (a ≡ true) × (b ≡ true)
 both true b e = (refl, e)

@@ -1,14 +1,8 @@
 -- How a run ends, by the text that was to be written.
-use Rattle.std.proofs.Common.{◌≡◌, ◌+◌, ◌<◌, List, [], ◌++◌, ℕ, inl, inr, refl, sym, subst, arith, Some, None, Ok, Err, IfOk, length, length-append, append-nil, Result, unwrap_or, lt-ltb}
-use Rattle.std.specs.declared.option.Option.{Option}
-use Rattle.std.specs.Io.KnownBytes.{Appends, IsAtEnd}
-use Rattle.comch_io.specs.Causes.{Rose}
-use Rattle.comch_io.specs.Reading.{Gave, ReadGave}
-use Rattle.comch_io.specs.declared.read_end.ReadEnd.{ReadEnd}
+use Rattle.std.{proofs.Common.{◌≡◌, ◌+◌, ◌<◌, List, [], ◌++◌, ℕ, inl, inr, refl, sym, subst, arith, Some, None, Ok, Err, IfOk, length, length-append, append-nil, Result, unwrap_or, lt-ltb}, specs.declared.option.Option.Option, specs.Io.KnownBytes.{Appends, IsAtEnd}}
+use Rattle.comch_io.specs.{Causes.Rose, Reading.{Gave, ReadGave}, declared.read_end.ReadEnd.ReadEnd}
 use Rattle.comch_io.specs.declared.read_end.ReadEnd.TheVariants as end
-use Rattle.complex_file.specs.Names.{Spelled}
-use Rattle.complex_file.specs.Input.{input_of}
-use Rattle.complex_file.specs.declared.kind.InputKind.TheVariants.{TooLong}
+use Rattle.complex_file.specs.{Names.Spelled, Input.input_of, declared.kind.InputKind.TheVariants.TooLong}
 use Rattle.comch_app.specs.Names.{AtFault, Ends, EndsRead, MayAnswers, RefusesWords, WritesRefusal, refusal, CheckAnswers, SampleAnswers, AnswersRead, AskedAnswers, IsMade, SaysIt, StopCause, WantedOf, most_bytes, Stop, Asked, Request, May, Sample, Wanted, Status, BadWords, InputRefused, OutOfMemory, ReadFault, WriteFault}
 use Rattle.comch_app.specs.declared.answer.Stop.TheVariants as stop
 use Rattle.comch_app.specs.declared.answer.Asked.TheVariants as asked

@@ -1,15 +1,8 @@
 -- From the answer to a job to the answer to the bytes that spell it.
-use Rattle.std.proofs.Common.{◌≡◌, ℕ, List, Some, None, Ok, Err, Result, IfOk, true, ap, subst, sym}
-use Rattle.std.specs.declared.alloc.AllocError.{AllocError}
-use Rattle.std.specs.declared.option.Option.{Option}
-use Rattle.complex_file.specs.Names.{Spelled}
-use Rattle.complex_file.specs.Input.{input_of}
-use Rattle.complex_file.specs.Jobs.{is_job}
-use Rattle.report.specs.declared.form.Form.{Form}
-use Rattle.report.specs.declared.form.Form.TheVariants.{Basis}
-use Rattle.report.specs.declared.job.Report.{Report}
-use Rattle.report_law.proofs.Names.{headline_law}
-use Rattle.report_law.specs.Names.{IsReportOf, PassesLimit}
+use Rattle.std.{proofs.Common.{◌≡◌, ℕ, List, Some, None, Ok, Err, Result, IfOk, true, ap, subst, sym}, specs.declared.alloc.AllocError.AllocError, specs.declared.option.Option.Option}
+use Rattle.complex_file.specs.{Names.Spelled, Input.input_of, Jobs.is_job}
+use Rattle.report.specs.declared.{form.Form.Form, form.Form.TheVariants.Basis, job.Report.Report}
+use Rattle.report_law.{proofs.Names.headline_law, specs.Names.{IsReportOf, PassesLimit}}
 use Rattle.report_text_law.specs.Text.{text_of}
 use Rattle.comch_app.specs.Names.{BocksteinAnswers, InputAnswers, IsReportText, JobAnswers, refusal, IsMade, WantedOf, Wanted, Status, Done, TooManyTerms}
 use Rattle.comch_app.specs.declared.answer.Wanted.TheVariants as wanted

@@ -1,6 +1,5 @@
 -- The answers of `sample`.
-use Rattle.std.proofs.Common.{◌≡◌, ◌+◌, ◌^◌, ℕ, List, ◌++◌, [], ◌∷◌, Ok, Err, Result, IfOk, ap, subst, sym, ◌∙◌, append_assoc}
-use Rattle.std.specs.declared.alloc.AllocError.{AllocError}
+use Rattle.std.{proofs.Common.{◌≡◌, ◌+◌, ◌^◌, ℕ, List, ◌++◌, [], ◌∷◌, Ok, Err, Result, IfOk, ap, subst, sym, ◌∙◌, append_assoc}, specs.declared.alloc.AllocError.AllocError}
 use Rattle.report_law.specs.Names.{PassesLimit}
 use Rattle.sample_torus.specs.Torus.{torus_job}
 use Rattle.comch_app.specs.Names.{refusal, SampleAnswers, Status, TooManyTerms}

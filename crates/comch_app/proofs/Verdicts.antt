@@ -1,26 +1,12 @@
 -- What the answer of `check` shows, and that it never says no to what `certify` writes.
-use Rattle.std.proofs.Common.{◌≡◌, ℕ, zero, suc, ◌+◌, ◌<◌, ◌≤◌, ◌^◌, Bool, true, false, refl, sym, ◌∙◌, ap, subst, arith, List, [], ◌∷◌, length, Some, None, IfSome, nat_lt, if◌then◌else◌, le-ltb, ltb-false, length-append}
-use Rattle.std.specs.declared.option.Option.{Option}
-use Rattle.std.proofs.lemmas.List.{length-map}
+use Rattle.std.{proofs.Common.{◌≡◌, ℕ, zero, suc, ◌+◌, ◌<◌, ◌≤◌, ◌^◌, Bool, true, false, refl, sym, ◌∙◌, ap, subst, arith, List, [], ◌∷◌, length, Some, None, IfSome, nat_lt, if◌then◌else◌, le-ltb, ltb-false, length-append}, specs.declared.option.Option.Option, proofs.lemmas.List.length-map}
 use Rattle.complex_file.proofs.JobLemmas.{spelled_job}
-use Rattle.report.specs.declared.form.Form.TheVariants.{Certificate}
-use Rattle.report.specs.declared.job.Report.{Report}
-use Rattle.report_text_law.proofs.Refusals.{one_report}
+use Rattle.report.specs.declared.{form.Form.TheVariants.Certificate, job.Report.Report}
+use Rattle.report_text_law.{proofs.Refusals.one_report, specs.declared.line.Line.Line, specs.Names.{Spells, certificate_lines, ended, joined, printed, shown, words}, specs.declared.line.Line.TheVariants.{Below as below_line, CartanNo as cartan_no, CartanYes as cartan_yes, Class as class_line, Column as column_line, Complex as complex_line, Cycle as cycle_line, Degree as degree_line, Done as done_line, End as end_line, Facet as facet_line, Heading as heading_line, Induced as induced_line, Map as map_line, Operation as operation_line, Pair as pair_line, Prime as prime_line, Product as product_line, Send as send_line, With as with_line}, specs.Text.text_of}
 use Rattle.report_law.specs.Names.{IsWithinLimit, addends, first_past, printed_count}
-use Rattle.report_text_law.specs.declared.line.Line.{Line}
-use Rattle.report_text_law.specs.Names.{Spells, certificate_lines, ended, joined, printed, shown, words}
-use Rattle.report_text_law.specs.declared.line.Line.TheVariants.{Below as below_line, CartanNo as cartan_no, CartanYes as cartan_yes, Class as class_line, Column as column_line, Complex as complex_line, Cycle as cycle_line, Degree as degree_line, Done as done_line, End as end_line, Facet as facet_line, Heading as heading_line, Induced as induced_line, Map as map_line, Operation as operation_line, Pair as pair_line, Prime as prime_line, Product as product_line, Send as send_line, With as with_line}
-use Rattle.report_text_law.specs.Text.{text_of}
-use Rattle.certificate_law.specs.Names.{Certifies, FailsFirst, line_said, stated}
-use Rattle.certificate_law.proofs.CertifiedParts.{certified_law}
-use Rattle.certificate_law.proofs.Failures.{first_failure_law}
-use Rattle.certificate_law.proofs.JobLaw.{complete_law}
-use Rattle.certificate_law.proofs.Limits.{more_allowed}
-use Rattle.certificate_law.proofs.StatedLines.{stated_lines_law}
-use Rattle.certificate_law.proofs.WrittenJobs.{well_formed_law}
+use Rattle.certificate_law.{specs.Names.{Certifies, FailsFirst, line_said, stated}, proofs.CertifiedParts.certified_law, proofs.Failures.first_failure_law, proofs.JobLaw.complete_law, proofs.Limits.more_allowed, proofs.StatedLines.stated_lines_law, proofs.WrittenJobs.well_formed_law}
 use Rattle.comch_io.specs.Causes.{Rose}
-use Rattle.comch_app.specs.Names.{AtFault, Ends, EndsRead, CheckAnswers, IsCertified, IsNo, IsRefuted, IsShown, Status, Done, No, BadWords, InputRefused, TooManyTerms, OutOfMemory, ReadFault, WriteFault}
-use Rattle.comch_app.proofs.Endings.{told_ends}
+use Rattle.comch_app.{specs.Names.{AtFault, Ends, EndsRead, CheckAnswers, IsCertified, IsNo, IsRefuted, IsShown, Status, Done, No, BadWords, InputRefused, TooManyTerms, OutOfMemory, ReadFault, WriteFault}, proofs.Endings.told_ends}
 
 -- ---- how many lines a text has
 

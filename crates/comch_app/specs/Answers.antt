@@ -1,25 +1,15 @@
 -- What the program answers to words and bytes.
-use Rattle.std.specs.Prelude.{◌≡◌, ◌≤◌, ◌<◌, ◌^◌, ℕ, ℤ, List, [], ◌++◌, Some, Ok, Err, IfSome, unwrap_or}
-use Rattle.std.specs.declared.option.Option.{Option}
-use Rattle.std.specs.Io.KnownBytes.{Appends}
-use Rattle.comch_io.specs.Causes.{Rose}
-use Rattle.comch_io.specs.Reading.{AppendsPrefix, Gave}
-use Rattle.complex_file.specs.Names.{Spelled}
-use Rattle.complex_file.specs.Input.{input_of}
-use Rattle.report.specs.declared.form.Form.{Form}
-use Rattle.report.specs.declared.job.Report.{Report}
+use Rattle.std.specs.{Prelude.{◌≡◌, ◌≤◌, ◌<◌, ◌^◌, ℕ, ℤ, List, [], ◌++◌, Some, Ok, Err, IfSome, unwrap_or}, declared.option.Option.Option, Io.KnownBytes.Appends, Cmp.Lexicographic.slice_cmp, Ordering.nat_cmp}
+use Rattle.comch_io.specs.{Causes.Rose, Reading.{AppendsPrefix, Gave}}
+use Rattle.complex_file.specs.{Names.Spelled, Input.input_of}
+use Rattle.report.specs.declared.{form.Form.Form, job.Report.Report}
 use Rattle.report_law.specs.Names.{Headline, IsReportOf, IsWithinLimit, PassesLimit}
 use Rattle.report_text_law.specs.Text.{text_of}
 use Rattle.bockstein_text.specs.Names.{IsBocksteinText}
-use Rattle.std.specs.Cmp.Lexicographic.{slice_cmp}
-use Rattle.std.specs.Ordering.{nat_cmp}
 use Rattle.operad_law.specs.FormalSums.{IsFormalSum, IsSameSum}
 use Rattle.table_reduction_law.specs.Names.{candidate_count, may_element}
 use Rattle.may_elements.specs.Counted.{cut_off}
-use Rattle.comch_app.specs.Elements.{element_text}
-use Rattle.comch_app.specs.declared.status.Status.{Status}
-use Rattle.comch_app.specs.declared.status.Status.TheVariants.{Done, BadWords, InputRefused, TooManyTerms, OutOfMemory, ReadFault, WriteFault}
-use Rattle.comch_app.specs.Refusals.{refusal}
+use Rattle.comch_app.specs.{Elements.element_text, declared.status.Status.Status, declared.status.Status.TheVariants.{Done, BadWords, InputRefused, TooManyTerms, OutOfMemory, ReadFault, WriteFault}, Refusals.refusal}
 
 -- ---- bases, reports, certificates and Bocksteins
 

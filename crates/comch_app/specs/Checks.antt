@@ -2,15 +2,11 @@
 use Rattle.std.specs.Prelude.{◌≡◌, ◌≤◌, ◌<◌, ◌^◌, ℕ, zero, suc, List, Some, length, codes}
 use Rattle.linear_law.specs.Names.{Each}
 use Rattle.complex_file.specs.declared.kind.InputKind.TheVariants.{TooLong}
-use Rattle.report.specs.declared.form.Form.TheVariants.{Certificate}
-use Rattle.report.specs.declared.job.Report.{Report}
+use Rattle.report.specs.declared.{form.Form.TheVariants.Certificate, job.Report.Report}
 use Rattle.report_law.specs.Names.{ComplexPromise}
 use Rattle.report_text_law.specs.Names.{IsRefused, Spells}
 use Rattle.certificate_law.specs.Names.{Certifies, FailsFirst, MapShown, itself}
-use Rattle.comch_app.specs.declared.status.Status.{Status}
-use Rattle.comch_app.specs.declared.status.Status.TheVariants.{Done, No, InputRefused, OutOfMemory, ReadFault}
-use Rattle.comch_app.specs.Answers.{InputAnswers, JobAnswers}
-use Rattle.comch_app.specs.Refusals.{ended, refusal}
+use Rattle.comch_app.specs.{declared.status.Status.Status, declared.status.Status.TheVariants.{Done, No, InputRefused, OutOfMemory, ReadFault}, Answers.{InputAnswers, JobAnswers}, Refusals.{ended, refusal}}
 
 -- The text is the certificate of a report that certifies. So all that the headline promises holds of what it lists, of the
 -- complexes that its facets give and of its maps.

@@ -1,7 +1,6 @@
 -- The exit codes.
 use Rattle.std.specs.Prelude.{ℕ}
-use Rattle.comch_app.specs.declared.status.Status.{Status}
-use Rattle.comch_app.specs.declared.status.Status.TheVariants.{Done, No, BadWords, InputRefused, TooManyTerms, OutOfMemory, ReadFault, WriteFault}
+use Rattle.comch_app.specs.declared.status.{Status.Status, Status.TheVariants.{Done, No, BadWords, InputRefused, TooManyTerms, OutOfMemory, ReadFault, WriteFault}}
 
 abbrev pub code_of : Status → ℕ
 code_of Done = 0

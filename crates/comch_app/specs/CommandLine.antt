@@ -1,12 +1,6 @@
 -- The command line as clap sees it: one simple command with a required word, up to two numbers and an option with one value.
-use Rattle.std.specs.Prelude.{◌≡◌, true, false, List, [], ◌∷◌, Some, None, codes, unwrap_or, option_map}
-use Rattle.std.specs.declared.option.Option.{Option}
-use Rattle.clap.specs.Words.{App, Kinds, Row, Rule, Text, all_of, first_of, first_value, matched_of, raw_values, new_app, new_rule, with_rule, matches_of, fault_of, rule_of}
-use Rattle.clap.specs.Simple.{on_top}
-use Rattle.clap.specs.declared.parser.matches.Found.{Found}
-use Rattle.clap.specs.declared.builder.arg.Arg.{Arg}
-use Rattle.clap.specs.declared.error.kind.ErrorKind.{ErrorKind}
-use Rattle.clap.specs.declared.error.kind.ErrorKind.TheVariants.{OutOfMemory}
+use Rattle.std.specs.{Prelude.{◌≡◌, true, false, List, [], ◌∷◌, Some, None, codes, unwrap_or, option_map}, declared.option.Option.Option}
+use Rattle.clap.specs.{Words.{App, Kinds, Row, Rule, Text, all_of, first_of, first_value, matched_of, raw_values, new_app, new_rule, with_rule, matches_of, fault_of, rule_of}, Simple.on_top, declared.parser.matches.Found.Found, declared.builder.arg.Arg.Arg, declared.error.kind.ErrorKind.ErrorKind, declared.error.kind.ErrorKind.TheVariants.OutOfMemory}
 
 abbrev pub command_rule : Rule
 command_rule = record (new_rule (codes "command")) { required = true }

@@ -1,6 +1,5 @@
 -- The text of a May element.
-use Rattle.std.specs.Prelude.{ℕ, ℤ, List, ◌∷◌, ◌++◌, codes, flat_map}
-use Rattle.std.specs.Fmt.{decimal, signed_decimal}
+use Rattle.std.specs.{Prelude.{ℕ, ℤ, List, ◌∷◌, ◌++◌, codes, flat_map}, Fmt.{decimal, signed_decimal}}
 use Rattle.comch_app.specs.Refusals.{ended}
 
 -- a number behind a blank

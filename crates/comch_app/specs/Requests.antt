@@ -1,13 +1,9 @@
 -- Which words are taken, and what they ask for.
-use Rattle.std.specs.Prelude.{◌≤◌, ◌^◌, ℕ, ◌&&◌, nat_le, length, List, [], ◌∷◌, Some, None, IsTrue, codes, if◌then◌else◌, option_and_then, option_map}
-use Rattle.std.specs.declared.option.Option.{Option}
-use Rattle.std.specs.Str.{bytes_eq}
+use Rattle.std.specs.{Prelude.{◌≤◌, ◌^◌, ℕ, ◌&&◌, nat_le, length, List, [], ◌∷◌, Some, None, IsTrue, codes, if◌then◌else◌, option_and_then, option_map}, declared.option.Option.Option, Str.bytes_eq}
 use Rattle.clap.specs.Words.{Text}
 use Rattle.fp_field.specs.Served.{served}
 use Rattle.complex_file.specs.Names.{is_not_empty, number_after}
-use Rattle.comch_app.specs.declared.request.Request.{Request}
-use Rattle.comch_app.specs.declared.request.Request.TheVariants.{Basis, Bockstein, Report, Certify, Check, May, Sample}
-use Rattle.comch_app.specs.CommandLine.{Given, given}
+use Rattle.comch_app.specs.{declared.request.Request.Request, declared.request.Request.TheVariants.{Basis, Bockstein, Report, Certify, Check, May, Sample}, CommandLine.{Given, given}}
 
 -- the number that a word of one to thirteen digits writes
 unfoldable pub number_word : Text → Option ℕ

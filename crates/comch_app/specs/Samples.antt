@@ -1,13 +1,8 @@
 -- What `sample` answers.
 use Rattle.std.specs.Prelude.{◌≡◌, ℕ, ◌+◌, ◌^◌, List, [], ◌∷◌, ◌++◌, codes, flat_map}
-use Rattle.sample_torus.specs.declared.sizes.Sample.{Sample}
-use Rattle.sample_torus.specs.Samples.{IsSample}
-use Rattle.sample_torus.specs.Torus.{torus_facets, torus_job}
+use Rattle.sample_torus.specs.{declared.sizes.Sample.Sample, Samples.IsSample, Torus.{torus_facets, torus_job}}
 use Rattle.report_law.specs.Names.{PassesLimit}
-use Rattle.comch_app.specs.declared.status.Status.{Status}
-use Rattle.comch_app.specs.declared.status.Status.TheVariants.{Done, TooManyTerms, OutOfMemory}
-use Rattle.comch_app.specs.Elements.{spaced_number}
-use Rattle.comch_app.specs.Refusals.{ended, refusal}
+use Rattle.comch_app.specs.{declared.status.Status.Status, declared.status.Status.TheVariants.{Done, TooManyTerms, OutOfMemory}, Elements.spaced_number, Refusals.{ended, refusal}}
 
 -- a word and numbers behind it
 abbrev pub number_line : List ℕ → List ℕ → List ℕ

@@ -1,22 +1,12 @@
 -- What the steps of a run give: forms for the contracts of private functions.
-use Rattle.std.specs.Prelude.{◌≡◌, ◌⊎◌, ℕ, ◌≤◌, ◌^◌, List, [], ◌++◌, Some, None, Err, Result, IfOk, unwrap_or}
-use Rattle.std.specs.declared.option.Option.{Option}
-use Rattle.std.specs.Io.KnownBytes.{Appends, IsAtEnd}
-use Rattle.comch_io.specs.Causes.{Rose}
-use Rattle.comch_io.specs.Reading.{AppendsPrefix, Gave}
-use Rattle.comch_app.specs.declared.status.Status.{Status}
-use Rattle.comch_app.specs.declared.status.Status.TheVariants.{Done, No, InputRefused, TooManyTerms, WriteFault}
-use Rattle.comch_app.specs.declared.answer.Stop.{Stop}
+use Rattle.std.specs.{Prelude.{◌≡◌, ◌⊎◌, ℕ, ◌≤◌, ◌^◌, List, [], ◌++◌, Some, None, Err, Result, IfOk, unwrap_or}, declared.option.Option.Option, Io.KnownBytes.{Appends, IsAtEnd}}
+use Rattle.comch_io.specs.{Causes.Rose, Reading.{AppendsPrefix, Gave}}
+use Rattle.comch_app.specs.{declared.status.Status.Status, declared.status.Status.TheVariants.{Done, No, InputRefused, TooManyTerms, WriteFault}, declared.answer.Stop.Stop, declared.answer.Asked.Asked, declared.answer.Wanted.Wanted, Answers.{BocksteinAnswers, InputAnswers, JobAnswers}, Checks.CheckAnswers, Refusals.refusal}
 use Rattle.comch_app.specs.declared.answer.Stop.TheVariants as stop
-use Rattle.comch_app.specs.declared.answer.Asked.{Asked}
 use Rattle.comch_app.specs.declared.answer.Asked.TheVariants as asked
-use Rattle.comch_app.specs.declared.answer.Wanted.{Wanted}
 use Rattle.comch_app.specs.declared.answer.Wanted.TheVariants as wanted
 use Rattle.complex_file.specs.Names.{Spelled}
 use Rattle.report.specs.declared.form.Form.TheVariants.{Basis}
-use Rattle.comch_app.specs.Answers.{BocksteinAnswers, InputAnswers, JobAnswers}
-use Rattle.comch_app.specs.Checks.{CheckAnswers}
-use Rattle.comch_app.specs.Refusals.{refusal}
 
 -- a stop at a read comes only where the count of faults rose, and everything else leaves the count
 abbrev pub StopCause : {X : Type 0} → ℕ → ℕ → Result X Stop → Type 0

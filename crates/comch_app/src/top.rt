@@ -1,5 +1,4 @@
-ghost use Rattle.std.specs.Prelude.{◌≡◌, ◌≢◌, ℕ, ◌<◌, ◌≤◌, ◌⊎◌, IfSome, IsTrue, None, Some, map, string_bytes};
-ghost use Rattle.std.specs.Io.KnownBytes.{IsAtEnd};
+ghost use Rattle.std.specs.{Prelude.{◌≡◌, ◌≢◌, ℕ, ◌<◌, ◌≤◌, ◌⊎◌, IfSome, IsTrue, None, Some, map, string_bytes}, Io.KnownBytes.IsAtEnd};
 ghost use Rattle.comch_io.specs.Causes.{Rose};
 ghost use Rattle.fp_field.specs.Served.{served};
 ghost use Rattle.comch_app.specs.Names.{Basis, Bockstein, Certify, Check, May, Report, Sample, BocksteinAnswers, Ends, EndsRead, InputAnswers, JobAnswers, MayAnswers, RefusesWords, WritesRefusal, CheckAnswers, IsCertified, IsNo, SampleAnswers, ReadsInput, request_of, AskedAnswers, IsAskable, SaidCause, SaysIt};

@@ -1,9 +1,7 @@
 ghost use Rattle.std.specs.Prelude.{◌≡◌, Some, IfOk, IfSome, map, MatchResult, string_bytes, option_map};
 ghost use Rattle.clap.specs.Words.{app_of, kind_of, found_of};
-ghost use Rattle.comch_app.specs.Names.{given, given_in, GivesUp, IsRule, command_rule, numbers_rule, terms_rule, IsAnswerable, alone, certify_request, limit_of, may_at, may_request, sample_at, sample_request, report_request, request_of, request_by, request_named};
-ghost use Rattle.comch_app.specs.CommandLine.{line};
+ghost use Rattle.comch_app.specs.{Names.{given, given_in, GivesUp, IsRule, command_rule, numbers_rule, terms_rule, IsAnswerable, alone, certify_request, limit_of, may_at, may_request, sample_at, sample_request, report_request, request_of, request_by, request_named}, CommandLine.line, Requests.number_word};
 ghost use Rattle.complex_file.specs.Names.{is_digit};
-ghost use Rattle.comch_app.specs.Requests.{number_word};
 
 use crate::request::{DEFAULT_LIMIT, Request};
 use clap::error::ErrorKind;

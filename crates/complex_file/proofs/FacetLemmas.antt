@@ -1,23 +1,8 @@
 -- The facets of a complex, one behind the other.
-use Rattle.std.proofs.Common.{◌≡◌, ◌∙◌, ◌+◌, ◌<◌, ◌≤◌, ◌*◌, ◌-◌, ◌^◌, ◌&&◌, List, [], ◌∷◌, ◌++◌, ℕ, suc, Bool, true, false, cond, refl, sym, ap, subst, arith, length, drop, get_or, add-one, append-nil, not, nat_lt, option_map, append_assoc, drop-cons, lit<, Ok, Err, Some, None, nat_le, fold, is_none, leb-true, le-leb, ltb-false, ne_eqb}
-use Rattle.std.specs.declared.option.Option.{Option}
-use Rattle.std.specs.List.{list_all}
-use Rattle.std.specs.List.Sorted.{IsStrictlySortedBy}
-use Rattle.std.specs.Ordering.{nat_cmp, match_ordering}
-use Rattle.std.specs.declared.cmp.Ordering.{Ordering}
-use Rattle.std.specs.declared.cmp.Ordering.TheVariants.{Less, Equal, Greater}
-use Rattle.std.specs.BTreeSet.{insert_key}
-use Rattle.std.proofs.lemmas.Cmp.{nat_cmp_total}
-use Rattle.std.proofs.lemmas.List.Folds.{list_all-append}
-use Rattle.std.proofs.lemmas.Bool.{and_from, and_parts}
-use Rattle.std.proofs.lemmas.Bool.Decides.{nat_tests}
-use Rattle.std.proofs.Math.Nat.{mul-le-mul_right, pow-le-pow_right, pow-suc}
+use Rattle.std.{proofs.Common.{◌≡◌, ◌∙◌, ◌+◌, ◌<◌, ◌≤◌, ◌*◌, ◌-◌, ◌^◌, ◌&&◌, List, [], ◌∷◌, ◌++◌, ℕ, suc, Bool, true, false, cond, refl, sym, ap, subst, arith, length, drop, get_or, add-one, append-nil, not, nat_lt, option_map, append_assoc, drop-cons, lit<, Ok, Err, Some, None, nat_le, fold, is_none, leb-true, le-leb, ltb-false, ne_eqb}, specs.declared.option.Option.Option, specs.List.list_all, specs.List.Sorted.IsStrictlySortedBy, specs.Ordering.{nat_cmp, match_ordering}, specs.declared.cmp.Ordering.Ordering, specs.declared.cmp.Ordering.TheVariants.{Less, Equal, Greater}, specs.BTreeSet.insert_key, proofs.lemmas.Cmp.nat_cmp_total, proofs.lemmas.List.Folds.list_all-append, proofs.lemmas.Bool.{and_from, and_parts}, proofs.lemmas.Bool.Decides.nat_tests, proofs.Math.Nat.{mul-le-mul_right, pow-le-pow_right, pow-suc}}
 use Rattle.simplicial_law.proofs.Names.{sorted_inserted}
-use Rattle.complex_file.specs.Names.{BlockFault, InputKind, LineFault, Fails, is_digit, is_not_empty, number_after, numbers, with_number, ascending, complex_fault, facet_fault, first_facet_fault, has_repeat, is_ascending, is_complex, is_facet, or_later, with_facet}
+use Rattle.complex_file.{specs.Names.{BlockFault, InputKind, LineFault, Fails, is_digit, is_not_empty, number_after, numbers, with_number, ascending, complex_fault, facet_fault, first_facet_fault, has_repeat, is_ascending, is_complex, is_facet, or_later, with_facet}, specs.Text.number, proofs.RepeatLemmas.{nothing_sorted, repeat_by_length, sorted_vertices}, proofs.Steps.{later_fault, later_none, fault_free, fault_found, none_from}}
 use Rattle.complex_file.specs.declared.fault.LineFault.TheVariants as fault
-use Rattle.complex_file.specs.Text.{number}
-use Rattle.complex_file.proofs.RepeatLemmas.{nothing_sorted, repeat_by_length, sorted_vertices}
-use Rattle.complex_file.proofs.Steps.{later_fault, later_none, fault_free, fault_found, none_from}
 
 -- numbers in front of others
 abbrev pub with_front : List ℕ → Option (List ℕ) → Option (List ℕ)

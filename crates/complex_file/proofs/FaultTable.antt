@@ -1,14 +1,8 @@
 -- The fault of a line is the first kind of the table that comes on it.
-use Rattle.std.proofs.Common.{◌≡◌, ◌&&◌, List, [], ◌∷◌, ◌++◌, ℕ, Bool, true, false, cond, not, refl, length, nat_lt, option_map, Ok, Err, Result, Some, None, is_some, nat_le}
-use Rattle.std.specs.declared.option.Option.{Option}
-use Rattle.std.specs.List.{list_all}
-use Rattle.std.specs.Result.{result_err}
+use Rattle.std.{proofs.Common.{◌≡◌, ◌&&◌, List, [], ◌∷◌, ◌++◌, ℕ, Bool, true, false, cond, not, refl, length, nat_lt, option_map, Ok, Err, Result, Some, None, is_some, nat_le}, specs.declared.option.Option.Option, specs.List.list_all, specs.Result.result_err}
 use Rattle.fp_field.specs.Served.{served}
 use Rattle.simplicial_law.specs.ListedSimplices.{simplices}
-use Rattle.complex_file.specs.Names.{ComplexBlock, MapBlock, Sent, InputKind, FacetTooWide, NotText, OtherPrime, TooManySimplices, UnknownName, VertexSentTwice, VertexUnknown, is_allowed, words, Line, complex_line, end_line, facet_line, heading, is_skipped, line_of, map_line, prime_line, send_line, ascending, has_repeat, unless, is_sent, is_vertex, keeps_order, keeps_simplices, sends_each, block_names, facets_at, has_name, place_of_name, Place, Spelled, after, after_facet, after_send, at_prime, at_start, begun_map, between, in_complex, in_map, with_facets, with_sends, first_kind, tried}
-use Rattle.complex_file.specs.Input.{after_line}
-use Rattle.complex_file.specs.FaultTable.{fault_at}
-use Rattle.complex_file.proofs.RepeatLemmas.{length_once}
+use Rattle.complex_file.{specs.Names.{ComplexBlock, MapBlock, Sent, InputKind, FacetTooWide, NotText, OtherPrime, TooManySimplices, UnknownName, VertexSentTwice, VertexUnknown, is_allowed, words, Line, complex_line, end_line, facet_line, heading, is_skipped, line_of, map_line, prime_line, send_line, ascending, has_repeat, unless, is_sent, is_vertex, keeps_order, keeps_simplices, sends_each, block_names, facets_at, has_name, place_of_name, Place, Spelled, after, after_facet, after_send, at_prime, at_start, begun_map, between, in_complex, in_map, with_facets, with_sends, first_kind, tried}, specs.Input.after_line, specs.FaultTable.fault_at, proofs.RepeatLemmas.length_once}
 
 -- a kind that is tried before others
 test_first : {X : Type 0} (b : Bool) (k : InputKind) (r : Result X InputKind) (later : Option (InputKind × Bool)) → result_err r ≡ option_map (λ (e : InputKind × Bool). e.0) later

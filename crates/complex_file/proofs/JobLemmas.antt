@@ -1,21 +1,7 @@
 -- What the lines spell is a job.
-use Rattle.std.proofs.Common.{◌≡◌, ◌∙◌, ◌+◌, ◌<◌, ◌&&◌, ◌||◌, List, [], ◌∷◌, ◌++◌, ℕ, Bool, true, false, cond, not, refl, sym, ap, subst, arith, length, map, append_assoc, append-nil, length-append, nat_lt, Ok, Err, Result, Some, None, nat_le, is_none, nat_eq, codes, leb-false, le-leb, lt-ltb, ltb-true}
-use Rattle.std.specs.declared.option.Option.{Option}
-use Rattle.std.proofs.Math.ListN.{get_or-append}
-use Rattle.std.specs.List.{position_or_len, list_all}
-use Rattle.std.specs.Str.{bytes_eq}
-use Rattle.std.proofs.lemmas.List.{map-append}
-use Rattle.std.proofs.lemmas.List.Folds.{list_all-append}
-use Rattle.std.proofs.lemmas.Bool.{and_from, and_parts, cond_both}
-use Rattle.std.proofs.lemmas.Bool.Decides.{nat_tests}
+use Rattle.std.{proofs.Common.{◌≡◌, ◌∙◌, ◌+◌, ◌<◌, ◌&&◌, ◌||◌, List, [], ◌∷◌, ◌++◌, ℕ, Bool, true, false, cond, not, refl, sym, ap, subst, arith, length, map, append_assoc, append-nil, length-append, nat_lt, Ok, Err, Result, Some, None, nat_le, is_none, nat_eq, codes, leb-false, le-leb, lt-ltb, ltb-true}, specs.declared.option.Option.Option, proofs.Math.ListN.get_or-append, specs.List.{position_or_len, list_all}, specs.Str.bytes_eq, proofs.lemmas.List.map-append, proofs.lemmas.List.Folds.list_all-append, proofs.lemmas.Bool.{and_from, and_parts, cond_both}, proofs.lemmas.Bool.Decides.nat_tests}
 use Rattle.fp_field.specs.Served.{served}
-use Rattle.complex_file.specs.Names.{ComplexBlock, MapBlock, Sent, InputKind, is_allowed, is_name, is_word, lines, words, Line, heading, prime_line, complex_line, facet_line, map_line, send_line, end_line, no_line, is_skipped, line_of, line_of_complex, line_of_facet, line_of_few, line_of_four, line_of_three, line_of_two, send_of, numbers, ascending, facet_of, has_repeat, is_complex, with_facet, end_fault, map_fault, send_fault, with_send, are_distinct, block_names, facets_at, has_name, is_map, place_of_name, Spelled, Place, Fault, at_start, at_prime, between, in_complex, after, after_words, after_prime, after_complex, after_facet, at_end, at_line, lines_spell, place_after, with_complex, with_facets, ◌>>=◌, in_map, after_map, after_send, begun_map, with_map, with_sends}
-use Rattle.complex_file.specs.Text.{number}
-use Rattle.complex_file.specs.Jobs.{is_job}
-use Rattle.complex_file.specs.Input.{after_line, input_of}
-use Rattle.complex_file.proofs.Steps.{Both, fault_free, met, ok_same, passed}
-use Rattle.complex_file.proofs.MapLemmas.{AreFree, free_send, map_free}
-use Rattle.complex_file.proofs.FacetLemmas.{IsVertexList, complex_more, numbers_length, numbers_small}
+use Rattle.complex_file.{specs.Names.{ComplexBlock, MapBlock, Sent, InputKind, is_allowed, is_name, is_word, lines, words, Line, heading, prime_line, complex_line, facet_line, map_line, send_line, end_line, no_line, is_skipped, line_of, line_of_complex, line_of_facet, line_of_few, line_of_four, line_of_three, line_of_two, send_of, numbers, ascending, facet_of, has_repeat, is_complex, with_facet, end_fault, map_fault, send_fault, with_send, are_distinct, block_names, facets_at, has_name, is_map, place_of_name, Spelled, Place, Fault, at_start, at_prime, between, in_complex, after, after_words, after_prime, after_complex, after_facet, at_end, at_line, lines_spell, place_after, with_complex, with_facets, ◌>>=◌, in_map, after_map, after_send, begun_map, with_map, with_sends}, specs.Text.number, specs.Jobs.is_job, specs.Input.{after_line, input_of}, proofs.Steps.{Both, fault_free, met, ok_same, passed}, proofs.MapLemmas.{AreFree, free_send, map_free}, proofs.FacetLemmas.{IsVertexList, complex_more, numbers_length, numbers_small}}
 
 -- what is kept of the blocks so far: the parts of `is_job`
 pub record IsKept (s : Spelled) : Type 0 where

@@ -1,15 +1,8 @@
 -- The vertices of complexes, and where a map sends them.
-use Rattle.std.proofs.Common.{◌≡◌, ◌∙◌, ◌+◌, ◌<◌, ◌≤◌, ◌&&◌, ◌||◌, not, List, [], ◌∷◌, ◌++◌, ℕ, suc, Bool, true, false, cond, refl, sym, ap, subst, arith, length, map, drop, get_or, add-one, drop-cons, append-nil, append_assoc, nat_eq, Ok, Err, Some, None, nat_le, is_some, unwrap_or, leb-true, le-leb}
-use Rattle.std.specs.declared.option.Option.{Option}
-use Rattle.std.specs.List.{list_all}
-use Rattle.std.specs.Map.{lookup}
-use Rattle.std.proofs.lemmas.List.{drop_all, map-append}
-use Rattle.std.proofs.lemmas.List.Folds.{list_all-append}
-use Rattle.std.proofs.lemmas.Bool.{and_from, and_parts, lt-leb}
+use Rattle.std.{proofs.Common.{◌≡◌, ◌∙◌, ◌+◌, ◌<◌, ◌≤◌, ◌&&◌, ◌||◌, not, List, [], ◌∷◌, ◌++◌, ℕ, suc, Bool, true, false, cond, refl, sym, ap, subst, arith, length, map, drop, get_or, add-one, drop-cons, append-nil, append_assoc, nat_eq, Ok, Err, Some, None, nat_le, is_some, unwrap_or, leb-true, le-leb}, specs.declared.option.Option.Option, specs.List.list_all, specs.Map.lookup, proofs.lemmas.List.{drop_all, map-append}, proofs.lemmas.List.Folds.list_all-append, proofs.lemmas.Bool.{and_from, and_parts, lt-leb}}
 use Rattle.simplicial_law.specs.Names.{subsets}
-use Rattle.complex_file.specs.Names.{Sent, LineFault, InputKind, VertexSentTwice, VertexUnknown, Fails, sends_in, end_fault, first_send_fault, image, is_sent, is_vertex, keeps_edge, map_fault, send_fault, with_send}
+use Rattle.complex_file.{specs.Names.{Sent, LineFault, InputKind, VertexSentTwice, VertexUnknown, Fails, sends_in, end_fault, first_send_fault, image, is_sent, is_vertex, keeps_edge, map_fault, send_fault, with_send}, proofs.Steps.{fault_free, fault_found, later_fault, later_none}}
 use Rattle.complex_file.specs.declared.fault.LineFault.TheVariants as fault
-use Rattle.complex_file.proofs.Steps.{fault_free, fault_found, later_fault, later_none}
 
 -- ---- sends
 

@@ -1,8 +1,5 @@
 -- The names of blocks.
-use Rattle.std.proofs.Common.{◌≡◌, ◌∙◌, ◌||◌, List, [], ◌∷◌, ℕ, Bool, true, false, map, ap, sym, refl}
-use Rattle.std.proofs.lemmas.List.Folds.{list_any-append}
-use Rattle.std.specs.List.{list_any}
-use Rattle.std.specs.Str.{bytes_eq}
+use Rattle.std.{proofs.Common.{◌≡◌, ◌∙◌, ◌||◌, List, [], ◌∷◌, ℕ, Bool, true, false, map, ap, sym, refl}, proofs.lemmas.List.Folds.list_any-append, specs.List.list_any, specs.Str.bytes_eq}
 use Rattle.complex_file.specs.Names.{ComplexBlock, MapBlock, block_names, has_name}
 
 any-map : {X Y : Type 0} (f : X → Y) (p : Y → Bool) (xs : List X) → list_any (λ x. p (f x)) xs ≡ list_any p (map f xs)

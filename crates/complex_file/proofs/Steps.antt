@@ -1,6 +1,5 @@
 -- What tests and steps that went well tell.
-use Rattle.std.proofs.Common.{ℕ, ◌≡◌, Bool, true, false, cond, refl, Ok, Err, Result, Some, None, is_none}
-use Rattle.std.specs.declared.option.Option.{Option}
+use Rattle.std.{proofs.Common.{ℕ, ◌≡◌, Bool, true, false, cond, refl, Ok, Err, Result, Some, None, is_none}, specs.declared.option.Option.Option}
 use Rattle.complex_file.specs.Names.{BlockFault, InputKind, or_later, unless}
 
 pub record Both (P Q : Type 0) : Type 0 where

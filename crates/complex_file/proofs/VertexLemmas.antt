@@ -1,13 +1,7 @@
 -- The vertices of a complex are its simplices of one vertex.
-use Rattle.std.proofs.Common.{◌≡◌, ◌⊎◌, inl, inr, ◌||◌, List, [], ◌∷◌, ℕ, Bool, true, false, refl, sym, ap, subst, nat_eq, arith, eqb-true}
-use Rattle.std.specs.List.{list_any}
-use Rattle.std.specs.Str.{bytes_eq}
-use Rattle.std.proofs.lemmas.Bool.{and_from, and_parts}
-use Rattle.std.proofs.lemmas.Bool.Decides.{nat_tests}
+use Rattle.std.{proofs.Common.{◌≡◌, ◌⊎◌, inl, inr, ◌||◌, List, [], ◌∷◌, ℕ, Bool, true, false, refl, sym, ap, subst, nat_eq, arith, eqb-true}, specs.List.list_any, specs.Str.bytes_eq, proofs.lemmas.Bool.{and_from, and_parts}, proofs.lemmas.Bool.Decides.nat_tests}
 use Rattle.linear_law.specs.Names.{Among}
-use Rattle.simplicial_law.specs.ListedSimplices.{simplices}
-use Rattle.simplicial_law.specs.Names.{sublists}
-use Rattle.simplicial_law.proofs.Names.{all_put, each_of, of_all, sublists_keep, sublist_of_rest}
+use Rattle.simplicial_law.{specs.ListedSimplices.simplices, specs.Names.sublists, proofs.Names.{all_put, each_of, of_all, sublists_keep, sublist_of_rest}}
 use Rattle.complex_file.specs.Names.{has_vertex, is_vertex}
 
 same_tests : (a b : Bool) → (a ≡ true → b ≡ true) → (b ≡ true → a ≡ true) → a ≡ b

@@ -1,25 +1,7 @@
 -- The lines of a job lead, block by block, to what the job is.
-use Rattle.std.proofs.Common.{◌≡◌, ◌∙◌, ◌+◌, ◌≤◌, ◌<◌, ◌&&◌, ◌||◌, List, [], ◌∷◌, ◌++◌, ℕ, suc, zero, Bool, true, false, cond, refl, sym, ap, subst, arith, length, map, append_assoc, append-nil, length-append, not, nat_lt, nat_eq, Ok, Some, None, nat_le, is_none, fold, flat_map, codes, eq-eqb, eqb-true, leb-true, le-ltb, lt-ltb, ltb-true}
-use Rattle.std.specs.declared.option.Option.{Option}
-use Rattle.std.specs.List.{list_all, position_or_len}
-use Rattle.std.specs.Str.{bytes_eq}
-use Rattle.std.specs.Fmt.{decimal}
-use Rattle.std.specs.Ordering.{nat_cmp}
-use Rattle.std.specs.declared.cmp.Ordering.TheVariants.{Greater}
-use Rattle.std.specs.BTreeSet.{insert_key}
-use Rattle.std.proofs.lemmas.List.{map-append}
-use Rattle.std.proofs.lemmas.List.Folds.{list_all-append, list_any-append}
-use Rattle.std.proofs.lemmas.Bool.{and_from, and_parts, lt-leb, not-true, or_cases}
-use Rattle.std.proofs.lemmas.Bool.Decides.{nat_tests}
-use Rattle.std.proofs.Math.Logic.{⊎_elim}
+use Rattle.std.{proofs.Common.{◌≡◌, ◌∙◌, ◌+◌, ◌≤◌, ◌<◌, ◌&&◌, ◌||◌, List, [], ◌∷◌, ◌++◌, ℕ, suc, zero, Bool, true, false, cond, refl, sym, ap, subst, arith, length, map, append_assoc, append-nil, length-append, not, nat_lt, nat_eq, Ok, Some, None, nat_le, is_none, fold, flat_map, codes, eq-eqb, eqb-true, leb-true, le-ltb, lt-ltb, ltb-true}, specs.declared.option.Option.Option, specs.List.{list_all, position_or_len}, specs.Str.bytes_eq, specs.Fmt.decimal, specs.Ordering.nat_cmp, specs.declared.cmp.Ordering.TheVariants.Greater, specs.BTreeSet.insert_key, proofs.lemmas.List.map-append, proofs.lemmas.List.Folds.{list_all-append, list_any-append}, proofs.lemmas.Bool.{and_from, and_parts, lt-leb, not-true, or_cases}, proofs.lemmas.Bool.Decides.nat_tests, proofs.Math.Logic.⊎_elim}
 use Rattle.fp_field.specs.Served.{served}
-use Rattle.complex_file.specs.Names.{ComplexBlock, MapBlock, Sent, BlockFault, InputKind, is_name, is_not_empty, lines, facet_line, line_of, send_line, send_of, ascending, complex_fault, facet_fault, first_facet_fault, has_repeat, has_vertex, is_ascending, is_complex, is_facet, or_later, end_fault, first_send_fault, is_vertex, map_fault, send_fault, are_distinct, block_names, facets_at, has_name, is_map, place_of_name, Place, Spelled, after, after_prime, at_prime, at_start, between, in_complex, in_map, lines_spell, place_after, with_complex, with_map, complex_lines, facet_words, job_lines, map_lines, name_at, send_words, written}
-use Rattle.complex_file.specs.Jobs.{is_job}
-use Rattle.complex_file.specs.Input.{after_line}
-use Rattle.complex_file.proofs.Steps.{Both, none_from}
-use Rattle.complex_file.proofs.RepeatLemmas.{repeat_by_length}
-use Rattle.complex_file.proofs.JobLemmas.{bytes_swap, or_false}
-use Rattle.complex_file.proofs.WrittenLines.{IsStep, Leads, all_weaker, is_plain, leads_on, lines_lead, lines_read, name_plain, number_plain, number_read, numbers_plain, numbers_read}
+use Rattle.complex_file.{specs.Names.{ComplexBlock, MapBlock, Sent, BlockFault, InputKind, is_name, is_not_empty, lines, facet_line, line_of, send_line, send_of, ascending, complex_fault, facet_fault, first_facet_fault, has_repeat, has_vertex, is_ascending, is_complex, is_facet, or_later, end_fault, first_send_fault, is_vertex, map_fault, send_fault, are_distinct, block_names, facets_at, has_name, is_map, place_of_name, Place, Spelled, after, after_prime, at_prime, at_start, between, in_complex, in_map, lines_spell, place_after, with_complex, with_map, complex_lines, facet_words, job_lines, map_lines, name_at, send_words, written}, specs.Jobs.is_job, specs.Input.after_line, proofs.Steps.{Both, none_from}, proofs.RepeatLemmas.repeat_by_length, proofs.JobLemmas.{bytes_swap, or_false}, proofs.WrittenLines.{IsStep, Leads, all_weaker, is_plain, leads_on, lines_lead, lines_read, name_plain, number_plain, number_read, numbers_plain, numbers_read}}
 
 -- ---- facets
 

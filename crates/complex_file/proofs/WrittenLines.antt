@@ -1,17 +1,6 @@
 -- Lines of words that are written with one space between them are read as those words.
-use Rattle.std.proofs.Common.{◌≡◌, ◌∙◌, ◌+◌, ◌≤◌, ◌<◌, ◌-◌, ◌*◌, ◌/◌, ◌%◌, ◌^◌, ◌&&◌, List, [], ◌∷◌, ◌++◌, ℕ, Bool, true, false, cond, refl, sym, ap, subst, arith, length, map, append_assoc, append-nil, lit<, Ok, Some, None, nat_le, filter, flat_map, le-leb, leb-true, ne_eqb}
-use Rattle.std.specs.declared.option.Option.{Option}
-use Rattle.std.specs.List.{list_all, slice_split, onto_first}
-use Rattle.std.specs.Fmt.{decimal}
-use Rattle.std.proofs.lemmas.Fmt.{decimal_by_steps, decimal_nonempty, length-decimal-le}
-use Rattle.std.proofs.lemmas.List.Folds.{list_all-append}
-use Rattle.std.proofs.lemmas.List.Splits.{slice_split-cons_no, slice_split-cons_yes}
-use Rattle.std.proofs.lemmas.Bool.{and_from, and_parts}
-use Rattle.std.proofs.lemmas.Bool.Decides.{nat_tests}
-use Rattle.complex_file.specs.Names.{begins_with_letter, is_allowed, is_blank, is_digit, is_line_end, is_name, is_name_byte, is_not_empty, lines, number_after, words, is_skipped, line_of, numbers, Place, Step, after, at_line, place_after, ◌>>=◌, spaced}
-use Rattle.complex_file.specs.Text.{number}
-use Rattle.complex_file.specs.Input.{after_line}
-use Rattle.complex_file.proofs.FacetLemmas.{not_empty}
+use Rattle.std.{proofs.Common.{◌≡◌, ◌∙◌, ◌+◌, ◌≤◌, ◌<◌, ◌-◌, ◌*◌, ◌/◌, ◌%◌, ◌^◌, ◌&&◌, List, [], ◌∷◌, ◌++◌, ℕ, Bool, true, false, cond, refl, sym, ap, subst, arith, length, map, append_assoc, append-nil, lit<, Ok, Some, None, nat_le, filter, flat_map, le-leb, leb-true, ne_eqb}, specs.declared.option.Option.Option, specs.List.{list_all, slice_split, onto_first}, specs.Fmt.decimal, proofs.lemmas.Fmt.{decimal_by_steps, decimal_nonempty, length-decimal-le}, proofs.lemmas.List.Folds.list_all-append, proofs.lemmas.List.Splits.{slice_split-cons_no, slice_split-cons_yes}, proofs.lemmas.Bool.{and_from, and_parts}, proofs.lemmas.Bool.Decides.nat_tests}
+use Rattle.complex_file.{specs.Names.{begins_with_letter, is_allowed, is_blank, is_digit, is_line_end, is_name, is_name_byte, is_not_empty, lines, number_after, words, is_skipped, line_of, numbers, Place, Step, after, at_line, place_after, ◌>>=◌, spaced}, specs.Text.number, specs.Input.after_line, proofs.FacetLemmas.not_empty}
 
 -- ---- words in a line, lines in a text
 

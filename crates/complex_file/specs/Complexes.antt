@@ -1,14 +1,7 @@
 -- The facets of a complex, and their faults.
-use Rattle.std.specs.Prelude.{ℕ, ◌+◌, Bool, false, true, ◌&&◌, ◌||◌, ◌==◌, List, [], ◌∷◌, ◌++◌, length, fold, Some, None, Ok, Err, Result, if◌then◌else◌, is_none, nat_le, nat_lt}
-use Rattle.std.specs.declared.option.Option.{Option}
-use Rattle.std.specs.List.{list_all, list_any}
-use Rattle.std.specs.Ordering.{nat_cmp}
-use Rattle.std.specs.BTreeSet.{insert_key}
+use Rattle.std.specs.{Prelude.{ℕ, ◌+◌, Bool, false, true, ◌&&◌, ◌||◌, ◌==◌, List, [], ◌∷◌, ◌++◌, length, fold, Some, None, Ok, Err, Result, if◌then◌else◌, is_none, nat_le, nat_lt}, declared.option.Option.Option, List.{list_all, list_any}, Ordering.nat_cmp, BTreeSet.insert_key}
 use Rattle.simplicial_law.specs.ListedSimplices.{simplices}
-use Rattle.complex_file.specs.declared.fault.BlockFault.{BlockFault}
-use Rattle.complex_file.specs.declared.kind.InputKind.{InputKind}
-use Rattle.complex_file.specs.declared.kind.InputKind.TheVariants.{BadNumber, FacetTooWide, RepeatedVertex, TooManySimplices}
-use Rattle.complex_file.specs.Text.{is_not_empty}
+use Rattle.complex_file.specs.{declared.fault.BlockFault.BlockFault, declared.kind.InputKind.InputKind, declared.kind.InputKind.TheVariants.{BadNumber, FacetTooWide, RepeatedVertex, TooManySimplices}, Text.is_not_empty}
 
 -- the value, where there is no fault
 abbrev pub unless : {X : Type 0} → Option InputKind → X → Result X InputKind

@@ -1,18 +1,8 @@
 -- The table of faults: which kinds may come on a line, in which order they are tried, and when each of them comes.
-use Rattle.std.specs.Prelude.{◌≡◌, ℕ, ◌+◌, ◌<◌, Bool, true, false, not, ◌&&◌, List, [], ◌∷◌, ◌++◌, length, Some, None, Ok, Err, if◌then◌else◌, is_some, is_none, nat_le, nat_lt, count_by, option_map}
-use Rattle.std.specs.declared.option.Option.{Option}
-use Rattle.std.specs.List.{find, list_all}
-use Rattle.std.specs.Option.{option_map_or}
+use Rattle.std.specs.{Prelude.{◌≡◌, ℕ, ◌+◌, ◌<◌, Bool, true, false, not, ◌&&◌, List, [], ◌∷◌, ◌++◌, length, Some, None, Ok, Err, if◌then◌else◌, is_some, is_none, nat_le, nat_lt, count_by, option_map}, declared.option.Option.Option, List.{find, list_all}, Option.option_map_or}
 use Rattle.fp_field.specs.Served.{served}
 use Rattle.simplicial_law.specs.ListedSimplices.{simplices}
-use Rattle.complex_file.specs.declared.kind.InputKind.{InputKind}
-use Rattle.complex_file.specs.declared.kind.InputKind.TheVariants.{TooLong, NotText, BadLine, BadNumber, RepeatedVertex, FacetTooWide, TooManySimplices, RepeatedName, UnknownName, VertexNotSent, VertexSentTwice, VertexUnknown, NotOrderPreserving, ImageNotASimplex, Unfinished, TooManyBlocks, OtherPrime}
-use Rattle.complex_file.specs.Text.{is_allowed, is_line_end, lines, words}
-use Rattle.complex_file.specs.Lines.{Line, heading, prime_line, complex_line, facet_line, map_line, send_line, end_line, is_skipped, line_of}
-use Rattle.complex_file.specs.Complexes.{ascending, has_repeat}
-use Rattle.complex_file.specs.Maps.{is_sent, is_vertex, keeps_order, keeps_simplices, sends_each}
-use Rattle.complex_file.specs.Jobs.{block_names, facets_at, has_name, place_of_name}
-use Rattle.complex_file.specs.Input.{Fault, Place, at_start, at_prime, between, in_complex, in_map, after_line, at_end}
+use Rattle.complex_file.specs.{declared.kind.InputKind.InputKind, declared.kind.InputKind.TheVariants.{TooLong, NotText, BadLine, BadNumber, RepeatedVertex, FacetTooWide, TooManySimplices, RepeatedName, UnknownName, VertexNotSent, VertexSentTwice, VertexUnknown, NotOrderPreserving, ImageNotASimplex, Unfinished, TooManyBlocks, OtherPrime}, Text.{is_allowed, is_line_end, lines, words}, Lines.{Line, heading, prime_line, complex_line, facet_line, map_line, send_line, end_line, is_skipped, line_of}, Complexes.{ascending, has_repeat}, Maps.{is_sent, is_vertex, keeps_order, keeps_simplices, sends_each}, Jobs.{block_names, facets_at, has_name, place_of_name}, Input.{Fault, Place, at_start, at_prime, between, in_complex, in_map, after_line, at_end}}
 
 -- The kinds that are tried on a line at a place, in their order, and whether each comes. A line that may not stand there is
 -- a bad line. What the line lacks a number for has no other fault.

@@ -1,18 +1,7 @@
 -- The input: what may stand on each line, what each line adds to the job, and which fault comes first.
-use Rattle.std.specs.Prelude.{ℕ, ◌+◌, List, [], ◌∷◌, ◌++◌, length, Some, None, Ok, Err, Result, if◌then◌else◌, nat_le, nat_lt, count_by}
-use Rattle.std.specs.declared.option.Option.{Option}
-use Rattle.std.specs.List.{list_all}
+use Rattle.std.specs.{Prelude.{ℕ, ◌+◌, List, [], ◌∷◌, ◌++◌, length, Some, None, Ok, Err, Result, if◌then◌else◌, nat_le, nat_lt, count_by}, declared.option.Option.Option, List.list_all}
 use Rattle.fp_field.specs.Served.{served}
-use Rattle.complex_file.specs.declared.block.ComplexBlock.{ComplexBlock}
-use Rattle.complex_file.specs.declared.block.MapBlock.{MapBlock}
-use Rattle.complex_file.specs.declared.block.Sent.{Sent}
-use Rattle.complex_file.specs.declared.kind.InputKind.{InputKind}
-use Rattle.complex_file.specs.declared.kind.InputKind.TheVariants.{TooLong, NotText, BadLine, BadNumber, RepeatedName, UnknownName, Unfinished, TooManyBlocks, OtherPrime}
-use Rattle.complex_file.specs.Text.{is_allowed, is_line_end, lines, words}
-use Rattle.complex_file.specs.Lines.{Line, heading, prime_line, complex_line, facet_line, map_line, send_line, end_line, is_skipped, line_of}
-use Rattle.complex_file.specs.Complexes.{facet_of, unless, with_facet}
-use Rattle.complex_file.specs.Maps.{end_fault, with_send}
-use Rattle.complex_file.specs.Jobs.{block_names, facets_at, has_name, place_of_name}
+use Rattle.complex_file.specs.{declared.block.ComplexBlock.ComplexBlock, declared.block.MapBlock.MapBlock, declared.block.Sent.Sent, declared.kind.InputKind.InputKind, declared.kind.InputKind.TheVariants.{TooLong, NotText, BadLine, BadNumber, RepeatedName, UnknownName, Unfinished, TooManyBlocks, OtherPrime}, Text.{is_allowed, is_line_end, lines, words}, Lines.{Line, heading, prime_line, complex_line, facet_line, map_line, send_line, end_line, is_skipped, line_of}, Complexes.{facet_of, unless, with_facet}, Maps.{end_fault, with_send}, Jobs.{block_names, facets_at, has_name, place_of_name}}
 
 -- what the lines spell: a prime, and the complexes and maps in the order of the file
 pub record Spelled : Type 0 where

@@ -1,14 +1,7 @@
 -- What a job consists of, and what each job keeps.
-use Rattle.std.specs.Prelude.{ℕ, Bool, true, not, ◌&&◌, List, [], ◌∷◌, ◌++◌, map, length, is_none, nat_le, nat_lt, position, slice_index_or}
-use Rattle.std.specs.declared.option.Option.{Option}
-use Rattle.std.specs.List.{list_all, list_any}
-use Rattle.std.specs.Str.{bytes_eq}
+use Rattle.std.specs.{Prelude.{ℕ, Bool, true, not, ◌&&◌, List, [], ◌∷◌, ◌++◌, map, length, is_none, nat_le, nat_lt, position, slice_index_or}, declared.option.Option.Option, List.{list_all, list_any}, Str.bytes_eq}
 use Rattle.fp_field.specs.Served.{served}
-use Rattle.complex_file.specs.declared.block.ComplexBlock.{ComplexBlock}
-use Rattle.complex_file.specs.declared.block.MapBlock.{MapBlock}
-use Rattle.complex_file.specs.Text.{is_name}
-use Rattle.complex_file.specs.Complexes.{is_complex}
-use Rattle.complex_file.specs.Maps.{map_fault}
+use Rattle.complex_file.specs.{declared.block.ComplexBlock.ComplexBlock, declared.block.MapBlock.MapBlock, Text.is_name, Complexes.is_complex, Maps.map_fault}
 
 -- the facets of the complex at a place; none past the end
 abbrev pub facets_at : List ComplexBlock → ℕ → List (List ℕ)

@@ -1,11 +1,6 @@
 -- The laws of the input.
-use Rattle.std.specs.Prelude.{ℕ, ◌≡◌, ◌⊎◌, true, List, Ok, Err}
-use Rattle.std.specs.Result.{result_err}
-use Rattle.complex_file.specs.Text.{lines}
-use Rattle.complex_file.specs.Jobs.{is_job}
-use Rattle.complex_file.specs.Input.{Fault, Place, Spelled, after_line, at_start, input_of, lines_spell}
-use Rattle.complex_file.specs.FaultTable.{IsLong, IsOnLine, IsUnfinished, fault_at}
-use Rattle.complex_file.specs.Written.{written}
+use Rattle.std.specs.{Prelude.{ℕ, ◌≡◌, ◌⊎◌, true, List, Ok, Err}, Result.result_err}
+use Rattle.complex_file.specs.{Text.lines, Jobs.is_job, Input.{Fault, Place, Spelled, after_line, at_start, input_of, lines_spell}, FaultTable.{IsLong, IsOnLine, IsUnfinished, fault_at}, Written.written}
 
 -- What bytes spell is a job.
 abbrev pub SpelledJobLaw : Type 0

@@ -1,8 +1,6 @@
 -- What a line says, by its words. Where it may stand does not matter here.
-use Rattle.std.specs.Prelude.{ℕ, Bool, false, true, ◌&&◌, ◌==◌, List, [], ◌∷◌, Some, None, if◌then◌else◌, codes}
-use Rattle.std.specs.declared.option.Option.{Option}
-use Rattle.complex_file.specs.declared.block.Sent.{Sent}
-use Rattle.complex_file.specs.Text.{is_name, is_word, number}
+use Rattle.std.specs.{Prelude.{ℕ, Bool, false, true, ◌&&◌, ◌==◌, List, [], ◌∷◌, Some, None, if◌then◌else◌, codes}, declared.option.Option.Option}
+use Rattle.complex_file.specs.{declared.block.Sent.Sent, Text.{is_name, is_word, number}}
 
 -- A word that should be a number and is none leaves None.
 pub data Line : Type 0 where

@@ -1,15 +1,7 @@
 -- The sends of a map between two complexes, and their faults.
-use Rattle.std.specs.Prelude.{ℕ, ◌+◌, Bool, true, not, ◌&&◌, ◌==◌, List, [], ◌∷◌, ◌++◌, map, Some, None, Result, if◌then◌else◌, nat_le}
-use Rattle.std.specs.declared.option.Option.{Option}
-use Rattle.std.specs.List.{list_all, list_any}
-use Rattle.std.specs.Str.{bytes_eq}
-use Rattle.simplicial_law.specs.ListedSimplices.{simplices}
-use Rattle.simplicial_law.specs.Names.{subsets}
-use Rattle.complex_file.specs.declared.block.Sent.{Sent}
-use Rattle.complex_file.specs.declared.fault.BlockFault.{BlockFault}
-use Rattle.complex_file.specs.declared.kind.InputKind.{InputKind}
-use Rattle.complex_file.specs.declared.kind.InputKind.TheVariants.{VertexNotSent, VertexSentTwice, VertexUnknown, NotOrderPreserving, ImageNotASimplex}
-use Rattle.complex_file.specs.Complexes.{ascending, has_vertex, or_later, unless}
+use Rattle.std.specs.{Prelude.{ℕ, ◌+◌, Bool, true, not, ◌&&◌, ◌==◌, List, [], ◌∷◌, ◌++◌, map, Some, None, Result, if◌then◌else◌, nat_le}, declared.option.Option.Option, List.{list_all, list_any}, Str.bytes_eq}
+use Rattle.simplicial_law.specs.{ListedSimplices.simplices, Names.subsets}
+use Rattle.complex_file.specs.{declared.block.Sent.Sent, declared.fault.BlockFault.BlockFault, declared.kind.InputKind.InputKind, declared.kind.InputKind.TheVariants.{VertexNotSent, VertexSentTwice, VertexUnknown, NotOrderPreserving, ImageNotASimplex}, Complexes.{ascending, has_vertex, or_later, unless}}
 
 -- v is a vertex of some facet
 abbrev pub is_vertex : List (List ℕ) → ℕ → Bool

@@ -1,11 +1,8 @@
 -- What a function of the reader gives, where memory does not run out.
 use Rattle.std.specs.Prelude.{◌≡◌, Ok, Err, Result}
-use Rattle.complex_file.specs.declared.fault.LineFault.{LineFault}
+use Rattle.complex_file.specs.{declared.fault.LineFault.LineFault, declared.fault.JobRefused.JobRefused, declared.kind.InputKind.InputKind, Input.Fault}
 use Rattle.complex_file.specs.declared.fault.LineFault.TheVariants as fault
-use Rattle.complex_file.specs.declared.fault.JobRefused.{JobRefused}
 use Rattle.complex_file.specs.declared.fault.JobRefused.TheVariants as refused
-use Rattle.complex_file.specs.declared.kind.InputKind.{InputKind}
-use Rattle.complex_file.specs.Input.{Fault}
 
 abbrev pub Fails : {Y : Type 0} → LineFault → Result Y InputKind → Type 0
 Fails fault.Memory wanted = Unit {0}

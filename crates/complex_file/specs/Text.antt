@@ -1,8 +1,5 @@
 -- Lines, words, numbers and names in a text of bytes.
-use Rattle.std.specs.Prelude.{ℕ, ◌+◌, ◌-◌, ◌*◌, Bool, false, not, ◌&&◌, ◌||◌, ◌==◌, List, [], ◌∷◌, length, filter, Some, None, if◌then◌else◌, nat_le}
-use Rattle.std.specs.declared.option.Option.{Option}
-use Rattle.std.specs.List.{list_all, slice_split}
-use Rattle.std.specs.Str.{bytes_eq}
+use Rattle.std.specs.{Prelude.{ℕ, ◌+◌, ◌-◌, ◌*◌, Bool, false, not, ◌&&◌, ◌||◌, ◌==◌, List, [], ◌∷◌, length, filter, Some, None, if◌then◌else◌, nat_le}, declared.option.Option.Option, List.{list_all, slice_split}, Str.bytes_eq}
 
 -- a byte that may stand in the input: 9, 10, 13, and 32 to 126
 abbrev pub is_allowed : ℕ → Bool

@@ -1,18 +1,6 @@
 -- What the code's lines and places stand for.
-use Rattle.std.specs.Prelude.{ℕ, List, Vec, map, option_map}
-use Rattle.std.specs.declared.alloc.Global.{Global}
-use Rattle.std.specs.Borrow.{Bor}
-use Rattle.complex_file.specs.declared.block.ComplexBlock.{ComplexBlock}
-use Rattle.complex_file.specs.declared.block.MapBlock.{MapBlock}
-use Rattle.complex_file.specs.declared.place.BegunComplex.{BegunComplex}
-use Rattle.complex_file.specs.declared.place.BegunMap.{BegunMap}
-use Rattle.complex_file.specs.declared.place.Place.{Place as Stand}
-use Rattle.complex_file.specs.declared.place.Place.TheVariants.{AtStart, AtPrime, Between, InComplex, InMap}
-use Rattle.complex_file.specs.declared.job.Job.{Job}
-use Rattle.complex_file.specs.declared.line.Line.{Line as Said}
-use Rattle.complex_file.specs.declared.line.Line.TheVariants.{Heading, Prime, Complex, Facet, Map, Send, End, Other}
-use Rattle.complex_file.specs.Lines.{Line, heading, prime_line, complex_line, facet_line, map_line, send_line, end_line, no_line}
-use Rattle.complex_file.specs.Input.{Place, Spelled, at_start, at_prime, between, in_complex, in_map}
+use Rattle.std.specs.{Prelude.{ℕ, List, Vec, map, option_map}, declared.alloc.Global.Global, Borrow.Bor}
+use Rattle.complex_file.specs.{declared.block.ComplexBlock.ComplexBlock, declared.block.MapBlock.MapBlock, declared.place.BegunComplex.BegunComplex, declared.place.BegunMap.BegunMap, declared.place.Place.{Place as Stand}, declared.place.Place.TheVariants.{AtStart, AtPrime, Between, InComplex, InMap}, declared.job.Job.Job, declared.line.Line.{Line as Said}, declared.line.Line.TheVariants.{Heading, Prime, Complex, Facet, Map, Send, End, Other}, Lines.{Line, heading, prime_line, complex_line, facet_line, map_line, send_line, end_line, no_line}, Input.{Place, Spelled, at_start, at_prime, between, in_complex, in_map}}
 
 -- the bytes of borrowed pieces
 abbrev pub texts : List (Bor (List ℕ)) → List (List ℕ)

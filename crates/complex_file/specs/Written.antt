@@ -1,10 +1,6 @@
 -- A job written as lines of the input: all its complexes, then all its maps.
-use Rattle.std.specs.Prelude.{ℕ, List, [], ◌∷◌, ◌++◌, codes, flat_map, map, slice_index_or}
-use Rattle.std.specs.Fmt.{decimal}
-use Rattle.complex_file.specs.declared.block.ComplexBlock.{ComplexBlock}
-use Rattle.complex_file.specs.declared.block.MapBlock.{MapBlock}
-use Rattle.complex_file.specs.declared.block.Sent.{Sent}
-use Rattle.complex_file.specs.Input.{Spelled}
+use Rattle.std.specs.{Prelude.{ℕ, List, [], ◌∷◌, ◌++◌, codes, flat_map, map, slice_index_or}, Fmt.decimal}
+use Rattle.complex_file.specs.{declared.block.ComplexBlock.ComplexBlock, declared.block.MapBlock.MapBlock, declared.block.Sent.Sent, Input.Spelled}
 
 -- `facet V ..`
 abbrev pub facet_words : List ℕ → List (List ℕ)

@@ -1,6 +1,4 @@
-ghost use Rattle.std.specs.Prelude.{◌≡◌, ◌<◌, [], length, IfSome, OnOk};
-ghost use Rattle.std.specs.List.{list_any};
-ghost use Rattle.std.specs.Str.{bytes_eq};
+ghost use Rattle.std.specs.{Prelude.{◌≡◌, ◌<◌, [], length, IfSome, OnOk}, List.list_any, Str.bytes_eq};
 ghost use Rattle.complex_file.specs.Names.{with_complex, with_map, block_names, facets_at, has_name, place_of_name};
 
 use crate::{ComplexBlock, MapBlock};

@@ -1,6 +1,5 @@
 ghost use Rattle.std.specs.Prelude.{◌≡◌, ◌<◌, ◌≤◌, ◌^◌, ◌+◌, length};
-ghost use Rattle.complex_file.specs.Input.{after_line, input_of};
-ghost use Rattle.complex_file.specs.Names.{after_words, at_end, at_line, at_start, lines_spell, place_after, Gives, GivesInput, content, place_seen, texts};
+ghost use Rattle.complex_file.specs.{Input.{after_line, input_of}, Names.{after_words, at_end, at_line, at_start, lines_spell, place_after, Gives, GivesInput, content, place_seen, texts}};
 
 use crate::blocks::Blocks;
 use crate::fault::LineFault;

@@ -1,6 +1,5 @@
 ghost use Rattle.std.specs.Prelude.{◌≡◌, IfOk, option_map};
-ghost use Rattle.complex_file.specs.Names.{begins_with_hash, is_skipped, line_of, line_of_complex, line_of_facet, line_of_few, line_of_four, line_of_three, line_of_two, numbers, send_line, send_of, line_seen, texts};
-ghost use Rattle.complex_file.specs.Text.{number};
+ghost use Rattle.complex_file.specs.{Names.{begins_with_hash, is_skipped, line_of, line_of_complex, line_of_facet, line_of_few, line_of_four, line_of_three, line_of_two, numbers, send_line, send_of, line_seen, texts}, Text.number};
 
 use crate::Sent;
 use crate::text::{is_name, number_of};

@@ -1,5 +1,4 @@
-ghost use Rattle.std.specs.Prelude.{◌≡◌, [], IfOk};
-ghost use Rattle.std.specs.List.{list_all};
+ghost use Rattle.std.specs.{Prelude.{◌≡◌, [], IfOk}, List.list_all};
 ghost use Rattle.simplicial_law.specs.Names.{subsets};
 ghost use Rattle.complex_file.specs.Names.{has_vertex, end_fault, image, image_of_facet, is_sent, is_vertex, keeps_edge, keeps_order, keeps_simplices, send_fault, sends_each, with_send, Gives};
 

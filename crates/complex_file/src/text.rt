@@ -1,7 +1,5 @@
-ghost use Rattle.std.specs.Prelude.{◌≡◌, ◌&&◌, nat_le, IfOk};
-ghost use Rattle.std.specs.List.{list_all, slice_split};
-ghost use Rattle.complex_file.specs.Names.{begins_with_letter, is_allowed, is_blank, is_digit, is_letter, is_name, is_name_byte, lines, words, texts};
-ghost use Rattle.complex_file.specs.Text.{number};
+ghost use Rattle.std.specs.{Prelude.{◌≡◌, ◌&&◌, nat_le, IfOk}, List.{list_all, slice_split}};
+ghost use Rattle.complex_file.specs.{Names.{begins_with_letter, is_allowed, is_blank, is_digit, is_letter, is_name, is_name_byte, lines, words, texts}, Text.number};
 
 use std::alloc::{AllocError, Global};
 

@@ -1,27 +1,13 @@
 -- The walk of a complex, section by section.
 use Rattle.std.proofs.Common.{◌≡◌, ◌==◌, ℕ, ◌+◌, ◌*◌, ◌^◌, ◌<◌, ◌≤◌, sym, ◌∙◌, ap, subst, arith, Bool, ◌↔◌, IsTrue, OnOk, List, [], ◌∷◌, ◌++◌, length, map, get_or, sum_by, Ok, Err, Result}
-use Rattle.linear_law.specs.Names.{Each}
-use Rattle.linear_law.proofs.Names.{each_map}
+use Rattle.linear_law.{specs.Names.Each, proofs.Names.each_map}
 use Rattle.simplicial_law.specs.ListedSimplices.{simplices}
 use Rattle.complex_file.specs.declared.block.Sent.{Sent}
-use Rattle.report.specs.declared.columns.OperationPart.{OperationPart}
-use Rattle.report.specs.declared.columns.ProductPart.{ProductPart}
-use Rattle.report.specs.declared.complex.ComplexPart.{ComplexPart}
-use Rattle.report.specs.declared.complex.DegreePart.{DegreePart}
-use Rattle.report.specs.declared.map.InducedPart.{InducedPart}
-use Rattle.report.specs.declared.map.MapPart.{MapPart}
+use Rattle.report.specs.declared.{columns.OperationPart.OperationPart, columns.ProductPart.ProductPart, complex.ComplexPart.ComplexPart, complex.DegreePart.DegreePart, map.InducedPart.InducedPart, map.MapPart.MapPart}
 use Rattle.report_law.specs.Names.{induced_degrees, number_pairs, ranks_of}
-use Rattle.certificate_law.specs.Names.{Asks, IsComplexWhole, IsMapWhole, rank_in, Stated, behind, cartan_stated, complex_ends, complex_opens, complex_stated, degree_stated, facet_stands, induced_stated, map_between, map_ends, map_opens, numbered, operation_stated, product_stated, send_stands}
-use Rattle.certificate_law.proofs.Asked.{each_right}
-use Rattle.certificate_walk.specs.declared.stop.Stop.{Stop}
-use Rattle.certificate_walk.specs.Names.{complex_lines, degree_lines, induced_lines, map_lines, operation_lines, product_lines, IsWalk}
-use Rattle.certificate_walk.proofs.Names.{behind_each, cartans_length, degree_length, induced_length, numbered_sum, operation_length, product_length, walk_both}
-use Rattle.count_check.specs.declared.complexes.Live.{Live}
-use Rattle.count_check.specs.Columns.{AreFew, AreSmall}
-use Rattle.count_check.specs.LineGroups.{HasAll, IsLive}
-use Rattle.count_check.proofs.LiveLemmas.{filter_least}
-use Rattle.count_check.proofs.SectionLemmas.{rank_is}
-use Rattle.count_check.proofs.TotalLemmas.{ranks_are}
+use Rattle.certificate_law.{specs.Names.{Asks, IsComplexWhole, IsMapWhole, rank_in, Stated, behind, cartan_stated, complex_ends, complex_opens, complex_stated, degree_stated, facet_stands, induced_stated, map_between, map_ends, map_opens, numbered, operation_stated, product_stated, send_stands}, proofs.Asked.each_right}
+use Rattle.certificate_walk.{specs.declared.stop.Stop.Stop, specs.Names.{complex_lines, degree_lines, induced_lines, map_lines, operation_lines, product_lines, IsWalk}, proofs.Names.{behind_each, cartans_length, degree_length, induced_length, numbered_sum, operation_length, product_length, walk_both}}
+use Rattle.count_check.{specs.declared.complexes.Live.Live, specs.Columns.{AreFew, AreSmall}, specs.LineGroups.{HasAll, IsLive}, proofs.LiveLemmas.filter_least, proofs.SectionLemmas.rank_is, proofs.TotalLemmas.ranks_are}
 
 -- ---- the sections of a complex
 

@@ -1,17 +1,9 @@
 -- The live Cartan lines, group by group, and lists of the numbers that pass a test.
-use Rattle.std.proofs.Common.{◌≡◌, ℕ, zero, suc, ◌+◌, ◌^◌, ◌<◌, ◌≤◌, refl, sym, ◌∙◌, ap, ap₂, subst, arith, Bool, true, false, cond, List, [], ◌∷◌, ◌++◌, append_assoc, lit<, length, map, flat_map, get_or, take, append-nil, take_all}
-use Rattle.std.specs.List.{filter}
-use Rattle.std.proofs.lemmas.Grind.{flat_map-append}
-use Rattle.std.proofs.lemmas.List.{map-append, take_more}
-use Rattle.std.proofs.lemmas.List.Elements.{filter-append, filter_more}
-use Rattle.std.proofs.lemmas.Option.{get_or_from_slice_get}
+use Rattle.std.{proofs.Common.{◌≡◌, ℕ, zero, suc, ◌+◌, ◌^◌, ◌<◌, ◌≤◌, refl, sym, ◌∙◌, ap, ap₂, subst, arith, Bool, true, false, cond, List, [], ◌∷◌, ◌++◌, append_assoc, lit<, length, map, flat_map, get_or, take, append-nil, take_all}, specs.List.filter, proofs.lemmas.Grind.flat_map-append, proofs.lemmas.List.{map-append, take_more}, proofs.lemmas.List.Elements.{filter-append, filter_more}, proofs.lemmas.Option.get_or_from_slice_get}
 use Rattle.signed_sum.specs.Names.{numbers_from}
 use Rattle.report.specs.declared.plan.Line.{Line}
 use Rattle.report_law.specs.Names.{class_numbers, degrees, lines, lines_of_pair}
-use Rattle.count_check.specs.declared.lines.LineGroup.{LineGroup}
-use Rattle.count_check.specs.Columns.{AreSmall}
-use Rattle.count_check.specs.LineGroups.{IsSmallGroup, group_lines, is_live_number, line_with, lines_from, pair_lines}
-use Rattle.count_check.proofs.PlaceLemmas.{number_at, numbers_length}
+use Rattle.count_check.{specs.declared.lines.LineGroup.LineGroup, specs.Columns.AreSmall, specs.LineGroups.{IsSmallGroup, group_lines, is_live_number, line_with, lines_from, pair_lines}, proofs.PlaceLemmas.{number_at, numbers_length}}
 
 -- ---- the numbers from 0 on that pass a test
 

@@ -1,14 +1,9 @@
 -- What stands at a place of a list of rows that are equally long.
-use Rattle.std.proofs.Common.{◌≡◌, ℕ, zero, suc, ◌+◌, ◌*◌, ◌/◌, ◌%◌, ◌-◌, ◌<◌, ◌≤◌, refl, sym, ◌∙◌, ap, ap₂, subst, arith, leb, ◌↔◌, IsTrue, List, [], ◌∷◌, ◌++◌, length, map, flat_map, get_or, drop, slice_get, option_map, Some, None, vec_len, le-leb, leb-true, length-append, div-add-mod'}
-use Rattle.std.proofs.lemmas.List.{at_drop_more, length-map}
-use Rattle.std.proofs.lemmas.Nat.{div_below}
-use Rattle.std.proofs.lemmas.Option.{slice_get-map, slice_get-get_or, slice_get_past}
-use Rattle.std.proofs.Math.Nat.{mod-lt}
+use Rattle.std.proofs.{Common.{◌≡◌, ℕ, zero, suc, ◌+◌, ◌*◌, ◌/◌, ◌%◌, ◌-◌, ◌<◌, ◌≤◌, refl, sym, ◌∙◌, ap, ap₂, subst, arith, leb, ◌↔◌, IsTrue, List, [], ◌∷◌, ◌++◌, length, map, flat_map, get_or, drop, slice_get, option_map, Some, None, vec_len, le-leb, leb-true, length-append, div-add-mod'}, lemmas.List.{at_drop_more, length-map}, lemmas.Nat.div_below, lemmas.Option.{slice_get-map, slice_get-get_or, slice_get_past}, Math.Nat.mod-lt}
 use Rattle.signed_sum.specs.Names.{numbers_from}
 use Rattle.report.specs.declared.plan.Line.{Line}
 use Rattle.report_law.specs.Names.{number_pairs}
-use Rattle.count_check.specs.declared.lines.LineGroup.{LineGroup}
-use Rattle.count_check.specs.LineGroups.{group_lines, line_with}
+use Rattle.count_check.specs.{declared.lines.LineGroup.LineGroup, LineGroups.{group_lines, line_with}}
 
 pub slice_left : {X : Type 0} (xs ys : List X) (k : ℕ) → k < length xs → slice_get (xs ++ ys) k ≡ slice_get xs k
 slice_left [] ys k b = absurd (omega arith)

@@ -1,30 +1,14 @@
 -- How many lines are left of a section.
-use Rattle.std.proofs.Common.{◌≡◌, ℕ, zero, suc, ◌+◌, ◌^◌, ◌<◌, ◌≤◌, sym, ◌∙◌, ap, ap₂, subst, arith, true, false, if◌then◌else◌, map, Ok, Err, ◌↔◌, Bool, IsTrue, List, [], ◌∷◌, ◌++◌, length, get_or, slice_get, drop, sum_by, Some, Result, length-append}
-use Rattle.std.proofs.lemmas.List.{at_drop_more}
-use Rattle.std.proofs.lemmas.List.Sums.{sum_by-cons}
-use Rattle.std.proofs.Math.ListN.{get_or-map}
-use Rattle.linear_law.specs.Names.{Each}
-use Rattle.linear_law.proofs.Names.{each_append}
+use Rattle.std.proofs.{Common.{◌≡◌, ℕ, zero, suc, ◌+◌, ◌^◌, ◌<◌, ◌≤◌, sym, ◌∙◌, ap, ap₂, subst, arith, true, false, if◌then◌else◌, map, Ok, Err, ◌↔◌, Bool, IsTrue, List, [], ◌∷◌, ◌++◌, length, get_or, slice_get, drop, sum_by, Some, Result, length-append}, lemmas.List.at_drop_more, lemmas.List.Sums.sum_by-cons, Math.ListN.get_or-map}
+use Rattle.linear_law.{specs.Names.Each, proofs.Names.each_append}
 use Rattle.simplicial_law.specs.Names.{Chain}
 use Rattle.complex_index.specs.Names.{level}
-use Rattle.report.specs.declared.columns.CartanAnswer.{CartanAnswer}
-use Rattle.report.specs.declared.columns.CartanAnswer.TheVariants.{No, Yes}
-use Rattle.report.specs.declared.columns.OperationPart.{OperationPart}
-use Rattle.report.specs.declared.columns.PairColumn.{PairColumn}
-use Rattle.report.specs.declared.columns.ProductPart.{ProductPart}
-use Rattle.report.specs.declared.complex.ComplexPart.{ComplexPart}
-use Rattle.report.specs.declared.complex.DegreePart.{DegreePart}
-use Rattle.report.specs.declared.map.InducedPart.{InducedPart}
-use Rattle.report.specs.declared.map.MapPart.{MapPart}
+use Rattle.report.specs.declared.{columns.CartanAnswer.CartanAnswer, columns.CartanAnswer.TheVariants.{No, Yes}, columns.OperationPart.OperationPart, columns.PairColumn.PairColumn, columns.ProductPart.ProductPart, complex.ComplexPart.ComplexPart, complex.DegreePart.DegreePart, map.InducedPart.InducedPart, map.MapPart.MapPart}
 use Rattle.report_law.specs.Names.{below_in, classes_of, number_pairs, numbers_of, ranks_of}
 use Rattle.certificate_law.specs.Names.{Asks, IsProductColumn, IsCounted, rank_in, Stated, after, answer_stated, below_stands, class_stands, induced_column, operation_column}
-use Rattle.certificate_walk.specs.declared.stop.Stop.{Stop}
-use Rattle.certificate_walk.specs.declared.stop.Stop.TheVariants.{Fails}
-use Rattle.certificate_walk.specs.Names.{degree_lines, IsWalk}
-use Rattle.certificate_walk.proofs.Names.{after_each, rest_next}
+use Rattle.certificate_walk.{specs.declared.stop.Stop.Stop, specs.declared.stop.Stop.TheVariants.Fails, specs.Names.{degree_lines, IsWalk}, proofs.Names.{after_each, rest_next}}
 use Rattle.listed_rows.proofs.CountLemmas.{simplices_counted}
-use Rattle.count_check.specs.Columns.{AsksColumns}
-use Rattle.count_check.specs.Totals.{IsIndexed}
+use Rattle.count_check.specs.{Columns.AsksColumns, Totals.IsIndexed}
 
 -- a test against a list, and against one that is the same
 pub is_live : {X : Type 0} (x : X) (k : ℕ) {xs ys : List X} {b : Bool} → xs ≡ ys → (IsTrue b ↔ (slice_get ys k ≡ Some x)) → IsTrue b ↔ (slice_get xs k ≡ Some x)

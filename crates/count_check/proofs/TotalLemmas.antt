@@ -1,20 +1,14 @@
 -- The sizes of complexes.
-use Rattle.std.proofs.Common.{◌≡◌, ℕ, zero, suc, ◌+◌, ◌^◌, ◌<◌, refl, sym, ◌∙◌, ap, ap₂, subst, arith, List, [], ◌∷◌, ◌++◌, length, map, get_or, take, Some, None}
-use Rattle.std.specs.List.{AllZip}
-use Rattle.std.proofs.lemmas.List.{length-map, map-append, take_more}
+use Rattle.std.{proofs.Common.{◌≡◌, ℕ, zero, suc, ◌+◌, ◌^◌, ◌<◌, refl, sym, ◌∙◌, ap, ap₂, subst, arith, List, [], ◌∷◌, ◌++◌, length, map, get_or, take, Some, None}, specs.List.AllZip, proofs.lemmas.List.{length-map, map-append, take_more}}
 use Rattle.signed_sum.specs.Names.{numbers_from}
 use Rattle.linear_law.specs.Names.{Each, IsAscending}
-use Rattle.simplicial_law.specs.Names.{of_degree}
-use Rattle.simplicial_law.specs.ListedSimplices.{simplices}
+use Rattle.simplicial_law.specs.{Names.of_degree, ListedSimplices.simplices}
 use Rattle.complex_index.specs.Names.{IsIndexOf, level}
-use Rattle.report.specs.declared.complex.ComplexPart.{ComplexPart}
-use Rattle.report.specs.declared.complex.DegreePart.{DegreePart}
-use Rattle.report.specs.declared.plan.Sizes.{Sizes}
+use Rattle.report.specs.declared.{complex.ComplexPart.ComplexPart, complex.DegreePart.DegreePart, plan.Sizes.Sizes}
 use Rattle.report_law.specs.Names.{ranks, passing_sum, simplex_counts, sizes_of}
 use Rattle.listed_rows.proofs.CountLemmas.{simplices_counted}
 use Rattle.term_total.specs.Names.{IsPart}
-use Rattle.count_check.specs.Totals.{IsCountable, job_sizes}
-use Rattle.count_check.proofs.PlaceLemmas.{numbers_length}
+use Rattle.count_check.{specs.Totals.{IsCountable, job_sizes}, proofs.PlaceLemmas.numbers_length}
 
 pub zip_get : {X Z : Type 0} (R : X → Z → Type 0) (xs : List X) (zs : List Z) (i : ℕ) (x : X) (z : Z) → AllZip R xs zs → i < length zs → x ≡ get_or xs i x → z ≡ get_or zs i z → R x z
 zip_get R [] [] i x z h b e f = absurd (omega arith)

@@ -1,11 +1,7 @@
 -- What is asked of the lines of columns.
 use Rattle.std.specs.Prelude.{ℕ, ◌^◌, ◌<◌, Bool, ◌&&◌, List, [], ◌∷◌, length}
 use Rattle.linear_law.specs.Names.{Each}
-use Rattle.report.specs.declared.columns.Column.{Column}
-use Rattle.report.specs.declared.columns.PairColumn.{PairColumn}
-use Rattle.report.specs.declared.columns.ProductPart.{ProductPart}
-use Rattle.report.specs.declared.complex.ComplexPart.{ComplexPart}
-use Rattle.report.specs.declared.complex.DegreePart.{DegreePart}
+use Rattle.report.specs.declared.{columns.Column.Column, columns.PairColumn.PairColumn, columns.ProductPart.ProductPart, complex.ComplexPart.ComplexPart, complex.DegreePart.DegreePart}
 use Rattle.report_law.specs.Names.{has_class}
 use Rattle.certificate_law.specs.Names.{IsColumnAt, IsCountLine, Stated, product_column, with_stands}
 

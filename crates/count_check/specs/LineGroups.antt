@@ -1,14 +1,10 @@
 -- The live Cartan lines of two degrees.
-use Rattle.std.specs.Prelude.{ℕ, ◌+◌, ◌^◌, ◌<◌, ◌≤◌, ◌≡◌, Bool, ◌&&◌, List, flat_map, get_or, length, map}
-use Rattle.std.specs.List.{filter}
+use Rattle.std.specs.{Prelude.{ℕ, ◌+◌, ◌^◌, ◌<◌, ◌≤◌, ◌≡◌, Bool, ◌&&◌, List, flat_map, get_or, length, map}, List.filter}
 use Rattle.signed_sum.specs.Names.{numbers_from}
 use Rattle.linear_law.specs.Names.{Each}
-use Rattle.report.specs.declared.complex.ComplexPart.{ComplexPart}
-use Rattle.report.specs.declared.plan.Line.{Line}
+use Rattle.report.specs.declared.{complex.ComplexPart.ComplexPart, plan.Line.Line}
 use Rattle.report_law.specs.Names.{blocks, cartan_op, class_numbers, degrees, has_class, is_defined, lines, products, target_degree, number_pairs}
-use Rattle.count_check.specs.declared.complexes.Live.{Live}
-use Rattle.count_check.specs.declared.lines.LineGroup.{LineGroup}
-use Rattle.count_check.specs.Columns.{AreSmall}
+use Rattle.count_check.specs.{declared.complexes.Live.Live, declared.lines.LineGroup.LineGroup, Columns.AreSmall}
 
 -- whether the lines of degrees a and b for this n are live
 abbrev pub is_live_number : ℕ → List ℕ → ℕ → ℕ → ℕ → Bool

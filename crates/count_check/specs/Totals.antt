@@ -2,8 +2,7 @@
 use Rattle.std.specs.Prelude.{ℕ, ◌≤◌, List, length, map}
 use Rattle.linear_law.specs.Names.{Each, IsAscending}
 use Rattle.complex_index.specs.Names.{IsIndexOf}
-use Rattle.report.specs.declared.complex.ComplexPart.{ComplexPart}
-use Rattle.report.specs.declared.plan.Sizes.{Sizes}
+use Rattle.report.specs.declared.{complex.ComplexPart.ComplexPart, plan.Sizes.Sizes}
 use Rattle.report_law.specs.Names.{sizes_of}
 use Rattle.count_check.specs.Columns.{AreFew}
 

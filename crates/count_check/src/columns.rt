@@ -2,8 +2,7 @@
 ghost use Rattle.std.specs.Prelude.{◌≡◌, ◌↔◌, ◌<◌, ◌+◌, ◌*◌, ◌^◌, ℕ, length, IfOk, IsTrue, Ok, Err, if◌then◌else◌};
 ghost use Rattle.report.specs.declared.columns.Column.{Column as ColumnPart};
 ghost use Rattle.certificate_law.specs.Names.{Asks, IsColumnAt, Stated, numbered};
-ghost use Rattle.certificate_walk.specs.declared.stop.Stop.TheVariants.{Fails};
-ghost use Rattle.certificate_walk.specs.Names.{IsWalk};
+ghost use Rattle.certificate_walk.specs.{declared.stop.Stop.TheVariants.Fails, Names.IsWalk};
 ghost use Rattle.count_check.specs.Columns.{AsksColumns, with_primitive};
 
 use certificate_walk::{Stop, ask};

@@ -7,9 +7,7 @@ ghost use Rattle.report.specs.declared.complex.ComplexPart.{ComplexPart as Liste
 ghost use Rattle.report_law.specs.Names.{number_pairs};
 ghost use Rattle.certificate_law.specs.Names.{Asks, complex_stated};
 ghost use Rattle.certificate_walk.specs.Names.{complex_lines, IsWalk};
-ghost use Rattle.count_check.specs.Columns.{AreFew, AreSmall};
-ghost use Rattle.count_check.specs.LineGroups.{HasAll, IsLive, IsSmallGroup, group_lines};
-ghost use Rattle.count_check.specs.Totals.{IsIndexed};
+ghost use Rattle.count_check.specs.{Columns.{AreFew, AreSmall}, LineGroups.{HasAll, IsLive, IsSmallGroup, group_lines}, Totals.IsIndexed};
 
 use crate::blocks::{have_columns, operations};
 use crate::degrees::degrees;

@@ -1,6 +1,5 @@
 //! The Cartan lines.
-ghost use Rattle.std.specs.Prelude.{◌≡◌, ◌↔◌, ◌<◌, ◌≤◌, ◌+◌, ◌*◌, ◌++◌, ◌^◌, ℕ, List, flat_map, length, map, slice_get, Some, IfOk, IsTrue, OnOk};
-ghost use Rattle.std.specs.List.{filter};
+ghost use Rattle.std.specs.{Prelude.{◌≡◌, ◌↔◌, ◌<◌, ◌≤◌, ◌+◌, ◌*◌, ◌++◌, ◌^◌, ℕ, List, flat_map, length, map, slice_get, Some, IfOk, IsTrue, OnOk}, List.filter};
 ghost use Rattle.signed_sum.specs.Names.{numbers_from};
 ghost use Rattle.linear_law.specs.Names.{Each};
 ghost use Rattle.fp_field.specs.Served.{served};
@@ -8,8 +7,7 @@ ghost use Rattle.report.specs.declared.complex.ComplexPart.{ComplexPart};
 ghost use Rattle.report_law.specs.Names.{lines as lines_of, lines_of_pair, line_of, ranks_of};
 ghost use Rattle.certificate_law.specs.Names.{Asks, cartan_stated, numbered};
 ghost use Rattle.certificate_walk.specs.Names.{IsWalk};
-ghost use Rattle.count_check.specs.Columns.{AreSmall};
-ghost use Rattle.count_check.specs.LineGroups.{IsSmallGroup, group_lines, is_live_number, lines_from};
+ghost use Rattle.count_check.specs.{Columns.AreSmall, LineGroups.{IsSmallGroup, group_lines, is_live_number, lines_from}};
 
 use crate::columns::ask_first;
 use crate::rank::rank_at;

@@ -1,8 +1,7 @@
 //! A map.
 ghost use Rattle.std.specs.Prelude.{◌≡◌, ◌↔◌, ◌<◌, ◌≤◌, ◌+◌, ◌^◌, ℕ, List, length, get_or, slice_get, sum_by, Some, IfOk, IsTrue};
 ghost use Rattle.linear_law.specs.Names.{Each};
-ghost use Rattle.report.specs.declared.complex.ComplexPart.{ComplexPart as Listed};
-ghost use Rattle.report.specs.declared.map.MapPart.{MapPart as ListedMap};
+ghost use Rattle.report.specs.declared.{complex.ComplexPart.{ComplexPart as Listed}, map.MapPart.{MapPart as ListedMap}};
 ghost use Rattle.report_law.specs.Names.{induced_degrees as induced_degrees_of, ranks_of};
 ghost use Rattle.certificate_law.specs.Names.{Asks, induced_stated, map_between, numbered};
 ghost use Rattle.certificate_walk.specs.Names.{induced_lines, map_lines, IsWalk};

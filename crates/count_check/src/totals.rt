@@ -1,6 +1,5 @@
 //! The counted terms.
-ghost use Rattle.std.specs.Prelude.{◌≡◌, ◌<◌, ◌+◌, ◌∷◌, ◌^◌, ℕ, List, [], IfOk, IsTrue, OnOk, is_some};
-ghost use Rattle.std.specs.List.{AllZip};
+ghost use Rattle.std.specs.{Prelude.{◌≡◌, ◌<◌, ◌+◌, ◌∷◌, ◌^◌, ℕ, List, [], IfOk, IsTrue, OnOk, is_some}, List.AllZip};
 ghost use Rattle.linear_law.specs.Names.{Each, IsAscending};
 ghost use Rattle.fp_field.specs.Served.{served};
 ghost use Rattle.complex_index.specs.Names.{IsIndexOf};

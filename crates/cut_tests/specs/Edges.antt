@@ -1,7 +1,5 @@
 -- A cochain of degree 1 for tests.
-use Rattle.std.specs.Prelude.{◌≡◌, ℕ, ◌*◌, ◌-◌, ◌%◌, ◌<◌, List, [], ◌∷◌, length, refl}
-use Rattle.std.proofs.Common.{inl, inr, arith, ap, ◌∙◌}
-use Rattle.std.proofs.lemmas.Bool.{cases_lt}
+use Rattle.std.{specs.Prelude.{◌≡◌, ℕ, ◌*◌, ◌-◌, ◌%◌, ◌<◌, List, [], ◌∷◌, length, refl}, proofs.Common.{inl, inr, arith, ap, ◌∙◌}, proofs.lemmas.Bool.cases_lt}
 use Rattle.linear_law.specs.Names.{IsAscending}
 
 -- c times the length of an edge, modulo 3; 0 where the second vertex is not above the first

@@ -1,11 +1,7 @@
 -- The simplices that are faces of no other are the facets that lie in no other.
-use Rattle.std.proofs.Common.{◌≡◌, ◌⊎◌, ℕ, zero, suc, ◌+◌, ◌-◌, ◌<◌, ◌≤◌, inl, inr, refl, sym, ap, ap₂, subst, arith, List, [], ◌∷◌, map, length, get_or}
-use Rattle.std.specs.List.Sorted.{IsStrictlySortedBy}
-use Rattle.std.proofs.lemmas.Bool.{cases_eq, cases_lt}
-use Rattle.linear_law.specs.Names.{Among, Each, IsAscending}
-use Rattle.linear_law.proofs.Names.{among_map, each_among, each_itself, each_map, each_of_map, each_zip}
-use Rattle.simplicial_law.specs.Names.{faces, simplex_cmp, IsSimplex}
-use Rattle.simplicial_law.proofs.Names.{sorted_in_order, of_map}
+use Rattle.std.{proofs.Common.{◌≡◌, ◌⊎◌, ℕ, zero, suc, ◌+◌, ◌-◌, ◌<◌, ◌≤◌, inl, inr, refl, sym, ap, ap₂, subst, arith, List, [], ◌∷◌, map, length, get_or}, specs.List.Sorted.IsStrictlySortedBy, proofs.lemmas.Bool.{cases_eq, cases_lt}}
+use Rattle.linear_law.{specs.Names.{Among, Each, IsAscending}, proofs.Names.{among_map, each_among, each_itself, each_map, each_of_map, each_zip}}
+use Rattle.simplicial_law.{specs.Names.{faces, simplex_cmp, IsSimplex}, proofs.Names.{sorted_in_order, of_map}}
 use Rattle.complex_index.specs.Names.{IsIndexOf, level}
 use Rattle.report_law.specs.Names.{AreMaximalFacets, IsMaximal, IsWithin}
 use Rattle.facet_list.specs.Covered.{IsFaceIn, IsFree}

@@ -1,14 +1,7 @@
 -- The loops that mark faces and take what is not marked.
-use Rattle.std.proofs.Common.{◌≡◌, ◌⊎◌, ℕ, zero, suc, ◌+◌, ◌<◌, ◌≤◌, Bool, true, false, Result, Ok, Err, inl, inr, refl, sym, ap, subst, arith, ◌∙◌, List, [], ◌∷◌, ◌++◌, map, length, get_or, set, take, length-set, get_or-set_same, get_or-set_other}
-use Rattle.std.specs.List.Sorted.{IsStrictlySortedBy}
-use Rattle.std.specs.Result.{IfOk}
-use Rattle.std.specs.BTreeSet.{insert_key}
-use Rattle.std.specs.Cmp.Lexicographic.{nat_list_cmp_total}
-use Rattle.std.proofs.lemmas.Bool.{cases_eq}
-use Rattle.linear_law.specs.Names.{Among, Each, ListsAll}
-use Rattle.linear_law.proofs.Names.{among_left, among_map, among_right}
-use Rattle.simplicial_law.specs.Names.{faces, simplex_cmp}
-use Rattle.simplicial_law.proofs.Names.{exact, among_inserted, insert_keeps, insert_puts, sorted_inserted, of_map}
+use Rattle.std.{proofs.Common.{◌≡◌, ◌⊎◌, ℕ, zero, suc, ◌+◌, ◌<◌, ◌≤◌, Bool, true, false, Result, Ok, Err, inl, inr, refl, sym, ap, subst, arith, ◌∙◌, List, [], ◌∷◌, ◌++◌, map, length, get_or, set, take, length-set, get_or-set_same, get_or-set_other}, specs.List.Sorted.IsStrictlySortedBy, specs.Result.IfOk, specs.BTreeSet.insert_key, specs.Cmp.Lexicographic.nat_list_cmp_total, proofs.lemmas.Bool.cases_eq}
+use Rattle.linear_law.{specs.Names.{Among, Each, ListsAll}, proofs.Names.{among_left, among_map, among_right}}
+use Rattle.simplicial_law.{specs.Names.{faces, simplex_cmp}, proofs.Names.{exact, among_inserted, insert_keeps, insert_puts, sorted_inserted, of_map}}
 use Rattle.complex_index.specs.Names.{ArePlaces, simplex_at, level}
 use Rattle.facet_list.specs.Covered.{AddsBelow, AddsFree, AreMarked, Covers, IsFaceIn, IsFree}
 

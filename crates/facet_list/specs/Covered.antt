@@ -1,6 +1,5 @@
 -- Which simplices of a complex are faces of others.
-use Rattle.std.specs.Prelude.{◌≡◌, ◌⊎◌, ℕ, ◌+◌, ◌<◌, Bool, true, false, List, [], length, get_or}
-use Rattle.std.specs.List.Sorted.{IsStrictlySortedBy}
+use Rattle.std.specs.{Prelude.{◌≡◌, ◌⊎◌, ℕ, ◌+◌, ◌<◌, Bool, true, false, List, [], length, get_or}, List.Sorted.IsStrictlySortedBy}
 use Rattle.linear_law.specs.Names.{Among}
 use Rattle.simplicial_law.specs.Names.{faces, simplex_cmp}
 use Rattle.complex_index.specs.Names.{level}

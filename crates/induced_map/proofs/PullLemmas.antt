@@ -1,24 +1,14 @@
 -- Pull-backs of classes, and the matrices of their columns.
-use Rattle.std.proofs.Common.{◌≡◌, ℕ, Bool, List, [], ◌∷◌, map, sym, ap, subst, IsTrue}
-use Rattle.std.specs.List.{AllZip}
-use Rattle.fp_field.specs.Served.{served}
-use Rattle.fp_field.proofs.ServedLemmas.{served_field, served_large}
-use Rattle.linear_law.proofs.Names.{Congruent_of, Congruent_trans}
-use Rattle.linear_law.specs.Names.{matrix_times}
-use Rattle.simplicial_law.specs.Names.{AgreesOnSimplices, Cochain as SimplexCochain, HasCoordinates, cochain_of}
-use Rattle.simplicial_law.proofs.Names.{cocycles, agree_by_place}
-use Rattle.steenrod_law.specs.Names.{pull_back}
-use Rattle.steenrod_law.proofs.LawProofs.{induced_map_law}
-use Rattle.complex_index.specs.declared.indexed.Cochain.{Cochain}
-use Rattle.complex_index.specs.Names.{IsIndexOf, level, IsPullBackOf}
-use Rattle.cohomology.specs.declared.basis.Column.{Column}
-use Rattle.cohomology.specs.Names.{IsColumnOf, AreCanonicalIn, cochain_in, IsClosedIn, cochains_at}
-use Rattle.may_steenrod.specs.Cochains.{IsClosed}
-use Rattle.may_steenrod.proofs.OnLemmas.{value_by_place}
+use Rattle.std.{proofs.Common.{◌≡◌, ℕ, Bool, List, [], ◌∷◌, map, sym, ap, subst, IsTrue}, specs.List.AllZip}
+use Rattle.fp_field.{specs.Served.served, proofs.ServedLemmas.{served_field, served_large}}
+use Rattle.linear_law.{proofs.Names.{Congruent_of, Congruent_trans}, specs.Names.matrix_times}
+use Rattle.simplicial_law.{specs.Names.{AgreesOnSimplices, Cochain as SimplexCochain, HasCoordinates, cochain_of}, proofs.Names.{cocycles, agree_by_place}}
+use Rattle.steenrod_law.{specs.Names.pull_back, proofs.LawProofs.induced_map_law}
+use Rattle.complex_index.specs.{declared.indexed.Cochain.Cochain, Names.{IsIndexOf, level, IsPullBackOf}}
+use Rattle.cohomology.specs.{declared.basis.Column.Column, Names.{IsColumnOf, AreCanonicalIn, cochain_in, IsClosedIn, cochains_at}}
+use Rattle.may_steenrod.{specs.Cochains.IsClosed, proofs.OnLemmas.value_by_place}
 use Rattle.report_law.specs.Names.{IsColumn, cochains_in}
-use Rattle.op_matrix.specs.Columns.{listed_columns, primitive_terms, values_of}
-use Rattle.op_matrix.proofs.ColumnLemmas.{column-for}
-use Rattle.op_matrix.proofs.TableLemmas.{column-alike, count-classes}
+use Rattle.op_matrix.{specs.Columns.{listed_columns, primitive_terms, values_of}, proofs.ColumnLemmas.column-for, proofs.TableLemmas.{column-alike, count-classes}}
 use Rattle.induced_map.specs.Induced.{IsInducedMatrix, IsMapIn, IsPulledColumn}
 
 module _ (p : ℕ) (detailed : Bool) (f : ℕ → ℕ) (from to : List (List (List ℕ))) (classes : ℕ → List (Cochain p)) (canonical : (n : ℕ) → AreCanonicalIn p from n (classes n)) (is_served : IsTrue (served p)) (is_map : IsMapIn f from to) where

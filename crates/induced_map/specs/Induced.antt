@@ -3,10 +3,8 @@ use Rattle.std.specs.Prelude.{ℕ, Bool, List, length}
 use Rattle.linear_law.specs.Names.{matrix_times}
 use Rattle.simplicial_law.specs.Names.{Cochain as SimplexCochain, HasCoordinates, IsCocycle}
 use Rattle.steenrod_law.specs.Names.{IsSimplicial, pull_back}
-use Rattle.complex_index.specs.declared.indexed.Cochain.{Cochain}
-use Rattle.complex_index.specs.Names.{IsIndexOf}
-use Rattle.cohomology.specs.declared.basis.Column.{Column}
-use Rattle.cohomology.specs.Names.{cochain_in, cochains_at}
+use Rattle.complex_index.specs.{declared.indexed.Cochain.Cochain, Names.IsIndexOf}
+use Rattle.cohomology.specs.{declared.basis.Column.Column, Names.{cochain_in, cochains_at}}
 use Rattle.report_law.specs.Names.{Classes, IsInducedBlock}
 use Rattle.op_matrix.specs.Columns.{AreListedAs, IsColumnFor, listed_columns, values_of}
 

@@ -1,27 +1,16 @@
 -- The two sides of a line and their difference, from rows by place.
-use Rattle.std.proofs.Common.{◌≡◌, ℕ, ◌+◌, ◌*◌, Bool, ◌-◌, ◌%◌, ◌≤◌, ◌&&◌, true, List, [], ◌∷◌, ◌++◌, map, length, arith, refl, sym, ap, subst, ◌∙◌, IsTrue, Result, Ok, Err, IfOk, leb-true}
-use Rattle.std.proofs.lemmas.Bool.{and_parts}
-use Rattle.fp_field.specs.Served.{served}
-use Rattle.fp_field.proofs.ServedLemmas.{for_served, served_field}
-use Rattle.linear_law.specs.Names.{Congruent, negated, Each}
-use Rattle.linear_law.proofs.Names.{Congruent_add, Congruent_mod, Congruent_mul, Congruent_of, Congruent_refl, Congruent_scale, Congruent_trans, each_zip, zip_push, sum_append}
+use Rattle.std.proofs.{Common.{◌≡◌, ℕ, ◌+◌, ◌*◌, Bool, ◌-◌, ◌%◌, ◌≤◌, ◌&&◌, true, List, [], ◌∷◌, ◌++◌, map, length, arith, refl, sym, ap, subst, ◌∙◌, IsTrue, Result, Ok, Err, IfOk, leb-true}, lemmas.Bool.and_parts}
+use Rattle.fp_field.{specs.Served.served, proofs.ServedLemmas.{for_served, served_field}}
+use Rattle.linear_law.{specs.Names.{Congruent, negated, Each}, proofs.Names.{Congruent_add, Congruent_mod, Congruent_mul, Congruent_of, Congruent_refl, Congruent_scale, Congruent_trans, each_zip, zip_push, sum_append}}
 use Rattle.signed_sum.specs.Names.{numbers_from}
-use Rattle.simplicial_law.specs.Names.{AgreesOnSimplices, Cochain as SimplexCochain}
-use Rattle.simplicial_law.proofs.Names.{cocycles, CongruentInt_sym, CongruentInt_trans}
-use Rattle.steenrod_law.specs.Names.{cup_product, extended}
-use Rattle.steenrod_law.proofs.Complexes.{weak_of_simplex}
-use Rattle.steenrod_law.proofs.OperationLaws.{operation-faces, to_residues, value-same, vertices}
+use Rattle.simplicial_law.{specs.Names.{AgreesOnSimplices, Cochain as SimplexCochain}, proofs.Names.{cocycles, CongruentInt_sym, CongruentInt_trans}}
+use Rattle.steenrod_law.{specs.Names.{cup_product, extended}, proofs.Complexes.weak_of_simplex, proofs.OperationLaws.{operation-faces, to_residues, value-same, vertices}}
 use Rattle.sparse_rows.specs.Rows.{IsBelow, IsRow, value_in}
-use Rattle.complex_index.specs.declared.indexed.Cochain.{Cochain}
-use Rattle.complex_index.specs.Names.{IsIndexOf, level}
+use Rattle.complex_index.specs.{declared.indexed.Cochain.Cochain, Names.{IsIndexOf, level}}
 use Rattle.may_steenrod.specs.Cochains.{HasValues, IsClosed, cochain_in}
-use Rattle.report.specs.declared.plan.Line.{Line}
-use Rattle.report.specs.declared.plan.Op.{Op}
-use Rattle.report_law.specs.Names.{IsCartanProduct, IsOperation, cartan_op, cartan_pairs, element_degree, is_defined, target_degree, line_degree}
-use Rattle.report_law.proofs.Names.{agrees-trans, each-of, of-filter, of-map, of-numbers, scaled, extended-alike}
-use Rattle.line_difference.specs.Differences.{IsLess, IsLinePair, IsPart, IsPlacedIn}
-use Rattle.line_difference.specs.Elements.{HasElements}
-use Rattle.line_difference.proofs.RowSums.{sum-agrees, sum-below}
+use Rattle.report.specs.declared.plan.{Line.Line, Op.Op}
+use Rattle.report_law.{specs.Names.{IsCartanProduct, IsOperation, cartan_op, cartan_pairs, element_degree, is_defined, target_degree, line_degree}, proofs.Names.{agrees-trans, each-of, of-filter, of-map, of-numbers, scaled, extended-alike}}
+use Rattle.line_difference.{specs.Differences.{IsLess, IsLinePair, IsPart, IsPlacedIn}, specs.Elements.HasElements, proofs.RowSums.{sum-agrees, sum-below}}
 
 -- ---- what holds of an answer in parts
 

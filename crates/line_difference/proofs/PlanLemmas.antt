@@ -1,23 +1,11 @@
 -- The live products, blocks and lines of a complex, and what is stored for them.
-use Rattle.std.proofs.Common.{◌≡◌, ◌∙◌, ℕ, ◌+◌, ◌<◌, ◌≤◌, ◌&&◌, inl, inr, Bool, true, List, [], ◌∷◌, length, map, get_or, arith, refl, sym, ap, subst, IsSome, flat_map, fold, if◌then◌else◌, None, Some, unwrap_or, ℤ}
-use Rattle.std.specs.declared.option.Option.{Option}
-use Rattle.std.specs.BTreeSet.{insert_key}
-use Rattle.std.specs.Ordering.{nat_cmp}
-use Rattle.std.specs.FinMap.{nat_cmp-IsAntisymmetric}
-use Rattle.std.proofs.lemmas.Bool.{and_parts}
+use Rattle.std.{proofs.Common.{◌≡◌, ◌∙◌, ℕ, ◌+◌, ◌<◌, ◌≤◌, ◌&&◌, inl, inr, Bool, true, List, [], ◌∷◌, length, map, get_or, arith, refl, sym, ap, subst, IsSome, flat_map, fold, if◌then◌else◌, None, Some, unwrap_or, ℤ}, specs.declared.option.Option.Option, specs.BTreeSet.insert_key, specs.Ordering.nat_cmp, specs.FinMap.nat_cmp-IsAntisymmetric, proofs.lemmas.Bool.and_parts}
 use Rattle.signed_sum.specs.Names.{numbers_from}
-use Rattle.linear_law.specs.Names.{Among, Each}
-use Rattle.linear_law.proofs.Names.{among_left, among_map, among_right, each_among}
+use Rattle.linear_law.{specs.Names.{Among, Each}, proofs.Names.{among_left, among_map, among_right, each_among}}
 use Rattle.simplicial_law.proofs.Names.{insert_keeps, insert_puts}
 use Rattle.may_elements.specs.Stored.{stored_at}
-use Rattle.report.specs.declared.plan.Block.{Block}
-use Rattle.report.specs.declared.plan.Line.{Line}
-use Rattle.report.specs.declared.plan.Op.{Op}
-use Rattle.report.specs.declared.plan.Op.TheVariants.{Square, Power, BocksteinPower}
-use Rattle.report.specs.declared.plan.Product.{Product}
-use Rattle.report.specs.declared.plan.Sizes.{Sizes}
-use Rattle.report_law.specs.Names.{all_lines, blocks, cartan_op, cartan_pairs, class_numbers, degrees, element_degree, has_class, is_defined, lines, products, target, target_degree, complex_elements, elements, line_elements}
-use Rattle.report_law.proofs.Names.{has-degree, each-of, in-flat_map, of-filter, of-flat_map, of-map, of-numbers, of-lines}
+use Rattle.report.specs.declared.plan.{Block.Block, Line.Line, Op.Op, Op.TheVariants.{Square, Power, BocksteinPower}, Product.Product, Sizes.Sizes}
+use Rattle.report_law.{specs.Names.{all_lines, blocks, cartan_op, cartan_pairs, class_numbers, degrees, element_degree, has_class, is_defined, lines, products, target, target_degree, complex_elements, elements, line_elements}, proofs.Names.{has-degree, each-of, in-flat_map, of-filter, of-flat_map, of-map, of-numbers, of-lines}}
 use Rattle.line_difference.specs.Elements.{AreStored, HasElement, HasElements}
 
 -- what was inserted stands among the keys

@@ -1,14 +1,10 @@
 -- A row plus a multiple of another.
 use Rattle.std.proofs.Common.{◌≡◌, ◌∙◌, ℕ, ◌+◌, ◌*◌, ◌%◌, ◌<◌, List, [], ◌∷◌, ◌++◌, map, arith, sym, ap}
-use Rattle.linear_law.proofs.Names.{Congruent_mod, Congruent_of, Congruent_trans, each_append, each_of_map, sum_append}
-use Rattle.linear_law.specs.Names.{unit_vector}
-use Rattle.simplicial_law.specs.Names.{AgreesOnSimplices}
-use Rattle.simplicial_law.proofs.Names.{agree_by_place}
-use Rattle.sparse_rows.specs.Rows.{IsBelow, IsRow, value_in}
-use Rattle.sparse_rows.proofs.RowLemmas.{below_of_sum}
+use Rattle.linear_law.{proofs.Names.{Congruent_mod, Congruent_of, Congruent_trans, each_append, each_of_map, sum_append}, specs.Names.unit_vector}
+use Rattle.simplicial_law.{specs.Names.AgreesOnSimplices, proofs.Names.agree_by_place}
+use Rattle.sparse_rows.{specs.Rows.{IsBelow, IsRow, value_in}, proofs.RowLemmas.below_of_sum}
 use Rattle.complex_index.specs.Names.{IsIndexOf, level}
-use Rattle.may_steenrod.specs.Cochains.{cochain_in}
-use Rattle.may_steenrod.proofs.OnLemmas.{value_by_place}
+use Rattle.may_steenrod.{specs.Cochains.cochain_in, proofs.OnLemmas.value_by_place}
 
 abbrev times : ℕ → List (ℕ × ℕ) → List (ℕ × ℕ)
 times by row = map (λ e. (e.0, by * e.1)) row

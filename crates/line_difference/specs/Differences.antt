@@ -1,10 +1,8 @@
 -- The difference of the two sides of a Cartan line, as it is made.
-use Rattle.std.specs.Prelude.{◌≡◌, ℕ, ◌+◌, true, List, length, ℤ}
-use Rattle.std.specs.List.{AllZip}
+use Rattle.std.specs.{Prelude.{◌≡◌, ℕ, ◌+◌, true, List, length, ℤ}, List.AllZip}
 use Rattle.linear_law.specs.Names.{negated, sum_over}
 use Rattle.simplicial_law.specs.Names.{AgreesOnSimplices, Cochain as SimplexCochain}
-use Rattle.complex_index.specs.declared.indexed.Cochain.{Cochain}
-use Rattle.complex_index.specs.Names.{IsIndexOf, level}
+use Rattle.complex_index.specs.{declared.indexed.Cochain.Cochain, Names.{IsIndexOf, level}}
 use Rattle.sparse_rows.specs.Rows.{IsBelow}
 use Rattle.may_steenrod.specs.Cochains.{IsClosed, cochain_in}
 use Rattle.report.specs.declared.plan.Line.{Line}

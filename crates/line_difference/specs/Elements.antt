@@ -2,8 +2,7 @@
 use Rattle.std.specs.Prelude.{◌≡◌, ◌⊎◌, ℕ, ◌+◌, List, [], IsSome, ℤ}
 use Rattle.linear_law.specs.Names.{Each}
 use Rattle.may_elements.specs.Stored.{stored_at}
-use Rattle.report.specs.declared.plan.Line.{Line}
-use Rattle.report.specs.declared.plan.Op.{Op}
+use Rattle.report.specs.declared.plan.{Line.Line, Op.Op}
 use Rattle.report_law.specs.Names.{cartan_op, cartan_pairs, element_degree, complex_elements}
 
 -- the May element that an operation on degree q is made with is stored; at 2 none is needed

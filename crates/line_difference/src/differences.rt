@@ -1,8 +1,7 @@
 ghost use Rattle.std.specs.Prelude.{◌≡◌, ◌≤◌, ◌+◌, [], true, IfOk, IsTrue};
 ghost use Rattle.fp_field.specs.Served.{served};
 ghost use Rattle.report_law.specs.Names.{cartan_op as cartan_op_at, cartan_pairs as cartan_pairs_of, is_defined};
-ghost use Rattle.line_difference.specs.Differences.{IsLess, IsLinePair, IsPart, IsPlacedIn};
-ghost use Rattle.line_difference.specs.Elements.{HasElement, HasElements};
+ghost use Rattle.line_difference.specs.{Differences.{IsLess, IsLinePair, IsPart, IsPlacedIn}, Elements.{HasElement, HasElements}};
 
 use crate::operations::operation;
 use complex_index::{Cochain, Indexed};

@@ -1,14 +1,7 @@
 -- The terms of a listed chain one after the other, at ascending places.
-use Rattle.std.proofs.Common.{◌≡◌, ℕ, zero, suc, ◌+◌, ◌-◌, ◌<◌, ◌≢◌, ◌%◌, true, inl, inr, arith, refl, sym, ◌∙◌, ap, subst, List, [], ◌∷◌, ◌++◌, take, length, get_or, Ordering, Less, Equal, Greater, Option, Some, None, mod-eq_of_lt, MatchOption, nat_lt, ltb-true}
-use Rattle.std.specs.Cmp.Lexicographic.{nat_list_cmp_total}
-use Rattle.std.specs.List.{list_all}
-use Rattle.std.specs.Ordering.{is_lt}
-use Rattle.std.proofs.lemmas.Bool.{and_parts, cases_order}
-use Rattle.std.proofs.lemmas.List.{map-append, take_more}
-use Rattle.linear_law.specs.Names.{Among, Each}
-use Rattle.linear_law.proofs.Names.{each_get_or, each_unmap, each_zip}
-use Rattle.simplicial_law.specs.Names.{IsInOrder, IsSimplex, Precedes, Chain, simplex_cmp}
-use Rattle.simplicial_law.proofs.Names.{lists_strict}
+use Rattle.std.{proofs.Common.{◌≡◌, ℕ, zero, suc, ◌+◌, ◌-◌, ◌<◌, ◌≢◌, ◌%◌, true, inl, inr, arith, refl, sym, ◌∙◌, ap, subst, List, [], ◌∷◌, ◌++◌, take, length, get_or, Ordering, Less, Equal, Greater, Option, Some, None, mod-eq_of_lt, MatchOption, nat_lt, ltb-true}, specs.Cmp.Lexicographic.nat_list_cmp_total, specs.List.list_all, specs.Ordering.is_lt, proofs.lemmas.Bool.{and_parts, cases_order}, proofs.lemmas.List.{map-append, take_more}}
+use Rattle.linear_law.{specs.Names.{Among, Each}, proofs.Names.{each_get_or, each_unmap, each_zip}}
+use Rattle.simplicial_law.{specs.Names.{IsInOrder, IsSimplex, Precedes, Chain, simplex_cmp}, proofs.Names.lists_strict}
 use Rattle.simplex_set.proofs.Sizes.{among_place}
 use Rattle.sparse_rows.specs.Rows.{IsBelow}
 use Rattle.complex_index.specs.Names.{IsIndexOf, level}

@@ -1,15 +1,10 @@
 -- How many simplices a degree has, by the index of a complex.
 use Rattle.std.proofs.Common.{◌≡◌, ℕ, ◌≤◌, arith, subst, List, [], length}
-use Rattle.linear_law.specs.Names.{Among, Each, IsAscending, ListsAll}
-use Rattle.linear_law.proofs.Names.{apart_short, each_map}
-use Rattle.simplicial_law.specs.Names.{IsInOrder, IsSimplex, of_degree}
-use Rattle.simplicial_law.specs.ListedSimplices.{simplices}
-use Rattle.simplicial_law.proofs.Names.{listed_simplices_law}
+use Rattle.linear_law.{specs.Names.{Among, Each, IsAscending, ListsAll}, proofs.Names.{apart_short, each_map}}
+use Rattle.simplicial_law.{specs.Names.{IsInOrder, IsSimplex, of_degree}, specs.ListedSimplices.simplices, proofs.Names.listed_simplices_law}
 use Rattle.simplex_set.proofs.Sizes.{among_place}
 use Rattle.complex_index.specs.Names.{IsIndexOf, level}
-use Rattle.certificate_law.specs.Names.{simplex_count}
-use Rattle.certificate_law.proofs.CanonicalData.{in_order_apart}
-use Rattle.certificate_law.proofs.PivotCounts.{simplex_same_or_not}
+use Rattle.certificate_law.{specs.Names.simplex_count, proofs.CanonicalData.in_order_apart, proofs.PivotCounts.simplex_same_or_not}
 
 no_more : (On : List ℕ → Type 0) (xs ys : List (List ℕ)) → IsInOrder xs → Each On xs → ListsAll On ys → length xs ≤ length ys
 no_more On xs ys o h all =

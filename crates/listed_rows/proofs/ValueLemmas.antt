@@ -1,11 +1,7 @@
 -- The values of a row, and on which simplices a chain stands.
-use Rattle.std.proofs.Common.{◌≡◌, ℕ, zero, suc, ◌+◌, ◌*◌, ◌<◌, ◌≤◌, ◌≢◌, ◌==◌, true, false, inl, inr, arith, refl, sym, ◌∙◌, ap, ap₂, subst, List, [], ◌∷◌, length, get_or}
-use Rattle.std.proofs.lemmas.Bool.{cases_eq}
-use Rattle.std.proofs.lemmas.Bool.Decides.{eqb_tells}
-use Rattle.linear_law.specs.Names.{Each, unit_vector}
-use Rattle.linear_law.proofs.Names.{Congruent_of, each_get_or, each_map, each_of_map, unit_one, unit_other}
-use Rattle.simplicial_law.specs.Names.{IsSimplex, Chain, coboundary, unit_cochain, cochain_of, terms_of}
-use Rattle.simplicial_law.proofs.Names.{coboundary_zero, unit_away, unit_here}
+use Rattle.std.proofs.{Common.{◌≡◌, ℕ, zero, suc, ◌+◌, ◌*◌, ◌<◌, ◌≤◌, ◌≢◌, ◌==◌, true, false, inl, inr, arith, refl, sym, ◌∙◌, ap, ap₂, subst, List, [], ◌∷◌, length, get_or}, lemmas.Bool.cases_eq, lemmas.Bool.Decides.eqb_tells}
+use Rattle.linear_law.{specs.Names.{Each, unit_vector}, proofs.Names.{Congruent_of, each_get_or, each_map, each_of_map, unit_one, unit_other}}
+use Rattle.simplicial_law.{specs.Names.{IsSimplex, Chain, coboundary, unit_cochain, cochain_of, terms_of}, proofs.Names.{coboundary_zero, unit_away, unit_here}}
 use Rattle.sparse_rows.specs.Rows.{IsBelow, value_in}
 use Rattle.complex_index.specs.Names.{IsCoboundaryOf, IsIndexOf, level}
 use Rattle.certificate_law.specs.Names.{IsOn, IsOnBelow}

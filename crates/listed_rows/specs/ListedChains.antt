@@ -1,6 +1,5 @@
 -- Listed chains, and the rows of cochains at the simplices of one degree.
-use Rattle.std.specs.Prelude.{◌≡◌, ℕ, ◌<◌, List, [], length, get_or, Some, None}
-use Rattle.std.specs.declared.option.Option.{Option}
+use Rattle.std.specs.{Prelude.{◌≡◌, ℕ, ◌<◌, List, [], length, get_or, Some, None}, declared.option.Option.Option}
 use Rattle.linear_law.specs.Names.{Congruent}
 use Rattle.simplicial_law.specs.Names.{Chain, Cochain, coboundary, cochain_of, terms_of}
 use Rattle.sparse_rows.specs.Rows.{IsBelow, value_in}

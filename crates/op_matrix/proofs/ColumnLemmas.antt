@@ -1,15 +1,10 @@
 -- From rows by place to columns of a report.
-use Rattle.std.proofs.Common.{◌≡◌, ◌≢◌, ℕ, zero, suc, ◌+◌, ◌-◌, ◌<◌, Bool, true, false, List, [], length, get_or, arith, refl, sym, ap, subst, IsTrue, MatchOption, Some, None}
-use Rattle.std.specs.declared.option.Option.{Option}
-use Rattle.std.proofs.lemmas.Simd.{map-map}
+use Rattle.std.{proofs.Common.{◌≡◌, ◌≢◌, ℕ, zero, suc, ◌+◌, ◌-◌, ◌<◌, Bool, true, false, List, [], length, get_or, arith, refl, sym, ap, subst, IsTrue, MatchOption, Some, None}, specs.declared.option.Option.Option, proofs.lemmas.Simd.map-map}
 use Rattle.linear_law.proofs.Names.{each_map, each_of_map, Congruent_trans}
-use Rattle.simplicial_law.specs.Names.{IsInOrder, IsSimplex, AgreesOnSimplices, Chain, Cochain as SimplexCochain, IsCanonicalPrimitive, AreTerms, cochain_of, terms_of}
-use Rattle.simplicial_law.proofs.Names.{ordered_places, simplex_at}
+use Rattle.simplicial_law.{specs.Names.{IsInOrder, IsSimplex, AgreesOnSimplices, Chain, Cochain as SimplexCochain, IsCanonicalPrimitive, AreTerms, cochain_of, terms_of}, proofs.Names.{ordered_places, simplex_at}}
 use Rattle.sparse_rows.specs.Rows.{IsBelow, IsRow}
-use Rattle.complex_index.specs.declared.indexed.Cochain.{Cochain}
-use Rattle.complex_index.specs.Names.{IsIndexOf, level}
-use Rattle.cohomology.specs.declared.basis.Column.{Column}
-use Rattle.cohomology.specs.Names.{cochain_in, IsPrimitiveOf, rest_in, IsColumnOf}
+use Rattle.complex_index.specs.{declared.indexed.Cochain.Cochain, Names.{IsIndexOf, level}}
+use Rattle.cohomology.specs.{declared.basis.Column.Column, Names.{cochain_in, IsPrimitiveOf, rest_in, IsColumnOf}}
 use Rattle.report_law.specs.Names.{IsPrimitive}
 use Rattle.op_matrix.specs.Columns.{IsColumnFor, primitive_terms}
 

@@ -1,8 +1,5 @@
 -- Lists that grow with the first items of others.
-use Rattle.std.proofs.Common.{◌≡◌, ℕ, zero, suc, ◌+◌, ◌<◌, List, [], ◌∷◌, ◌++◌, append_assoc, map, length, take, arith, refl, sym, ap, subst, ◌∙◌, append-nil, flat_map, slice_get, Some}
-use Rattle.std.proofs.lemmas.Grind.{flat_map-append}
-use Rattle.std.proofs.lemmas.List.{map-append}
-use Rattle.std.specs.List.{AllZip}
+use Rattle.std.{proofs.Common.{◌≡◌, ℕ, zero, suc, ◌+◌, ◌<◌, List, [], ◌∷◌, ◌++◌, append_assoc, map, length, take, arith, refl, sym, ap, subst, ◌∙◌, append-nil, flat_map, slice_get, Some}, proofs.lemmas.Grind.flat_map-append, proofs.lemmas.List.map-append, specs.List.AllZip}
 use Rattle.linear_law.proofs.Names.{zip_push}
 
 -- the item at a place inside, which stands behind the first items

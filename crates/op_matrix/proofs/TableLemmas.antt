@@ -1,30 +1,16 @@
 -- Matrices from their columns.
-use Rattle.std.proofs.Common.{◌≡◌, ℕ, zero, suc, ◌+◌, Bool, true, List, [], ◌∷◌, ◌++◌, map, length, refl, sym, ap, ap₂, subst, ◌∙◌, IsTrue, flat_map, slice_get, Some, None}
-use Rattle.std.specs.declared.option.Option.{Option}
-use Rattle.std.specs.List.{AllZip}
-use Rattle.std.proofs.lemmas.List.{length-map, map-append}
-use Rattle.fp_field.specs.Served.{served}
-use Rattle.fp_field.proofs.ServedLemmas.{served_field}
-use Rattle.linear_law.specs.Names.{IsField, negated, Each, combination, matrix_times}
-use Rattle.linear_law.proofs.Names.{Congruent_add, Congruent_refl, Congruent_sym}
+use Rattle.std.{proofs.Common.{◌≡◌, ℕ, zero, suc, ◌+◌, Bool, true, List, [], ◌∷◌, ◌++◌, map, length, refl, sym, ap, ap₂, subst, ◌∙◌, IsTrue, flat_map, slice_get, Some, None}, specs.declared.option.Option.Option, specs.List.AllZip, proofs.lemmas.List.{length-map, map-append}}
+use Rattle.fp_field.{specs.Served.served, proofs.ServedLemmas.served_field, specs.Orbits.orbit_words}
+use Rattle.linear_law.{specs.Names.{IsField, negated, Each, combination, matrix_times}, proofs.Names.{Congruent_add, Congruent_refl, Congruent_sym}}
 use Rattle.simplicial_law.specs.Names.{AgreesOnSimplices, Cochain as SimplexCochain, HasCoordinates, IsCocycle, IsCohomologyBasis, cochain_of, terms_of}
-use Rattle.steenrod_law.specs.Names.{cochain_products, coefficient_products, cup_product, scaled_operation}
-use Rattle.steenrod_law.proofs.ClassLaws.{matrix-law, product-closed, product-matrix}
-use Rattle.fp_field.specs.Orbits.{orbit_words}
-use Rattle.steenrod_law.proofs.OrbitTables.{orbit_words_law}
-use Rattle.complex_index.specs.declared.indexed.Cochain.{Cochain}
-use Rattle.complex_index.specs.Names.{IsIndexOf, level}
-use Rattle.cohomology.specs.declared.basis.Column.{Column}
-use Rattle.cohomology.specs.Names.{AreCanonicalIn, IsPlaced, chains_at, cochain_in, IsClosedIn, IsColumnOf, cochains_at}
-use Rattle.report.specs.declared.plan.Block.{Block}
-use Rattle.report.specs.declared.plan.Product.{Product}
+use Rattle.steenrod_law.{specs.Names.{cochain_products, coefficient_products, cup_product, scaled_operation}, proofs.ClassLaws.{matrix-law, product-closed, product-matrix}, proofs.OrbitTables.orbit_words_law}
+use Rattle.complex_index.specs.{declared.indexed.Cochain.Cochain, Names.{IsIndexOf, level}}
+use Rattle.cohomology.specs.{declared.basis.Column.Column, Names.{AreCanonicalIn, IsPlaced, chains_at, cochain_in, IsClosedIn, IsColumnOf, cochains_at}}
+use Rattle.report.specs.declared.plan.{Block.Block, Product.Product}
 use Rattle.may_steenrod.specs.Cochains.{HasValues, IsClosed}
 use Rattle.sparse_rows.specs.Rows.{IsBelow}
-use Rattle.report_law.specs.Names.{IsColumn, rest_of, IsOperation, element_degree, is_defined, target_degree, Classes, IsOperationColumn, cochains_in}
-use Rattle.report_law.proofs.Names.{agrees-sym, coordinates-alike, IsScaled, scaled, scaled-closed}
-use Rattle.op_matrix.specs.Columns.{AreListedAs, IsColumnFor, listed_column, listed_columns, primitive_terms, values_of}
-use Rattle.op_matrix.proofs.ColumnLemmas.{column-for, primitive-alike}
-use Rattle.op_matrix.specs.Tables.{IsOperationMatrix, IsPairColumn, IsProductMatrix, IsResultColumn}
+use Rattle.report_law.{specs.Names.{IsColumn, rest_of, IsOperation, element_degree, is_defined, target_degree, Classes, IsOperationColumn, cochains_in}, proofs.Names.{agrees-sym, coordinates-alike, IsScaled, scaled, scaled-closed}}
+use Rattle.op_matrix.{specs.Columns.{AreListedAs, IsColumnFor, listed_column, listed_columns, primitive_terms, values_of}, proofs.ColumnLemmas.{column-for, primitive-alike}, specs.Tables.{IsOperationMatrix, IsPairColumn, IsProductMatrix, IsResultColumn}}
 
 -- the pairs of two lists, by the first and then the second
 abbrev pub pairs_of : {X : Type 0} → List X → List X → List (X × X)

@@ -1,11 +1,8 @@
 -- Columns of coordinates for the canonical classes of a complex, as a report lists them.
-use Rattle.std.specs.Prelude.{◌≡◌, ℕ, ◌-◌, Bool, List, [], map, Some, None}
-use Rattle.std.specs.declared.option.Option.{Option}
+use Rattle.std.specs.{Prelude.{◌≡◌, ℕ, ◌-◌, Bool, List, [], map, Some, None}, declared.option.Option.Option}
 use Rattle.simplicial_law.specs.Names.{Chain, Cochain as SimplexCochain, terms_of}
-use Rattle.complex_index.specs.declared.indexed.Cochain.{Cochain}
-use Rattle.complex_index.specs.Names.{level}
-use Rattle.cohomology.specs.declared.basis.Column.{Column}
-use Rattle.cohomology.specs.Names.{chains_at, cochains_at}
+use Rattle.complex_index.specs.{declared.indexed.Cochain.Cochain, Names.level}
+use Rattle.cohomology.specs.{declared.basis.Column.Column, Names.{chains_at, cochains_at}}
 use Rattle.report.specs.declared.columns.Column.{Column as ListedColumn}
 use Rattle.report_law.specs.Names.{IsColumn, Classes, classes_in}
 

@@ -3,12 +3,9 @@ use Rattle.std.specs.Prelude.{ℕ, ◌+◌, Bool, List, length}
 use Rattle.linear_law.specs.Names.{matrix_times}
 use Rattle.simplicial_law.specs.Names.{Cochain as SimplexCochain, HasCoordinates, IsCocycle}
 use Rattle.steenrod_law.specs.Names.{coefficient_products, cup_product}
-use Rattle.complex_index.specs.declared.indexed.Cochain.{Cochain}
-use Rattle.complex_index.specs.Names.{IsIndexOf}
-use Rattle.cohomology.specs.declared.basis.Column.{Column}
-use Rattle.cohomology.specs.Names.{cochain_in, cochains_at}
-use Rattle.report.specs.declared.plan.Block.{Block}
-use Rattle.report.specs.declared.plan.Product.{Product}
+use Rattle.complex_index.specs.{declared.indexed.Cochain.Cochain, Names.IsIndexOf}
+use Rattle.cohomology.specs.{declared.basis.Column.Column, Names.{cochain_in, cochains_at}}
+use Rattle.report.specs.declared.plan.{Block.Block, Product.Product}
 use Rattle.report_law.specs.Names.{IsOperation, Classes, IsOperationBlock, IsProductBlock}
 use Rattle.op_matrix.specs.Columns.{AreListedAs, IsColumnFor, listed_columns, values_of}
 

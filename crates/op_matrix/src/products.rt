@@ -1,5 +1,4 @@
-ghost use Rattle.std.specs.Prelude.{◌≡◌, ◌≤◌, ◌+◌, ◌-◌, ◌++◌, List, length, map, slice_get, Some, IfOk, IsTrue, OnOk};
-ghost use Rattle.std.specs.List.{AllZip};
+ghost use Rattle.std.specs.{Prelude.{◌≡◌, ◌≤◌, ◌+◌, ◌-◌, ◌++◌, List, length, map, slice_get, Some, IfOk, IsTrue, OnOk}, List.AllZip};
 ghost use Rattle.fp_field.specs.Served.{served};
 ghost use Rattle.complex_index.specs.declared.indexed.Cochain.{Cochain};
 ghost use Rattle.op_matrix.specs.Tables.{IsPairColumn, IsProductMatrix};

@@ -1,21 +1,9 @@
 -- The sends of a map in order, and the map that they give.
-use Rattle.std.proofs.Common.{◌≡◌, ◌≢◌, ◌∙◌, ℕ, ◌+◌, ◌<◌, ◌⊎◌, ◌||◌, ◌&&◌, ◌==◌, inl, inr, Bool, true, false, not, cond, List, [], ◌∷◌, ◌++◌, map, length, take, get_or, arith, refl, sym, ap, subst, fold, Some, None, if◌then◌else◌, eq-eqb, eqb-true}
-use Rattle.std.specs.declared.cmp.Ordering.{Ordering}
-use Rattle.std.specs.declared.cmp.Ordering.TheVariants.{Less, Equal, Greater}
-use Rattle.std.specs.Ordering.{match_ordering, nat_cmp}
-use Rattle.std.specs.BTreeMap.{insert_entry}
-use Rattle.std.proofs.lemmas.List.{take_more}
-use Rattle.std.proofs.lemmas.List.Sums.{fold-append}
-use Rattle.std.proofs.lemmas.Bool.{cases_Bool}
-use Rattle.std.proofs.lemmas.Cmp.{ranked}
-use Rattle.linear_law.specs.Names.{Among, Each, IsAscending}
-use Rattle.linear_law.proofs.Names.{among_map, each_itself, each_map, each_of_map, each_unmap}
-use Rattle.complex_file.specs.Names.{first_send_fault, image, is_sent, is_vertex, map_fault, send_fault}
-use Rattle.complex_file.specs.declared.block.Sent.{Sent}
-use Rattle.complex_file.specs.declared.kind.InputKind.TheVariants.{VertexSentTwice, VertexUnknown}
+use Rattle.std.{proofs.Common.{◌≡◌, ◌≢◌, ◌∙◌, ℕ, ◌+◌, ◌<◌, ◌⊎◌, ◌||◌, ◌&&◌, ◌==◌, inl, inr, Bool, true, false, not, cond, List, [], ◌∷◌, ◌++◌, map, length, take, get_or, arith, refl, sym, ap, subst, fold, Some, None, if◌then◌else◌, eq-eqb, eqb-true}, specs.declared.cmp.Ordering.Ordering, specs.declared.cmp.Ordering.TheVariants.{Less, Equal, Greater}, specs.Ordering.{match_ordering, nat_cmp}, specs.BTreeMap.insert_entry, proofs.lemmas.List.take_more, proofs.lemmas.List.Sums.fold-append, proofs.lemmas.Bool.cases_Bool, proofs.lemmas.Cmp.ranked}
+use Rattle.linear_law.{specs.Names.{Among, Each, IsAscending}, proofs.Names.{among_map, each_itself, each_map, each_of_map, each_unmap}}
+use Rattle.complex_file.specs.{Names.{first_send_fault, image, is_sent, is_vertex, map_fault, send_fault}, declared.block.Sent.Sent, declared.kind.InputKind.TheVariants.{VertexSentTwice, VertexUnknown}}
 use Rattle.complex_index.specs.Names.{image_of}
-use Rattle.report_law.specs.Names.{AreOrderedSends}
-use Rattle.report_law.proofs.Names.{no-earlier}
+use Rattle.report_law.{specs.Names.AreOrderedSends, proofs.Names.no-earlier}
 use Rattle.ordered_sends.specs.Sends.{IsOnce, entries_of, pair_of, sent_of}
 
 -- ---- the image of a vertex

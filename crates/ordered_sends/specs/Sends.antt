@@ -1,7 +1,5 @@
 -- The sends of a map, by the vertex that is sent.
-use Rattle.std.specs.Prelude.{◌≢◌, ℕ, List, [], ◌∷◌, fold}
-use Rattle.std.specs.BTreeMap.{insert_entry}
-use Rattle.std.specs.Ordering.{nat_cmp}
+use Rattle.std.specs.{Prelude.{◌≢◌, ℕ, List, [], ◌∷◌, fold}, BTreeMap.insert_entry, Ordering.nat_cmp}
 use Rattle.linear_law.specs.Names.{Each}
 use Rattle.complex_file.specs.declared.block.Sent.{Sent}
 

@@ -1,19 +1,6 @@
 -- What each text of a report shows.
 use Rattle.std.specs.Prelude.{Bool, true, false, if◌then◌else◌, List, [], map}
-use Rattle.report.specs.declared.columns.CartanAnswer.{CartanAnswer}
-use Rattle.report.specs.declared.columns.CartanAnswer.TheVariants.{Yes, No}
-use Rattle.report.specs.declared.columns.CartanPart.{CartanPart}
-use Rattle.report.specs.declared.columns.Column.{Column}
-use Rattle.report.specs.declared.columns.OperationPart.{OperationPart}
-use Rattle.report.specs.declared.columns.PairColumn.{PairColumn}
-use Rattle.report.specs.declared.columns.ProductPart.{ProductPart}
-use Rattle.report.specs.declared.complex.ComplexPart.{ComplexPart}
-use Rattle.report.specs.declared.complex.DegreePart.{DegreePart}
-use Rattle.report.specs.declared.form.Form.{Form}
-use Rattle.report.specs.declared.form.Form.TheVariants.{Basis, Short, Certificate}
-use Rattle.report.specs.declared.job.Report.{Report}
-use Rattle.report.specs.declared.map.InducedPart.{InducedPart}
-use Rattle.report.specs.declared.map.MapPart.{MapPart}
+use Rattle.report.specs.declared.{columns.CartanAnswer.CartanAnswer, columns.CartanAnswer.TheVariants.{Yes, No}, columns.CartanPart.CartanPart, columns.Column.Column, columns.OperationPart.OperationPart, columns.PairColumn.PairColumn, columns.ProductPart.ProductPart, complex.ComplexPart.ComplexPart, complex.DegreePart.DegreePart, form.Form.Form, form.Form.TheVariants.{Basis, Short, Certificate}, job.Report.Report, map.InducedPart.InducedPart, map.MapPart.MapPart}
 
 -- each form has the classes; the short form and the certificate have the matrices and the verdicts too
 abbrev pub has_tables : Form → Bool

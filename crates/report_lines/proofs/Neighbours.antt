@@ -1,9 +1,5 @@
 -- A test of each item and the next, by a recursion from the front.
-use Rattle.std.proofs.Common.{◌≡◌, ◌∙◌, ℕ, zero, suc, ◌+◌, ◌<◌, Bool, true, false, ◌&&◌, List, [], ◌∷◌, length, get_or, refl, ap, sym, subst, arith, nat_lt}
-use Rattle.std.specs.List.{IsAllAdjacentAnswer}
-use Rattle.std.specs.Ordering.{is_lt}
-use Rattle.std.proofs.lemmas.Bool.{and_from}
-use Rattle.std.proofs.Math.Bool.{and-false}
+use Rattle.std.{proofs.Common.{◌≡◌, ◌∙◌, ℕ, zero, suc, ◌+◌, ◌<◌, Bool, true, false, ◌&&◌, List, [], ◌∷◌, length, get_or, refl, ap, sym, subst, arith, nat_lt}, specs.List.IsAllAdjacentAnswer, specs.Ordering.is_lt, proofs.lemmas.Bool.and_from, proofs.Math.Bool.and-false}
 use Rattle.simplicial_law.specs.Names.{simplex_cmp}
 use Rattle.report_text_law.specs.Names.{ascends, terms_ascend}
 

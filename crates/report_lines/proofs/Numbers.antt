@@ -1,6 +1,5 @@
 -- Numbers of borrowed words, and numbers that fit.
-use Rattle.std.proofs.Common.{◌≡◌, ℕ, List, [], ◌∷◌, map, ap, refl}
-use Rattle.std.specs.Borrow.{Bor}
+use Rattle.std.{proofs.Common.{◌≡◌, ℕ, List, [], ◌∷◌, map, ap, refl}, specs.Borrow.Bor}
 use Rattle.complex_file.specs.Names.{texts}
 use Rattle.report_text_law.specs.Names.{number, numbers}
 

@@ -1,10 +1,7 @@
 -- The text of a line without its last byte.
-use Rattle.std.proofs.Common.{◌≡◌, ◌∙◌, ℕ, ◌-◌, ◌≤◌, List, [], ◌∷◌, length, take, ap, arith, length-append}
-use Rattle.std.proofs.Math.Seq.{take-append_seam}
+use Rattle.std.proofs.{Common.{◌≡◌, ◌∙◌, ℕ, ◌-◌, ◌≤◌, List, [], ◌∷◌, length, take, ap, arith, length-append}, Math.Seq.take-append_seam}
 use Rattle.report.specs.declared.form.Form.TheVariants.{Certificate}
-use Rattle.report_text_law.specs.Names.{spelled, ended, shown}
-use Rattle.report_text_law.specs.declared.line.Line.{Line}
-use Rattle.report_text_law.proofs.Texts.{shown_spelled}
+use Rattle.report_text_law.{specs.Names.{spelled, ended, shown}, specs.declared.line.Line.Line, proofs.Texts.shown_spelled}
 
 front : (s : List ℕ) → take (length (ended s) - 1) (ended s) ≡ s
 front s =

@@ -1,5 +1,4 @@
-ghost use Rattle.std.specs.Prelude.{◌≡◌, IfOk};
-ghost use Rattle.std.specs.Str.{bytes_eq};
+ghost use Rattle.std.specs.{Prelude.{◌≡◌, IfOk}, Str.bytes_eq};
 ghost use Rattle.report_text_law.specs.Names.{if_same, line_at, spelled};
 
 use crate::guesses::guess;

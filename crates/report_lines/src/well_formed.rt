@@ -1,5 +1,4 @@
-ghost use Rattle.std.specs.Prelude.{◌≡◌};
-ghost use Rattle.std.specs.List.{list_all};
+ghost use Rattle.std.specs.{Prelude.{◌≡◌}, List.list_all};
 ghost use Rattle.report_text_law.specs.Names.{are_values, ascends, is_chain, is_line, is_simplex, is_term, is_unit, is_vertex, terms_ascend};
 
 use complex_file::is_name;

@@ -1,5 +1,4 @@
-ghost use Rattle.std.specs.Prelude.{◌≡◌, ◌==◌, IfOk};
-ghost use Rattle.std.specs.List.{slice_split};
+ghost use Rattle.std.specs.{Prelude.{◌≡◌, ◌==◌, IfOk}, List.slice_split};
 ghost use Rattle.complex_file.specs.Names.{texts};
 ghost use Rattle.report_text_law.specs.Names.{number, numbers, op_of, with_digit};
 

@@ -1,35 +1,8 @@
 -- The items of which a part follows their first line.
-use Rattle.std.proofs.Common.{◌≡◌, ◌∙◌, ℕ, ◌+◌, Bool, cond, List, [], ◌∷◌, ◌++◌, length, ap, refl, arith, Some, None, true, false, Result, ◌==◌, eq-eqb}
-use Rattle.std.specs.declared.option.Option.{Option}
-use Rattle.report.specs.declared.columns.CartanAnswer.TheVariants.{Yes as answers_yes, No as answers_no}
-use Rattle.report.specs.declared.columns.Column.{Column}
-use Rattle.report.specs.declared.columns.OpWord.{OpWord}
-use Rattle.report.specs.declared.columns.OperationPart.{OperationPart}
-use Rattle.report.specs.declared.columns.PairColumn.{PairColumn}
-use Rattle.report.specs.declared.columns.ProductPart.{ProductPart}
-use Rattle.report.specs.declared.complex.ComplexPart.{ComplexPart}
-use Rattle.report.specs.declared.complex.DegreePart.{DegreePart}
-use Rattle.report.specs.declared.map.InducedPart.{InducedPart}
-use Rattle.report.specs.declared.map.MapPart.{MapPart}
-use Rattle.report_text_law.specs.Names.{Chain, ◌>>=◌, move, with_column, with_complex, with_induced_column, with_pair}
-use Rattle.report_text_law.specs.declared.line.Line.TheVariants.{Complex as complex_line, Map as map_line, End as end_line, With as with_line, Column as column_line, Cycle as cycle_line, CartanYes as cartan_yes, CartanNo as cartan_no}
-use Rattle.report_text_law.specs.declared.state.ComplexStage.TheVariants.{Facets, Values, Yes, No, Cartans}
-use Rattle.report_text_law.specs.declared.state.Finding.{Finding}
-use Rattle.report_text_law.specs.declared.state.Graded.{Graded}
-use Rattle.report_text_law.specs.declared.state.Judged.{Judged}
-use Rattle.report_text_law.specs.declared.state.MapHead.{MapHead}
-use Rattle.report_text_law.specs.declared.state.MapStage.{MapStage}
-use Rattle.report_text_law.specs.declared.state.MapStage.TheVariants.{Sends, InducedValues}
-use Rattle.report_text_law.specs.declared.state.Multiplied.{Multiplied}
-use Rattle.report_text_law.specs.declared.state.Operated.{Operated}
-use Rattle.report_text_law.specs.declared.state.State.{State}
-use Rattle.report_text_law.specs.declared.state.State.TheVariants.{Between, InComplex, BetweenMaps, InMap}
-use Rattle.report_text_law.specs.declared.line.Line.{Line}
-use Rattle.report_text_law.specs.declared.line.Line.TheVariants.{Induced as induced_line, Degree as degree_line, Pair as pair_line, Product as product_line, Operation as operation_line}
-use Rattle.report_text_law.specs.declared.state.ComplexStage.TheVariants.{Degree, Product, Pair, Operation}
-use Rattle.report_text_law.specs.declared.state.MapStage.TheVariants.{Induced}
-use Rattle.report_reader.specs.Names.{AreItems, IsOpen, Place, Reads, any, counted, HasColumns, cartans, columns, complexes, cycle_only, degrees, facets, induced_blocks, maps, operations, pairs, products, sends, with_only, within_degrees, within_induced, within_operations, ReadRefused}
-use Rattle.report_reader.proofs.Steps.{Opens}
+use Rattle.std.{proofs.Common.{◌≡◌, ◌∙◌, ℕ, ◌+◌, Bool, cond, List, [], ◌∷◌, ◌++◌, length, ap, refl, arith, Some, None, true, false, Result, ◌==◌, eq-eqb}, specs.declared.option.Option.Option}
+use Rattle.report.specs.declared.{columns.CartanAnswer.TheVariants.{Yes as answers_yes, No as answers_no}, columns.Column.Column, columns.OpWord.OpWord, columns.OperationPart.OperationPart, columns.PairColumn.PairColumn, columns.ProductPart.ProductPart, complex.ComplexPart.ComplexPart, complex.DegreePart.DegreePart, map.InducedPart.InducedPart, map.MapPart.MapPart}
+use Rattle.report_text_law.specs.{Names.{Chain, ◌>>=◌, move, with_column, with_complex, with_induced_column, with_pair}, declared.line.Line.TheVariants.{Complex as complex_line, Map as map_line, End as end_line, With as with_line, Column as column_line, Cycle as cycle_line, CartanYes as cartan_yes, CartanNo as cartan_no, Induced as induced_line, Degree as degree_line, Pair as pair_line, Product as product_line, Operation as operation_line}, declared.state.ComplexStage.TheVariants.{Facets, Values, Yes, No, Cartans, Degree, Product, Pair, Operation}, declared.state.Finding.Finding, declared.state.Graded.Graded, declared.state.Judged.Judged, declared.state.MapHead.MapHead, declared.state.MapStage.MapStage, declared.state.MapStage.TheVariants.{Sends, InducedValues, Induced}, declared.state.Multiplied.Multiplied, declared.state.Operated.Operated, declared.state.State.State, declared.state.State.TheVariants.{Between, InComplex, BetweenMaps, InMap}, declared.line.Line.Line}
+use Rattle.report_reader.{specs.Names.{AreItems, IsOpen, Place, Reads, any, counted, HasColumns, cartans, columns, complexes, cycle_only, degrees, facets, induced_blocks, maps, operations, pairs, products, sends, with_only, within_degrees, within_induced, within_operations, ReadRefused}, proofs.Steps.Opens}
 
 cond_true : {A : Type 0} (a b : A) (t : Bool) → t ≡ true → cond t a b ≡ a
 cond_true a b t e = ap (λ (u : Bool). cond u a b) e

@@ -1,14 +1,7 @@
 -- A line that is well formed at the prime, and the step of the machine.
-use Rattle.std.proofs.Common.{◌≡◌, ◌∙◌, ℕ, ◌+◌, ◌<◌, ◌≤◌, Bool, true, false, List, [], ◌∷◌, length, ap, cond, refl, sym, subst, arith, Some, None, Err, OnSome, ◌-◌, ◌^◌, ◌==◌}
-use Rattle.std.specs.declared.option.Option.{Option}
+use Rattle.std.{proofs.Common.{◌≡◌, ◌∙◌, ℕ, ◌+◌, ◌<◌, ◌≤◌, Bool, true, false, List, [], ◌∷◌, length, ap, cond, refl, sym, subst, arith, Some, None, Err, OnSome, ◌-◌, ◌^◌, ◌==◌}, specs.declared.option.Option.Option, specs.List.onto_first, proofs.lemmas.List.Splits.length-slice_split}
 use Rattle.report.specs.declared.map.MapPart.{MapPart}
-use Rattle.report_text_law.specs.Names.{after, line_at, or_refused, read_from, pieces, ◌>>=◌, move, prime_of, step, is_line}
-use Rattle.report_text_law.specs.declared.state.Finding.{Finding}
-use Rattle.report_text_law.specs.declared.state.State.{State}
-use Rattle.report_text_law.specs.declared.state.State.TheVariants.{Finished}
-use Rattle.report_text_law.specs.declared.line.Line.{Line}
-use Rattle.std.specs.List.{onto_first}
-use Rattle.std.proofs.lemmas.List.Splits.{length-slice_split}
+use Rattle.report_text_law.specs.{Names.{after, line_at, or_refused, read_from, pieces, ◌>>=◌, move, prime_of, step, is_line}, declared.state.Finding.Finding, declared.state.State.State, declared.state.State.TheVariants.Finished, declared.line.Line.Line}
 use Rattle.report_reader.specs.Names.{Follows, HasRoom, Place, is_finished, is_there, line_for, if_line}
 
 pub line_kept : (prime : ℕ) (bytes : List ℕ) (l : Line) (b : Bool) → Some l ≡ line_at bytes → is_line prime l ≡ b → cond b (Some l) None ≡ line_for prime bytes

@@ -1,10 +1,5 @@
 -- The first piece of a text.
-use Rattle.std.proofs.Common.{◌≡◌, ℕ, ◌+◌, ◌-◌, ◌<◌, ◌≤◌, Bool, true, false, cond, not, List, [], ◌∷◌, length, take, drop, ap, refl, sym, subst, arith, length-drop, Some, None, MatchOption, ◌==◌, ltb-true, ltb-false}
-use Rattle.std.specs.declared.option.Option.{Option}
-use Rattle.std.specs.List.{onto_first, position_or_len}
-use Rattle.std.proofs.Math.Dec.{ltb}
-use Rattle.std.proofs.lemmas.List.{take_rest}
-use Rattle.std.proofs.lemmas.List.Splits.{slice_split_first}
+use Rattle.std.{proofs.Common.{◌≡◌, ℕ, ◌+◌, ◌-◌, ◌<◌, ◌≤◌, Bool, true, false, cond, not, List, [], ◌∷◌, length, take, drop, ap, refl, sym, subst, arith, length-drop, Some, None, MatchOption, ◌==◌, ltb-true, ltb-false}, specs.declared.option.Option.Option, specs.List.{onto_first, position_or_len}, proofs.Math.Dec.ltb, proofs.lemmas.List.take_rest, proofs.lemmas.List.Splits.slice_split_first}
 use Rattle.report_text_law.specs.Names.{pieces}
 
 abbrev pub is_end : ℕ → Bool

@@ -1,16 +1,8 @@
 -- Where a section ends, and what an item of it makes.
 use Rattle.std.proofs.Common.{◌≡◌, ◌∙◌, ℕ, zero, suc, ◌+◌, ◌-◌, ◌<◌, List, [], ◌∷◌, ◌++◌, length, length-append, ap, refl, sym, arith, Some, None, Ok, Err, IsErr, IsErrAnd, Result}
 use Rattle.report.specs.declared.complex.DegreePart.{DegreePart}
-use Rattle.report_text_law.specs.Names.{Chain, move}
-use Rattle.report_text_law.specs.declared.line.Line.TheVariants.{Class as class_line}
-use Rattle.report_text_law.specs.declared.state.Finding.{Finding}
-use Rattle.report_text_law.specs.declared.state.Graded.{Graded}
-use Rattle.report_text_law.specs.declared.state.State.TheVariants.{InComplex}
-use Rattle.report_text_law.specs.declared.line.Line.{Line}
-use Rattle.report_text_law.specs.declared.line.Line.TheVariants.{Degree as degree_line}
-use Rattle.report_text_law.specs.declared.state.ComplexStage.TheVariants.{Degree}
-use Rattle.report_reader.specs.Names.{AreItems, Follows, IsItem, Place, Reads, counted, reading, belows, classes, within_classes, within_degrees, ReadRefused}
-use Rattle.report_reader.proofs.Steps.{at, failed, handed_on, one_less, passed, pointwise, progress, refusal}
+use Rattle.report_text_law.specs.{Names.{Chain, move}, declared.line.Line.TheVariants.{Class as class_line, Degree as degree_line}, declared.state.Finding.Finding, declared.state.Graded.Graded, declared.state.State.TheVariants.InComplex, declared.line.Line.Line, declared.state.ComplexStage.TheVariants.Degree}
+use Rattle.report_reader.{specs.Names.{AreItems, Follows, IsItem, Place, Reads, counted, reading, belows, classes, within_classes, within_degrees, ReadRefused}, proofs.Steps.{at, failed, handed_on, one_less, passed, pointwise, progress, refusal}}
 
 -- behind a class no more of the cochains below is taken
 behind_class : (f : Finding) (g : Graded) (k : ℕ) (bs : List Chain) (c : Chain) (cs : List Chain) (l : Line) → move (InComplex f (Degree g k bs (c ∷ cs))) l ≡ within_classes f g k bs (c ∷ cs) l

@@ -1,9 +1,6 @@
 -- What a text is read as before and behind a line.
-use Rattle.std.proofs.Common.{◌≡◌, ◌∙◌, ℕ, ◌+◌, ◌<◌, ◌≤◌, List, [], ◌∷◌, ◌++◌, length, ap, refl, sym, arith, Some, None, Ok, Err, true, false, subst, IsErr, IsErrAnd, Result}
-use Rattle.std.specs.declared.option.Option.{Option}
-use Rattle.report_text_law.specs.Names.{or_refused, read_from, pieces, ◌>>=◌, move}
-use Rattle.report_text_law.specs.declared.state.State.{State}
-use Rattle.report_text_law.specs.declared.line.Line.{Line}
+use Rattle.std.{proofs.Common.{◌≡◌, ◌∙◌, ℕ, ◌+◌, ◌<◌, ◌≤◌, List, [], ◌∷◌, ◌++◌, length, ap, refl, sym, arith, Some, None, Ok, Err, true, false, subst, IsErr, IsErrAnd, Result}, specs.declared.option.Option.Option}
+use Rattle.report_text_law.specs.{Names.{or_refused, read_from, pieces, ◌>>=◌, move}, declared.state.State.State, declared.line.Line.Line}
 use Rattle.report_reader.specs.Names.{AreItems, Follows, IsItem, IsOpen, Place, Reads, ReadsItem, Refuses, Section, Shrinks, is_there, left, reading, ReadRefused, ReportRefused, OutOfMemory}
 
 -- the place with its line

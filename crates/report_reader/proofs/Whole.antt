@@ -1,19 +1,8 @@
 -- The end of a text, and the whole text.
-use Rattle.std.proofs.Common.{◌≡◌, ◌∙◌, ℕ, ◌+◌, ◌<◌, List, length, ap, refl, sym, subst, arith, inl, inr, Some, None, Ok, Err, true, false, IsErr, IsErrAnd, Result, ◌==◌, eq-eqb}
-use Rattle.std.specs.declared.option.Option.{Option}
-use Rattle.std.proofs.lemmas.Bool.{cases_eq}
-use Rattle.report.specs.declared.job.Report.{Report}
-use Rattle.report.specs.declared.map.MapPart.{MapPart}
-use Rattle.report_text_law.specs.Names.{or_refused, read_from, read_text, pieces, ◌>>=◌, move}
-use Rattle.report_text_law.specs.declared.line.Line.TheVariants.{Done}
-use Rattle.report_text_law.specs.declared.state.Finding.{Finding}
-use Rattle.report_text_law.specs.declared.state.State.{State}
-use Rattle.report_text_law.specs.declared.state.State.TheVariants.{AtStart, Finished}
-use Rattle.report_text_law.specs.declared.line.Line.{Line}
-use Rattle.report_text_law.proofs.Refusals.{reading_law}
-use Rattle.report_reader.specs.Names.{Follows, IsReading, Place, ReadsReport, Refuses, reading, done_only, ReadRefused, ReportRefused, OutOfMemory}
-use Rattle.report_reader.proofs.Lines.{nothing_behind}
-use Rattle.report_reader.proofs.Steps.{at, failed}
+use Rattle.std.{proofs.Common.{◌≡◌, ◌∙◌, ℕ, ◌+◌, ◌<◌, List, length, ap, refl, sym, subst, arith, inl, inr, Some, None, Ok, Err, true, false, IsErr, IsErrAnd, Result, ◌==◌, eq-eqb}, specs.declared.option.Option.Option, proofs.lemmas.Bool.cases_eq}
+use Rattle.report.specs.declared.{job.Report.Report, map.MapPart.MapPart}
+use Rattle.report_text_law.{specs.Names.{or_refused, read_from, read_text, pieces, ◌>>=◌, move}, specs.declared.line.Line.TheVariants.Done, specs.declared.state.Finding.Finding, specs.declared.state.State.State, specs.declared.state.State.TheVariants.{AtStart, Finished}, specs.declared.line.Line.Line, proofs.Refusals.reading_law}
+use Rattle.report_reader.{specs.Names.{Follows, IsReading, Place, ReadsReport, Refuses, reading, done_only, ReadRefused, ReportRefused, OutOfMemory}, proofs.Lines.nothing_behind, proofs.Steps.{at, failed}}
 
 -- bytes stand behind the last line
 pub refused_behind : (f : Finding) (ms : List MapPart) (old mid : Place) (e : ReadRefused) → old.line ≡ Some Done → mid ≡ at old None → (length mid.text == 0) ≡ false → e ≡ ReportRefused (mid.number + 1) → Refuses (done_only (Finished f ms)) old e

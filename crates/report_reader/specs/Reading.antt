@@ -1,13 +1,8 @@
 -- What a text is read as from one of its lines on.
-use Rattle.std.specs.Prelude.{◌≡◌, ℕ, ◌+◌, ◌-◌, ◌<◌, ◌≤◌, ◌^◌, Bool, true, false, List, [], ◌∷◌, ◌++◌, length, Some, None, Ok, Err, OnOk, Result, if◌then◌else◌}
-use Rattle.std.specs.declared.option.Option.{Option}
+use Rattle.std.specs.{Prelude.{◌≡◌, ℕ, ◌+◌, ◌-◌, ◌<◌, ◌≤◌, ◌^◌, Bool, true, false, List, [], ◌∷◌, ◌++◌, length, Some, None, Ok, Err, OnOk, Result, if◌then◌else◌}, declared.option.Option.Option}
 use Rattle.report.specs.declared.job.Report.{Report}
-use Rattle.report_text_law.specs.Names.{line_at, or_refused, read_from, IsRefused, Spells, pieces, ◌>>=◌, move, prime_of, is_line}
-use Rattle.report_text_law.specs.declared.state.State.{State}
-use Rattle.report_text_law.specs.declared.state.State.TheVariants.{Finished}
-use Rattle.report_text_law.specs.declared.line.Line.{Line}
-use Rattle.report_reader.specs.declared.refused.ReadRefused.{ReadRefused}
-use Rattle.report_reader.specs.declared.refused.ReadRefused.TheVariants.{ReportRefused, OutOfMemory}
+use Rattle.report_text_law.specs.{Names.{line_at, or_refused, read_from, IsRefused, Spells, pieces, ◌>>=◌, move, prime_of, is_line}, declared.state.State.State, declared.state.State.TheVariants.Finished, declared.line.Line.Line}
+use Rattle.report_reader.specs.declared.refused.{ReadRefused.ReadRefused, ReadRefused.TheVariants.{ReportRefused, OutOfMemory}}
 
 -- A line of a text: its number, what it says, or none where it is refused in every state, and the bytes behind it.
 pub record Place : Type 0 where

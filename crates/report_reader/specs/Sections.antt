@@ -1,32 +1,8 @@
 -- What a line makes of a complex or a map that is read to the end of one of its sections.
-use Rattle.std.specs.Prelude.{◌≡◌, ℕ, zero, suc, ◌+◌, ◌-◌, ◌==◌, List, [], ◌∷◌, ◌++◌, length, Some, None, if◌then◌else◌}
-use Rattle.std.specs.declared.option.Option.{Option}
+use Rattle.std.specs.{Prelude.{◌≡◌, ℕ, zero, suc, ◌+◌, ◌-◌, ◌==◌, List, [], ◌∷◌, ◌++◌, length, Some, None, if◌then◌else◌}, declared.option.Option.Option}
 use Rattle.complex_file.specs.declared.block.Sent.{Sent}
-use Rattle.report.specs.declared.columns.CartanPart.{CartanPart}
-use Rattle.report.specs.declared.columns.Column.{Column}
-use Rattle.report.specs.declared.columns.OperationPart.{OperationPart}
-use Rattle.report.specs.declared.columns.PairColumn.{PairColumn}
-use Rattle.report.specs.declared.columns.ProductPart.{ProductPart}
-use Rattle.report.specs.declared.complex.ComplexPart.{ComplexPart}
-use Rattle.report.specs.declared.complex.DegreePart.{DegreePart}
-use Rattle.report.specs.declared.map.InducedPart.{InducedPart}
-use Rattle.report.specs.declared.map.MapPart.{MapPart}
-use Rattle.report_text_law.specs.Names.{Chain, ◌>>=◌, complex_of, map_of, degree_opens, move, with_complex}
-use Rattle.report_text_law.specs.declared.line.Line.TheVariants.{Class as class_line, With as with_line, Column as column_line, Cycle as cycle_line, End as end_line, Done as done_line}
-use Rattle.report_text_law.specs.declared.state.ComplexHead.{ComplexHead}
-use Rattle.report_text_law.specs.declared.state.Graded.{Graded}
-use Rattle.report_text_law.specs.declared.state.Multiplied.{Multiplied}
-use Rattle.report_text_law.specs.declared.state.Operated.{Operated}
-use Rattle.report_text_law.specs.declared.state.ComplexStage.TheVariants.{Facets, Cartans}
-use Rattle.report_text_law.specs.declared.state.MapHead.{MapHead}
-use Rattle.report_text_law.specs.declared.state.MapStage.TheVariants.{Sends}
-use Rattle.report_text_law.specs.declared.state.Finding.{Finding}
-use Rattle.report_text_law.specs.declared.state.State.{State}
-use Rattle.report_text_law.specs.declared.state.State.TheVariants.{Between, InComplex, BetweenMaps, InMap, Finished}
-use Rattle.report_text_law.specs.declared.line.Line.{Line}
-use Rattle.report_text_law.specs.declared.line.Line.TheVariants.{Degree as degree_line, Product as product_line, Operation as operation_line, Induced as induced_line}
-use Rattle.report_text_law.specs.declared.state.ComplexStage.TheVariants.{Degree, Product, Operation}
-use Rattle.report_text_law.specs.declared.state.MapStage.TheVariants.{Induced}
+use Rattle.report.specs.declared.{columns.CartanPart.CartanPart, columns.Column.Column, columns.OperationPart.OperationPart, columns.PairColumn.PairColumn, columns.ProductPart.ProductPart, complex.ComplexPart.ComplexPart, complex.DegreePart.DegreePart, map.InducedPart.InducedPart, map.MapPart.MapPart}
+use Rattle.report_text_law.specs.{Names.{Chain, ◌>>=◌, complex_of, map_of, degree_opens, move, with_complex}, declared.line.Line.TheVariants.{Class as class_line, With as with_line, Column as column_line, Cycle as cycle_line, End as end_line, Done as done_line, Degree as degree_line, Product as product_line, Operation as operation_line, Induced as induced_line}, declared.state.ComplexHead.ComplexHead, declared.state.Graded.Graded, declared.state.Multiplied.Multiplied, declared.state.Operated.Operated, declared.state.ComplexStage.TheVariants.{Facets, Cartans, Degree, Product, Operation}, declared.state.MapHead.MapHead, declared.state.MapStage.TheVariants.{Sends, Induced}, declared.state.Finding.Finding, declared.state.State.State, declared.state.State.TheVariants.{Between, InComplex, BetweenMaps, InMap, Finished}, declared.line.Line.Line}
 use Rattle.report_reader.specs.Reading.{IsOpen, Section}
 
 -- ---- lines that must stand next

@@ -1,9 +1,6 @@
 //! Chains, and the lines that must stand next.
-ghost use Rattle.std.specs.Prelude.{◌≡◌, ◌≤◌, OnOk};
-ghost use Rattle.std.specs.declared.option.Option.{Option};
-ghost use Rattle.report_text_law.specs.Names.{Chain as ChainSeen, move};
-ghost use Rattle.report_text_law.specs.declared.state.State.{State};
-ghost use Rattle.report_text_law.specs.declared.line.Line.{Line as LineSeen};
+ghost use Rattle.std.specs.{Prelude.{◌≡◌, ◌≤◌, OnOk}, declared.option.Option.Option};
+ghost use Rattle.report_text_law.specs.{Names.{Chain as ChainSeen, move}, declared.state.State.State, declared.line.Line.{Line as LineSeen}};
 ghost use Rattle.report_reader.specs.Names.{IsOpen, Reads, left, cycle_only, end_only, with_only};
 
 use crate::ReadRefused;

@@ -1,9 +1,6 @@
 //! Complexes.
 ghost use Rattle.std.specs.Prelude.{◌≡◌, ◌≤◌, ℕ, List, [], OnOk};
-ghost use Rattle.report_text_law.specs.Names.{move, with_complex};
-ghost use Rattle.report_text_law.specs.declared.state.ComplexHead.{ComplexHead};
-ghost use Rattle.report_text_law.specs.declared.state.Finding.{Finding};
-ghost use Rattle.report_text_law.specs.declared.state.State.TheVariants.{Between};
+ghost use Rattle.report_text_law.specs.{Names.{move, with_complex}, declared.state.ComplexHead.ComplexHead, declared.state.Finding.Finding, declared.state.State.TheVariants.Between};
 ghost use Rattle.report_reader.specs.Names.{AreItems, IsItem, Reads, any, left, complexes as complexes_of, facets as facets_of, within_degrees};
 
 use crate::ReadRefused;

@@ -1,10 +1,6 @@
 //! The facets and the degrees of a complex.
 ghost use Rattle.std.specs.Prelude.{◌≡◌, ◌≤◌, [], ◌∷◌, ◌++◌, OnOk};
-ghost use Rattle.report_text_law.specs.Names.{move};
-ghost use Rattle.report_text_law.specs.declared.state.Finding.{Finding};
-ghost use Rattle.report_text_law.specs.declared.state.Graded.{Graded};
-ghost use Rattle.report_text_law.specs.declared.state.State.TheVariants.{InComplex};
-ghost use Rattle.report_text_law.specs.declared.state.ComplexStage.TheVariants.{Degree};
+ghost use Rattle.report_text_law.specs.{Names.move, declared.state.Finding.Finding, declared.state.Graded.Graded, declared.state.State.TheVariants.InComplex, declared.state.ComplexStage.TheVariants.Degree};
 ghost use Rattle.report_reader.specs.Names.{AreItems, IsItem, Reads, any, counted, left, belows as belows_of, classes as classes_of, degrees as degrees_of, facets as facets_of, within_degrees};
 
 use crate::ReadRefused;

@@ -1,8 +1,6 @@
 //! Sections that repeat.
-ghost use Rattle.std.specs.Prelude.{◌≡◌, ◌≤◌, ◌++◌, ◌∷◌, ℕ, [], List, OnOk, length};
-ghost use Rattle.std.specs.declared.option.Option.{Option};
-ghost use Rattle.report_text_law.specs.declared.line.Line.{Line as LineSeen};
-ghost use Rattle.report_text_law.specs.declared.state.State.{State};
+ghost use Rattle.std.specs.{Prelude.{◌≡◌, ◌≤◌, ◌++◌, ◌∷◌, ℕ, [], List, OnOk, length}, declared.option.Option.Option};
+ghost use Rattle.report_text_law.specs.declared.{line.Line.{Line as LineSeen}, state.State.State};
 ghost use Rattle.report_reader.specs.Names.{Reads, ReadsItem, Shrinks, left};
 
 use crate::ReadRefused;

@@ -1,9 +1,7 @@
 //! Maps.
 ghost use Rattle.std.specs.Prelude.{◌≡◌, ◌≤◌, ◌∷◌, ◌++◌, List, [], OnOk};
 ghost use Rattle.report.specs.declared.map.MapPart.{MapPart as MapSeen};
-ghost use Rattle.report_text_law.specs.Names.{move};
-ghost use Rattle.report_text_law.specs.declared.state.Finding.{Finding};
-ghost use Rattle.report_text_law.specs.declared.state.State.TheVariants.{BetweenMaps};
+ghost use Rattle.report_text_law.specs.{Names.move, declared.state.Finding.Finding, declared.state.State.TheVariants.BetweenMaps};
 ghost use Rattle.report_reader.specs.Names.{AreItems, IsItem, Reads, any, left, induced_blocks as induced_blocks_of, maps as maps_of, sends as sends_of};
 
 use crate::ReadRefused;

@@ -1,7 +1,6 @@
 //! A whole text.
 ghost use Rattle.std.specs.Prelude.{[]};
-ghost use Rattle.report_text_law.specs.Names.{move};
-ghost use Rattle.report_text_law.specs.declared.state.State.TheVariants.{AtPrime, AtStart, Between, Finished};
+ghost use Rattle.report_text_law.specs.{Names.move, declared.state.State.TheVariants.{AtPrime, AtStart, Between, Finished}};
 ghost use Rattle.report_reader.specs.Names.{IsReading, Reads, ReadsReport, done_only};
 
 use crate::ReadRefused;

@@ -1,17 +1,9 @@
 -- Charges: the first sum that passes a limit, and numbers that are cut off.
-use Rattle.std.proofs.Common.{◌≡◌, ℕ, zero, suc, ◌+◌, ◌-◌, ◌*◌, ◌/◌, ◌%◌, ◌^◌, ◌<◌, ◌≤◌, Bool, true, false, List, [], ◌∷◌, ◌++◌, map, arith, refl, sym, ap, ap₂, ◌∙◌, inl, inr, ltb, Some, None, if◌then◌else◌, subst, append_assoc, drop, get_or, length, Result, Ok, Err, flat_map, min, lt-ltb, le-ltb}
-use Rattle.std.specs.Result.{IsErr, IsErrAnd}
-use Rattle.std.proofs.lemmas.Bool.{cases_lt, false≢true}
-use Rattle.std.proofs.lemmas.List.{at_drop_all, at_drop_more}
-use Rattle.std.proofs.lemmas.Option.{none-some}
-use Rattle.may_elements.specs.Counted.{Count, charged, counted, cut_off, over}
-use Rattle.may_elements.specs.declared.elements.MayRefused.{MayRefused}
-use Rattle.may_elements.specs.declared.elements.MayRefused.TheVariants.{TooManyTerms, OutOfMemory}
-use Rattle.may_elements.specs.declared.terms.Over.{Over}
+use Rattle.std.{proofs.Common.{◌≡◌, ℕ, zero, suc, ◌+◌, ◌-◌, ◌*◌, ◌/◌, ◌%◌, ◌^◌, ◌<◌, ◌≤◌, Bool, true, false, List, [], ◌∷◌, ◌++◌, map, arith, refl, sym, ap, ap₂, ◌∙◌, inl, inr, ltb, Some, None, if◌then◌else◌, subst, append_assoc, drop, get_or, length, Result, Ok, Err, flat_map, min, lt-ltb, le-ltb}, specs.Result.{IsErr, IsErrAnd}, proofs.lemmas.Bool.{cases_lt, false≢true}, proofs.lemmas.List.{at_drop_all, at_drop_more}, proofs.lemmas.Option.none-some}
+use Rattle.may_elements.specs.{Counted.{Count, charged, counted, cut_off, over}, declared.elements.MayRefused.MayRefused, declared.elements.MayRefused.TheVariants.{TooManyTerms, OutOfMemory}, declared.terms.Over.Over}
 use Rattle.linear_law.specs.Names.{sum_over}
 use Rattle.report_law.specs.Names.{first_past, printed_count}
-use Rattle.term_total.specs.Names.{Charges, IsCount, repeated, sum_of}
-use Rattle.term_total.proofs.RowLemmas.{repeated-map}
+use Rattle.term_total.{specs.Names.{Charges, IsCount, repeated, sum_of}, proofs.RowLemmas.repeated-map}
 
 step : (limit s x : ℕ) (xs : List ℕ) (t : Bool) → ltb limit (s + x) ≡ t → first_past limit s (x ∷ xs) ≡ (if t then Some (printed_count (s + x)) else first_past limit (s + x) xs)
 step limit s x xs t e = ap (λ b. if b then Some (printed_count (s + x)) else first_past limit (s + x) xs) e

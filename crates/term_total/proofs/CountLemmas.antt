@@ -1,33 +1,19 @@
 -- The surjections of a May element, and their live cuts.
-use Rattle.std.proofs.Common.{◌≡◌, inl, inr, ℕ, zero, suc, ◌+◌, ◌-◌, ◌*◌, ◌^◌, ◌<◌, ◌≤◌, arith, lit≤, refl, sym, ◌∙◌, ap, ap₂, subst, List, [], ◌∷◌, Bool, true, false, cond, not, if◌then◌else◌, map, Less, ℤ, pos, ◌+ℤ◌, ◌*ℤ◌, fold, min, ◌||◌, IsTrue, le-ltb}
-use Rattle.std.specs.BTreeSet.{insert_key}
-use Rattle.std.specs.List.{AllByRecursion}
-use Rattle.std.specs.List.Sorted.{IsStrictlySortedBy}
-use Rattle.std.proofs.lemmas.Bool.{false≢true}
-use Rattle.std.proofs.lemmas.Cmp.{nat_list_cmp_total}
-use Rattle.std.proofs.lemmas.Int.{ints}
-use Rattle.std.proofs.lemmas.List.Kept.{IsStrictlySortedBy-filter}
-use Rattle.fp_field.specs.Served.{served}
-use Rattle.fp_field.proofs.ServedLemmas.{for_served, served_large}
-use Rattle.signed_sum.specs.Names.{is_same_list, is_zero}
-use Rattle.signed_sum.proofs.Names.{is_same_list-self, is_same_list-true}
+use Rattle.std.{proofs.Common.{◌≡◌, inl, inr, ℕ, zero, suc, ◌+◌, ◌-◌, ◌*◌, ◌^◌, ◌<◌, ◌≤◌, arith, lit≤, refl, sym, ◌∙◌, ap, ap₂, subst, List, [], ◌∷◌, Bool, true, false, cond, not, if◌then◌else◌, map, Less, ℤ, pos, ◌+ℤ◌, ◌*ℤ◌, fold, min, ◌||◌, IsTrue, le-ltb}, specs.BTreeSet.insert_key, specs.List.AllByRecursion, specs.List.Sorted.IsStrictlySortedBy, proofs.lemmas.Bool.false≢true, proofs.lemmas.Cmp.nat_list_cmp_total, proofs.lemmas.Int.ints, proofs.lemmas.List.Kept.IsStrictlySortedBy-filter}
+use Rattle.fp_field.{specs.Served.served, proofs.ServedLemmas.{for_served, served_large}}
+use Rattle.signed_sum.{specs.Names.{is_same_list, is_zero}, proofs.Names.{is_same_list-self, is_same_list-true}}
 use Rattle.linear_law.specs.Names.{sum_over, Among}
-use Rattle.simplicial_law.specs.Names.{simplex_cmp}
-use Rattle.simplicial_law.proofs.Names.{exact, sorted_same}
+use Rattle.simplicial_law.{specs.Names.simplex_cmp, proofs.Names.{exact, sorted_same}}
 use Rattle.surjection_law.specs.Names.{caesura_count, IsOnto, arity}
 use Rattle.surjection.specs.Names.{among, arity-is}
 use Rattle.interval_cut_law.specs.Names.{live_cut_count}
 use Rattle.interval_cut.specs.Names.{counted_live, live_top}
 use Rattle.operad_law.specs.FormalSums.{IsAscending, IsBelow, IsFormalSum, IsNonzero, IsSameSum}
 use Rattle.table_reduction_law.specs.Names.{may_element}
-use Rattle.steenrod_law.proofs.Forms.{AreTerms}
-use Rattle.steenrod_law.proofs.MayFamily.{may_family}
+use Rattle.steenrod_law.proofs.{Forms.AreTerms, MayFamily.may_family}
 use Rattle.may_elements.specs.Counted.{cut_off}
 use Rattle.report_law.specs.Names.{coefficient, may_surjections}
-use Rattle.term_total.specs.Names.{sum_of, live_total}
-use Rattle.term_total.proofs.ChargeLemmas.{cut-plus}
-use Rattle.term_total.proofs.GrowLemmas.{not-less}
-use Rattle.term_total.proofs.KeyLemmas.{among-filter, filter-among, fold-puts, fold-sorted}
+use Rattle.term_total.{specs.Names.{sum_of, live_total}, proofs.ChargeLemmas.cut-plus, proofs.GrowLemmas.not-less, proofs.KeyLemmas.{among-filter, filter-among, fold-puts, fold-sorted}}
 
 -- ---- coefficients in formal sums
 

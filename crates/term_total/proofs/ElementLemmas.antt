@@ -1,21 +1,9 @@
 -- The May elements of the rows of a job are those of the job.
-use Rattle.std.proofs.Common.{◌≡◌, ◌⊎◌, inl, inr, ℕ, zero, suc, ◌*◌, ◌<◌, arith, refl, sym, subst, ap, ◌∙◌, List, [], map, get_or, flat_map, fold, ltb-true}
-use Rattle.std.specs.BTreeSet.{insert_key}
-use Rattle.std.specs.FinMap.{nat_cmp-IsAntisymmetric}
-use Rattle.std.specs.List.Sorted.{IsStrictlySortedBy}
-use Rattle.std.specs.Ordering.{nat_cmp}
-use Rattle.std.proofs.lemmas.Bool.{and_parts}
-use Rattle.std.proofs.lemmas.Cmp.{nat_cmp_total}
-use Rattle.linear_law.specs.Names.{Among, Each}
-use Rattle.linear_law.proofs.Names.{among_left, among_right, each_among, each_itself, each_map}
-use Rattle.report.specs.declared.plan.Product.{Product}
-use Rattle.report.specs.declared.plan.Sizes.{Sizes}
+use Rattle.std.{proofs.Common.{◌≡◌, ◌⊎◌, inl, inr, ℕ, zero, suc, ◌*◌, ◌<◌, arith, refl, sym, subst, ap, ◌∙◌, List, [], map, get_or, flat_map, fold, ltb-true}, specs.BTreeSet.insert_key, specs.FinMap.nat_cmp-IsAntisymmetric, specs.List.Sorted.IsStrictlySortedBy, specs.Ordering.nat_cmp, proofs.lemmas.Bool.and_parts, proofs.lemmas.Cmp.nat_cmp_total}
+use Rattle.linear_law.{specs.Names.{Among, Each}, proofs.Names.{among_left, among_right, each_among, each_itself, each_map}}
+use Rattle.report.specs.declared.plan.{Product.Product, Sizes.Sizes}
 use Rattle.report_law.specs.Names.{blocks, degrees, element_degree, has_class, lines, complex_elements, elements, line_elements}
-use Rattle.term_total.specs.Names.{repeated, class_pairs, elements_in, part_rows, plan, is_class_pair, product_of, Row}
-use Rattle.term_total.proofs.KeyLemmas.{among-split, flat-among, flat-fewer, flat-more, fold-of, fold-puts, fold-same, fold-sorted}
-use Rattle.term_total.proofs.LineLemmas.{lines-by-pairs}
-use Rattle.term_total.proofs.PlanLemmas.{part-elements, plan-elements, short_elements}
-use Rattle.term_total.proofs.ReadyLemmas.{each-passed}
+use Rattle.term_total.{specs.Names.{repeated, class_pairs, elements_in, part_rows, plan, is_class_pair, product_of, Row}, proofs.KeyLemmas.{among-split, flat-among, flat-fewer, flat-more, fold-of, fold-puts, fold-same, fold-sorted}, proofs.LineLemmas.lines-by-pairs, proofs.PlanLemmas.{part-elements, plan-elements, short_elements}, proofs.ReadyLemmas.each-passed}
 
 class-times : (ranks : List ℕ) → Each (λ (x : Product). 0 < get_or ranks x.a 0 * get_or ranks x.b 0) (class_pairs ranks)
 class-times ranks =

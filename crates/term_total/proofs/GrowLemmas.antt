@@ -1,21 +1,8 @@
 -- Stored May elements of ascending degrees, and their charges.
-use Rattle.std.proofs.Common.{◌≡◌, ℕ, suc, zero, ◌+◌, ◌<◌, arith, refl, sym, ◌∙◌, ap, subst, List, [], ◌∷◌, ◌++◌, take, drop, length, get_or, inl, inr, Result, Ok, Err, None, Ordering, Less, Equal, Greater, ◌≢◌, ◌↔◌, is_some, ℤ}
-use Rattle.std.specs.List.{AllByRecursion}
-use Rattle.std.specs.List.Sorted.{IsStrictlySortedBy}
-use Rattle.std.specs.Ordering.{nat_cmp, ordering_reverse}
-use Rattle.std.specs.Result.{is_err}
-use Rattle.std.proofs.lemmas.Bool.{cases_lt, false≢true}
-use Rattle.std.proofs.lemmas.Cmp.{nat_cmp_total}
-use Rattle.std.proofs.lemmas.List.{at_drop_more, take_more}
-use Rattle.linear_law.specs.Names.{Each}
-use Rattle.linear_law.proofs.Names.{each_map, each_push, each_zip}
-use Rattle.may_elements.specs.Counted.{Count, charged, over}
-use Rattle.may_elements.specs.Stored.{stored_at}
-use Rattle.may_elements.specs.declared.elements.MayRefused.{MayRefused}
-use Rattle.may_elements.specs.declared.elements.MayRefused.TheVariants.{TooManyTerms, OutOfMemory}
-use Rattle.may_elements.specs.declared.terms.Over.{Over}
-use Rattle.term_total.specs.Names.{Charges, IsThere}
-use Rattle.term_total.proofs.ChargeLemmas.{charges-one, charges-over}
+use Rattle.std.{proofs.Common.{◌≡◌, ℕ, suc, zero, ◌+◌, ◌<◌, arith, refl, sym, ◌∙◌, ap, subst, List, [], ◌∷◌, ◌++◌, take, drop, length, get_or, inl, inr, Result, Ok, Err, None, Ordering, Less, Equal, Greater, ◌≢◌, ◌↔◌, is_some, ℤ}, specs.List.AllByRecursion, specs.List.Sorted.IsStrictlySortedBy, specs.Ordering.{nat_cmp, ordering_reverse}, specs.Result.is_err, proofs.lemmas.Bool.{cases_lt, false≢true}, proofs.lemmas.Cmp.nat_cmp_total, proofs.lemmas.List.{at_drop_more, take_more}}
+use Rattle.linear_law.{specs.Names.Each, proofs.Names.{each_map, each_push, each_zip}}
+use Rattle.may_elements.specs.{Counted.{Count, charged, over}, Stored.stored_at, declared.elements.MayRefused.MayRefused, declared.elements.MayRefused.TheVariants.{TooManyTerms, OutOfMemory}, declared.terms.Over.Over}
+use Rattle.term_total.{specs.Names.{Charges, IsThere}, proofs.ChargeLemmas.{charges-one, charges-over}}
 
 pub none-stored : (table : List (ℕ × List (List ℕ × ℤ))) (xs : List ℕ) → table ≡ [] → Each (λ d. stored_at d table ≡ None) xs
 none-stored table [] e = tt

@@ -1,12 +1,6 @@
 -- Ordered lists of keys.
-use Rattle.std.proofs.Common.{◌≡◌, ◌⊎◌, inl, inr, ℕ, zero, suc, ◌<◌, arith, refl, sym, ◌∙◌, ap, subst, List, [], ◌∷◌, ◌++◌, Bool, true, false, cond, Ordering, Equal, flat_map, fold}
-use Rattle.std.specs.Cmp.{IsTotalOrder}
-use Rattle.std.specs.BTreeSet.{insert_key}
-use Rattle.std.specs.List.{filter}
-use Rattle.std.specs.List.Sorted.{IsStrictlySortedBy}
-use Rattle.std.proofs.lemmas.Bool.{false≢true}
-use Rattle.linear_law.specs.Names.{Among, Each}
-use Rattle.linear_law.proofs.Names.{among_left, among_right}
+use Rattle.std.{proofs.Common.{◌≡◌, ◌⊎◌, inl, inr, ℕ, zero, suc, ◌<◌, arith, refl, sym, ◌∙◌, ap, subst, List, [], ◌∷◌, ◌++◌, Bool, true, false, cond, Ordering, Equal, flat_map, fold}, specs.Cmp.IsTotalOrder, specs.BTreeSet.insert_key, specs.List.filter, specs.List.Sorted.IsStrictlySortedBy, proofs.lemmas.Bool.false≢true}
+use Rattle.linear_law.{specs.Names.{Among, Each}, proofs.Names.{among_left, among_right}}
 use Rattle.simplicial_law.proofs.Names.{among_inserted, insert_keeps, insert_puts, sorted_inserted, sorted_same}
 use Rattle.term_total.specs.Names.{repeated}
 

@@ -1,14 +1,9 @@
 -- The lines of a complex, as rows that are equal for all classes of two degrees.
-use Rattle.std.proofs.Common.{◌≡◌, ℕ, ◌+◌, ◌*◌, arith, refl, sym, ◌∙◌, ap, ap₂, inl, inr, List, [], ◌∷◌, ◌++◌, Bool, true, false, cond, map, get_or, flat_map, lt-ltb}
-use Rattle.std.specs.List.{filter}
-use Rattle.std.proofs.lemmas.Bool.{and_cases, cases_lt, false≢true}
-use Rattle.std.proofs.lemmas.List.Folds.{flat_map-map}
+use Rattle.std.{proofs.Common.{◌≡◌, ℕ, ◌+◌, ◌*◌, arith, refl, sym, ◌∙◌, ap, ap₂, inl, inr, List, [], ◌∷◌, ◌++◌, Bool, true, false, cond, map, get_or, flat_map, lt-ltb}, specs.List.filter, proofs.lemmas.Bool.{and_cases, cases_lt, false≢true}, proofs.lemmas.List.Folds.flat_map-map}
 use Rattle.signed_sum.specs.Names.{numbers_from}
-use Rattle.report.specs.declared.plan.Line.{Line}
-use Rattle.report.specs.declared.plan.Product.{Product}
+use Rattle.report.specs.declared.plan.{Line.Line, Product.Product}
 use Rattle.report_law.specs.Names.{all_lines, class_numbers, degrees, has_class, lines, lines_of_pair}
-use Rattle.term_total.specs.Names.{repeated, class_pairs, pair_lines, is_class_pair, is_live_line, line_of, product_of}
-use Rattle.term_total.proofs.RowLemmas.{filter-flat, flat-flat, flat-kept, flat-same, rows-repeated}
+use Rattle.term_total.{specs.Names.{repeated, class_pairs, pair_lines, is_class_pair, is_live_line, line_of, product_of}, proofs.RowLemmas.{filter-flat, flat-flat, flat-kept, flat-same, rows-repeated}}
 
 no-class : (ranks : List ℕ) (n : ℕ) → has_class ranks n ≡ false → get_or ranks n 0 ≡ 0
 no-class ranks n e = elim (cases_lt 0 (get_or ranks n 0)) [

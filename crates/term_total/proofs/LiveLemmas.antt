@@ -1,13 +1,7 @@
 -- Lists of live blocks and lines, one part after the other.
-use Rattle.std.proofs.Common.{◌≡◌, ℕ, zero, suc, ◌+◌, Bool, true, false, cond, List, [], ◌∷◌, ◌++◌, map, arith, sym, ap, ◌∙◌, append_assoc, flat_map, append-nil}
-use Rattle.std.specs.List.{filter}
-use Rattle.std.proofs.lemmas.Grind.{flat_map-append}
-use Rattle.std.proofs.lemmas.List.{map-append}
-use Rattle.std.proofs.lemmas.List.Elements.{filter-append}
+use Rattle.std.{proofs.Common.{◌≡◌, ℕ, zero, suc, ◌+◌, Bool, true, false, cond, List, [], ◌∷◌, ◌++◌, map, arith, sym, ap, ◌∙◌, append_assoc, flat_map, append-nil}, specs.List.filter, proofs.lemmas.Grind.flat_map-append, proofs.lemmas.List.map-append, proofs.lemmas.List.Elements.filter-append}
 use Rattle.signed_sum.specs.Names.{numbers_from}
-use Rattle.report.specs.declared.plan.Block.{Block}
-use Rattle.report.specs.declared.plan.Op.{Op}
-use Rattle.report.specs.declared.plan.Op.TheVariants.{Square, Power, BocksteinPower}
+use Rattle.report.specs.declared.plan.{Block.Block, Op.Op, Op.TheVariants.{Square, Power, BocksteinPower}}
 use Rattle.report_law.specs.Names.{block_on, is_defined}
 use Rattle.term_total.specs.Names.{is_live_block, live_blocks, operations_with}
 

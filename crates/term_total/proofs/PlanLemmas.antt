@@ -1,16 +1,9 @@
 -- The rows of blocks and lines count what these count.
-use Rattle.std.proofs.Common.{◌≡◌, ℕ, ◌+◌, ◌*◌, arith, refl, sym, ◌∙◌, ap, ap₂, List, [], ◌∷◌, ◌++◌, map, get_or, flat_map, append-nil}
-use Rattle.std.proofs.lemmas.List.Folds.{flat_map-map}
+use Rattle.std.proofs.{Common.{◌≡◌, ℕ, ◌+◌, ◌*◌, arith, refl, sym, ◌∙◌, ap, ap₂, List, [], ◌∷◌, ◌++◌, map, get_or, flat_map, append-nil}, lemmas.List.Folds.flat_map-map}
 use Rattle.linear_law.specs.Names.{sum_over}
-use Rattle.report.specs.declared.plan.Block.{Block}
-use Rattle.report.specs.declared.plan.Line.{Line}
-use Rattle.report.specs.declared.plan.Product.{Product}
-use Rattle.report.specs.declared.plan.Sizes.{Sizes}
+use Rattle.report.specs.declared.plan.{Block.Block, Line.Line, Product.Product, Sizes.Sizes}
 use Rattle.report_law.specs.Names.{blocks, cartan_op, cartan_pairs, element_degree, lines, block_terms, complex_terms, line_elements, line_terms, operation_terms}
-use Rattle.term_total.specs.Names.{repeated, addend_number, block_addend, block_row, class_pairs, elements_in, line_addend, line_operations, operation_number, pair_lines, pair_operations, pair_row, part_rows, plan, row_elements, row_numbers, Addend, Applied}
-use Rattle.term_total.proofs.ChargeLemmas.{singles}
-use Rattle.term_total.proofs.LineLemmas.{lines-by-pairs}
-use Rattle.term_total.proofs.RowLemmas.{flat-flat, flat-same}
+use Rattle.term_total.{specs.Names.{repeated, addend_number, block_addend, block_row, class_pairs, elements_in, line_addend, line_operations, operation_number, pair_lines, pair_operations, pair_row, part_rows, plan, row_elements, row_numbers, Addend, Applied}, proofs.ChargeLemmas.singles, proofs.LineLemmas.lines-by-pairs, proofs.RowLemmas.{flat-flat, flat-same}}
 
 -- ---- what they count
 

@@ -1,22 +1,12 @@
 -- What is known of the operations of rows.
-use Rattle.std.proofs.Common.{◌≡◌, ℕ, zero, suc, ◌+◌, ◌-◌, ◌*◌, ◌<◌, ◌≤◌, ◌==◌, arith, inl, inr, lit≤, refl, sym, ◌∙◌, ap, subst, List, [], ◌∷◌, ◌++◌, Bool, true, false, cond, not, leb, map, get_or, length, if◌then◌else◌, flat_map, ◌&&◌, IsTrue, leb-true, ltb-true}
-use Rattle.std.specs.List.{filter}
-use Rattle.std.proofs.lemmas.Bool.{and_parts}
-use Rattle.fp_field.specs.Served.{served}
-use Rattle.fp_field.proofs.ServedLemmas.{for_served, served_large}
+use Rattle.std.{proofs.Common.{◌≡◌, ℕ, zero, suc, ◌+◌, ◌-◌, ◌*◌, ◌<◌, ◌≤◌, ◌==◌, arith, inl, inr, lit≤, refl, sym, ◌∙◌, ap, subst, List, [], ◌∷◌, ◌++◌, Bool, true, false, cond, not, leb, map, get_or, length, if◌then◌else◌, flat_map, ◌&&◌, IsTrue, leb-true, ltb-true}, specs.List.filter, proofs.lemmas.Bool.and_parts}
+use Rattle.fp_field.{specs.Served.served, proofs.ServedLemmas.{for_served, served_large}}
 use Rattle.signed_sum.specs.Names.{numbers_from}
-use Rattle.linear_law.specs.Names.{Among, Each}
-use Rattle.linear_law.proofs.Names.{each_append, each_get_or, each_itself, each_map, each_of_map}
+use Rattle.linear_law.{specs.Names.{Among, Each}, proofs.Names.{each_append, each_get_or, each_itself, each_map, each_of_map}}
 use Rattle.may_elements.specs.Counted.{cut_off}
-use Rattle.report.specs.declared.plan.Block.{Block}
-use Rattle.report.specs.declared.plan.Line.{Line}
-use Rattle.report.specs.declared.plan.Op.{Op}
-use Rattle.report.specs.declared.plan.Op.TheVariants.{Square, Power, BocksteinPower}
-use Rattle.report.specs.declared.plan.Product.{Product}
-use Rattle.report.specs.declared.plan.Sizes.{Sizes}
+use Rattle.report.specs.declared.plan.{Block.Block, Line.Line, Op.Op, Op.TheVariants.{Square, Power, BocksteinPower}, Product.Product, Sizes.Sizes}
 use Rattle.report_law.specs.Names.{block_on, blocks, cartan_op, cartan_pairs, degrees, element_degree, has_class, is_defined, lines_of_pair, operations, target_degree}
-use Rattle.term_total.specs.Names.{AreCounted, AreReady, IsBlock, IsLine, IsPair, IsPart, IsReady, applied_to, block_addend, class_pairs, elements_in, line_addend, live_total, pair_lines, pair_operations, pair_row, part_rows, plan, row_elements, is_class_pair, is_live_block, is_live_line, product_of, Counted, Addend, Applied, Row}
-use Rattle.term_total.proofs.KeyLemmas.{among-split}
+use Rattle.term_total.{specs.Names.{AreCounted, AreReady, IsBlock, IsLine, IsPair, IsPart, IsReady, applied_to, block_addend, class_pairs, elements_in, line_addend, live_total, pair_lines, pair_operations, pair_row, part_rows, plan, row_elements, is_class_pair, is_live_block, is_live_line, product_of, Counted, Addend, Applied, Row}, proofs.KeyLemmas.among-split}
 
 -- what stands for an item where there is none
 abbrev pub no_block : Block

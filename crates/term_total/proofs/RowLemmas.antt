@@ -1,9 +1,5 @@
 -- Lists that are made of equal rows.
-use Rattle.std.proofs.Common.{◌≡◌, ℕ, zero, suc, ◌+◌, ◌*◌, Bool, true, false, cond, List, [], ◌∷◌, ◌++◌, map, arith, refl, sym, ap, ap₂, ◌∙◌, append_assoc, flat_map}
-use Rattle.std.specs.List.{filter}
-use Rattle.std.proofs.lemmas.Grind.{flat_map-append}
-use Rattle.std.proofs.lemmas.List.{map-append}
-use Rattle.std.proofs.lemmas.List.Elements.{filter-append}
+use Rattle.std.{proofs.Common.{◌≡◌, ℕ, zero, suc, ◌+◌, ◌*◌, Bool, true, false, cond, List, [], ◌∷◌, ◌++◌, map, arith, refl, sym, ap, ap₂, ◌∙◌, append_assoc, flat_map}, specs.List.filter, proofs.lemmas.Grind.flat_map-append, proofs.lemmas.List.map-append, proofs.lemmas.List.Elements.filter-append}
 use Rattle.signed_sum.specs.Names.{numbers_from}
 use Rattle.term_total.specs.Names.{repeated}
 

@@ -1,16 +1,10 @@
 -- The total: the May elements, and then the rows.
-use Rattle.std.proofs.Common.{◌≡◌, ℕ, ◌+◌, arith, sym, ◌∙◌, ap, subst, List, [], ◌++◌, map, Result, Ok, Err, None, Some, flat_map, OnOk, append-nil}
-use Rattle.std.specs.Result.{IsErr, IsErrAnd}
+use Rattle.std.{proofs.Common.{◌≡◌, ℕ, ◌+◌, arith, sym, ◌∙◌, ap, subst, List, [], ◌++◌, map, Result, Ok, Err, None, Some, flat_map, OnOk, append-nil}, specs.Result.{IsErr, IsErrAnd}}
 use Rattle.table_reduction_law.specs.Names.{candidate_count}
-use Rattle.may_elements.specs.Counted.{Count, counted}
-use Rattle.may_elements.specs.declared.elements.MayRefused.{MayRefused}
-use Rattle.may_elements.specs.declared.elements.MayRefused.TheVariants.{TooManyTerms}
-use Rattle.may_elements.specs.declared.terms.Over.{Over}
+use Rattle.may_elements.specs.{Counted.{Count, counted}, declared.elements.MayRefused.MayRefused, declared.elements.MayRefused.TheVariants.TooManyTerms, declared.terms.Over.Over}
 use Rattle.report.specs.declared.plan.Sizes.{Sizes}
 use Rattle.report_law.specs.Names.{addends, elements, first_past, passing_sum}
-use Rattle.term_total.specs.Names.{Charges, sum_of, plan, row_numbers}
-use Rattle.term_total.proofs.ChargeLemmas.{IsLeft, all-left, left-err, left-less, left-refused, none-left}
-use Rattle.term_total.proofs.PlanLemmas.{plan-numbers}
+use Rattle.term_total.{specs.Names.{Charges, sum_of, plan, row_numbers}, proofs.ChargeLemmas.{IsLeft, all-left, left-err, left-less, left-refused, none-left}, proofs.PlanLemmas.plan-numbers}
 
 -- numbers, and then others
 charges-then : (old mid new : Count) (xs ys : List ℕ) (u : Unit) (r : Result Unit MayRefused) → Charges old xs (Ok u) mid → Charges mid ys r new → Charges old (xs ++ ys) r new

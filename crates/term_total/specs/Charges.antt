@@ -1,10 +1,7 @@
 -- Numbers that are charged one after the other.
-use Rattle.std.specs.Prelude.{◌≡◌, ℕ, zero, suc, ◌≤◌, ◌^◌, List, [], ◌++◌, Ok, Err, Some, None}
-use Rattle.std.specs.declared.result.Result.{Result}
+use Rattle.std.specs.{Prelude.{◌≡◌, ℕ, zero, suc, ◌≤◌, ◌^◌, List, [], ◌++◌, Ok, Err, Some, None}, declared.result.Result.Result}
 use Rattle.linear_law.specs.Names.{sum_over}
-use Rattle.may_elements.specs.Counted.{Count, charged}
-use Rattle.may_elements.specs.declared.elements.MayRefused.{MayRefused}
-use Rattle.may_elements.specs.declared.elements.MayRefused.TheVariants.{TooManyTerms, OutOfMemory}
+use Rattle.may_elements.specs.{Counted.{Count, charged}, declared.elements.MayRefused.MayRefused, declared.elements.MayRefused.TheVariants.{TooManyTerms, OutOfMemory}}
 use Rattle.report_law.specs.Names.{first_past}
 
 -- the used terms are within the limit, and the limit is at most 10^12

@@ -1,22 +1,11 @@
 -- What is charged for the blocks and lines of complexes.
-use Rattle.std.specs.Prelude.{◌≡◌, ℕ, ◌+◌, ◌*◌, ◌≤◌, List, [], ◌∷◌, flat_map, get_or, length, map, IsSome, IsTrue, ℤ}
-use Rattle.std.specs.List.{filter}
+use Rattle.std.specs.{Prelude.{◌≡◌, ℕ, ◌+◌, ◌*◌, ◌≤◌, List, [], ◌∷◌, flat_map, get_or, length, map, IsSome, IsTrue, ℤ}, List.filter}
 use Rattle.linear_law.specs.Names.{sum_over, Among, Each}
-use Rattle.report.specs.declared.plan.Block.{Block}
-use Rattle.report.specs.declared.plan.Line.{Line}
-use Rattle.report.specs.declared.plan.Op.{Op}
-use Rattle.report.specs.declared.plan.Product.{Product}
-use Rattle.report.specs.declared.plan.Sizes.{Sizes}
+use Rattle.report.specs.declared.plan.{Block.Block, Line.Line, Op.Op, Product.Product, Sizes.Sizes}
 use Rattle.report_law.specs.Names.{blocks, cartan_op, cartan_pairs, degrees, element_degree, is_defined, lines_of_pair, target_degree, may_surjections}
 use Rattle.interval_cut_law.specs.Names.{live_cut_count}
-use Rattle.may_elements.specs.Counted.{cut_off}
-use Rattle.may_elements.specs.Stored.{stored_at}
-use Rattle.term_total.specs.Charges.{repeated}
-use Rattle.term_total.specs.LiveParts.{is_class_pair, is_live_line, product_of}
-use Rattle.term_total.specs.declared.counts.Counted.{Counted}
-use Rattle.term_total.specs.declared.plan.Addend.{Addend}
-use Rattle.term_total.specs.declared.plan.Applied.{Applied}
-use Rattle.term_total.specs.declared.plan.Row.{Row}
+use Rattle.may_elements.specs.{Counted.cut_off, Stored.stored_at}
+use Rattle.term_total.specs.{Charges.repeated, LiveParts.{is_class_pair, is_live_line, product_of}, declared.counts.Counted.Counted, declared.plan.Addend.Addend, declared.plan.Applied.Applied, declared.plan.Row.Row}
 
 -- the sizes of a complex of at most 16 degrees
 pub record IsPart (z : Sizes) : Type 0 where

@@ -1,11 +1,6 @@
 -- Live blocks and lines, in the parts in which they are listed.
-use Rattle.std.specs.Prelude.{ℕ, ◌+◌, Bool, ◌&&◌, List, [], ◌∷◌, flat_map, map}
-use Rattle.std.specs.List.{filter}
-use Rattle.report.specs.declared.plan.Block.{Block}
-use Rattle.report.specs.declared.plan.Line.{Line}
-use Rattle.report.specs.declared.plan.Op.{Op}
-use Rattle.report.specs.declared.plan.Op.TheVariants.{Square, Power, BocksteinPower}
-use Rattle.report.specs.declared.plan.Product.{Product}
+use Rattle.std.specs.{Prelude.{ℕ, ◌+◌, Bool, ◌&&◌, List, [], ◌∷◌, flat_map, map}, List.filter}
+use Rattle.report.specs.declared.plan.{Block.Block, Line.Line, Op.Op, Op.TheVariants.{Square, Power, BocksteinPower}, Product.Product}
 use Rattle.report_law.specs.Names.{block_on, cartan_op, class_numbers, degrees, has_class, is_defined, lines_of_pair, target_degree}
 
 abbrev pub is_live_product : List ℕ → Product → Bool

@@ -3,8 +3,7 @@ ghost use Rattle.std.specs.Prelude.{◌≡◌, ◌≤◌, ◌*◌, ℕ, ℤ, Lis
 ghost use Rattle.fp_field.specs.Served.{served};
 ghost use Rattle.linear_law.specs.Names.{sum_over, Each};
 ghost use Rattle.interval_cut.specs.Names.{counted_live};
-ghost use Rattle.may_elements.specs.Counted.{cut_off};
-ghost use Rattle.may_elements.specs.Stored.{stored_at};
+ghost use Rattle.may_elements.specs.{Counted.cut_off, Stored.stored_at};
 ghost use Rattle.term_total.specs.Names.{AreCounted, AreReady, IsReady, IsThere, addend_number, live_total, operation_number};
 
 use crate::charges::product;

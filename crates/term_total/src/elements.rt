@@ -1,7 +1,5 @@
 //! The degrees of the May elements of operations.
-ghost use Rattle.std.specs.Prelude.{◌≡◌, [], IfOk, OnOk, fold, map};
-ghost use Rattle.std.specs.BTreeSet.{insert_key};
-ghost use Rattle.std.specs.Ordering.{nat_cmp};
+ghost use Rattle.std.specs.{Prelude.{◌≡◌, [], IfOk, OnOk, fold, map}, BTreeSet.insert_key, Ordering.nat_cmp};
 ghost use Rattle.term_total.specs.Names.{elements_in, row_elements};
 
 use crate::plan::{Applied, Row};

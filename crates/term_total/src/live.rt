@@ -1,6 +1,5 @@
 //! The live blocks and lines of a complex, from the ranks of its cohomology.
-ghost use Rattle.std.specs.Prelude.{◌≡◌, ◌≤◌, ◌<◌, ◌+◌, ◌++◌, ◌∷◌, [], length, map, flat_map, slice_index, IfOk, IsTrue, OnOk};
-ghost use Rattle.std.specs.List.{filter};
+ghost use Rattle.std.specs.{Prelude.{◌≡◌, ◌≤◌, ◌<◌, ◌+◌, ◌++◌, ◌∷◌, [], length, map, flat_map, slice_index, IfOk, IsTrue, OnOk}, List.filter};
 ghost use Rattle.signed_sum.specs.Names.{numbers_from};
 ghost use Rattle.fp_field.specs.Served.{served};
 ghost use Rattle.report_law.specs.Names.{blocks as blocks_of, degrees, has_class as has_class_at, lines as lines_of, lines_of_pair, products as products_of};

@@ -1,12 +1,9 @@
 //! The total of the counted terms.
-ghost use Rattle.std.specs.Prelude.{◌≡◌, ◌≤◌, [], Err, None, Some, IsTrue, OnOk, flat_map, is_some, map};
-ghost use Rattle.std.specs.List.Sorted.{IsStrictlySortedBy};
-ghost use Rattle.std.specs.Ordering.{nat_cmp};
+ghost use Rattle.std.specs.{Prelude.{◌≡◌, ◌≤◌, [], Err, None, Some, IsTrue, OnOk, flat_map, is_some, map}, List.Sorted.IsStrictlySortedBy, Ordering.nat_cmp};
 ghost use Rattle.fp_field.specs.Served.{served};
 ghost use Rattle.linear_law.specs.Names.{Each};
 ghost use Rattle.table_reduction_law.specs.Names.{candidate_count};
-ghost use Rattle.may_elements.specs.Counted.{counted};
-ghost use Rattle.may_elements.specs.Stored.{stored_at};
+ghost use Rattle.may_elements.specs.{Counted.counted, Stored.stored_at};
 ghost use Rattle.report_law.specs.Names.{addends, elements as elements_of, passing_sum};
 ghost use Rattle.term_total.specs.Names.{Charges, sum_of, AreReady, IsPart, IsThere, row_numbers};
 

@@ -1,5 +1,4 @@
-use Rattle.std.proofs.Common.{◌-◌, lit<}
-use Rattle.std.proofs.lemmas.Result.{IfOk-weaker}
+use Rattle.std.proofs.{Common.{◌-◌, lit<}, lemmas.Result.IfOk-weaker}
 use Rattle.op_matrix.proofs.TableLemmas.{class-closed, class-placed}
 use Rattle.cartan_check.proofs.VerdictLemmas.{verdict-of}
 use Rattle.cartan_check.proofs.cartan.Goals as goal

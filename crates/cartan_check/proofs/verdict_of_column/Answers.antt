@@ -1,11 +1,8 @@
-use Rattle.std.proofs.Common.{◌≡◌, ◌+◌, ◌-◌, ◌∙◌, ap, arith, false, true, get_or, subst, sym, ℕ, List, MatchOption}
-use Rattle.std.proofs.lemmas.Grind.{get_or_default_zero}
-use Rattle.std.specs.declared.option.Option.{Option}
+use Rattle.std.{proofs.Common.{◌≡◌, ◌+◌, ◌-◌, ◌∙◌, ap, arith, false, true, get_or, subst, sym, ℕ, List, MatchOption}, proofs.lemmas.Grind.get_or_default_zero, specs.declared.option.Option.Option}
 use Rattle.complex_index.specs.declared.indexed.Cochain.{Cochain}
 use Rattle.cohomology.specs.Names.{IsPrimitiveOf, rest_in, IsCanonicalCycle}
 use Rattle.report_law.specs.Names.{IsFirstValue}
-use Rattle.cartan_check.proofs.VerdictLemmas.{no-verdict, yes-verdict}
-use Rattle.cartan_check.proofs.verdict_of_column.Goals.{in-Some-primitive+in_ok-cycle-in-Some-primitive, in-None}
+use Rattle.cartan_check.proofs.{VerdictLemmas.{no-verdict, yes-verdict}, verdict_of_column.Goals.{in-Some-primitive+in_ok-cycle-in-Some-primitive, in-None}}
 use Rattle.cartan_check.proofs.verdict_of_column.Goals as goal
 
 pub returns-in_default : goal.returns-in_default

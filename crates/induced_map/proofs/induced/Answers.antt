@@ -1,13 +1,9 @@
-use Rattle.std.proofs.Common.{◌≡◌, ◌+◌, ◌-◌, ◌<◌, ◌≤◌, ℕ, List, arith, length, subst, sym, ◌∙◌, take, lit<, take_all, get_or, slice_get, Some}
-use Rattle.std.specs.List.{AllZip}
+use Rattle.std.{proofs.Common.{◌≡◌, ◌+◌, ◌-◌, ◌<◌, ◌≤◌, ℕ, List, arith, length, subst, sym, ◌∙◌, take, lit<, take_all, get_or, slice_get, Some}, specs.List.AllZip}
 use Rattle.complex_index.specs.declared.indexed.Cochain.{Cochain}
-use Rattle.cohomology.specs.declared.basis.Column.{Column}
-use Rattle.cohomology.specs.Names.{IsPlaced}
+use Rattle.cohomology.specs.{declared.basis.Column.Column, Names.IsPlaced}
 use Rattle.may_steenrod.specs.Cochains.{IsClosed}
-use Rattle.op_matrix.proofs.ListLemmas.{zip-more}
-use Rattle.op_matrix.proofs.TableLemmas.{class-closed, class-placed}
-use Rattle.induced_map.specs.Induced.{IsPulledColumn}
-use Rattle.induced_map.proofs.PullLemmas.{induced-matrix}
+use Rattle.op_matrix.proofs.{ListLemmas.zip-more, TableLemmas.{class-closed, class-placed}}
+use Rattle.induced_map.{specs.Induced.IsPulledColumn, proofs.PullLemmas.induced-matrix}
 use Rattle.induced_map.proofs.induced.Goals as goal
 
 pub pulled_column-requires : goal.pulled_column-requires

@@ -1,5 +1,4 @@
-use Rattle.std.proofs.Common.{take, get_or}
-use Rattle.std.specs.List.{AllZip}
+use Rattle.std.{proofs.Common.{take, get_or}, specs.List.AllZip}
 use Rattle.induced_map.specs.Induced.{IsPulledColumn}
 use Rattle.induced_map.proofs.induced.Given as goal
 

@@ -1,5 +1,4 @@
-use Rattle.std.proofs.Common.{get_or}
-use Rattle.std.proofs.lemmas.Result.{IfOk-weaker}
+use Rattle.std.proofs.{Common.get_or, lemmas.Result.IfOk-weaker}
 use Rattle.induced_map.proofs.PullLemmas.{pulled-column}
 use Rattle.induced_map.proofs.pulled_column.Goals as goal
 

@@ -1,8 +1,6 @@
 use Rattle.std.proofs.Common.{◌∙◌, ◌-◌, ◌<◌, arith, sym, subst, length}
-use Rattle.listed_rows.specs.ListedChains.{IsCoboundaryRowIn, IsRowIn}
-use Rattle.listed_rows.proofs.ValueLemmas.{below_on, coboundary_row, empty, none_below, not_empty, zero_row}
+use Rattle.listed_rows.{specs.ListedChains.{IsCoboundaryRowIn, IsRowIn}, proofs.ValueLemmas.{below_on, coboundary_row, empty, none_below, not_empty, zero_row}, proofs.coboundary_of.Goals.{then-n-eq0-via-then-n-eq0, then-n-eq0-via-else-n-eq0+then-n-degrees, then-is_empty, else-is_empty}}
 use Rattle.listed_rows.proofs.coboundary_of.Goals as goal
-use Rattle.listed_rows.proofs.coboundary_of.Goals.{then-n-eq0-via-then-n-eq0, then-n-eq0-via-else-n-eq0+then-n-degrees, then-is_empty, else-is_empty}
 
 pub returns-then-n-eq0 : goal.returns-then-n-eq0
 returns-then-n-eq0 g c =

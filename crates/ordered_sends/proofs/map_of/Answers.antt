@@ -1,5 +1,4 @@
-use Rattle.std.proofs.Common.{◌∙◌, get_or}
-use Rattle.std.proofs.lemmas.Result.{IfOk-weaker}
+use Rattle.std.proofs.{Common.{◌∙◌, get_or}, lemmas.Result.IfOk-weaker}
 use Rattle.ordered_sends.proofs.SendLemmas.{image-is}
 use Rattle.ordered_sends.proofs.map_of.Goals as goal
 

@@ -1,6 +1,4 @@
-use Rattle.std.proofs.Common.{ℕ, List, []}
-use Rattle.std.specs.BTreeMap.{insert_entry}
-use Rattle.std.specs.Ordering.{nat_cmp}
+use Rattle.std.{proofs.Common.{ℕ, List, []}, specs.BTreeMap.insert_entry, specs.Ordering.nat_cmp}
 use Rattle.complex_file.specs.declared.block.Sent.{Sent}
 use Rattle.ordered_sends.proofs.SendLemmas.{folded-more}
 use Rattle.ordered_sends.proofs.ordered_pairs.Goals as goal

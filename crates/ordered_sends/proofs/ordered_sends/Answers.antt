@@ -1,6 +1,5 @@
 use Rattle.std.proofs.Common.{◌∙◌, ap, map}
-use Rattle.ordered_sends.specs.Sends.{sent_of}
-use Rattle.ordered_sends.proofs.SendLemmas.{ordered}
+use Rattle.ordered_sends.{specs.Sends.sent_of, proofs.SendLemmas.ordered}
 use Rattle.ordered_sends.proofs.ordered_sends.Goals as goal
 
 pub returns : goal.returns

@@ -1,9 +1,7 @@
-use Rattle.std.proofs.Common.{◌<◌, ◌≤◌, ◌+◌, ◌∙◌, ℕ, ℤ, FitsSigned, w64, arith, rules, length, refl, subst, sym}
-use Rattle.std.proofs.lemmas.Int.{to_z-of_z}
+use Rattle.std.proofs.{Common.{◌<◌, ◌≤◌, ◌+◌, ◌∙◌, ℕ, ℤ, FitsSigned, w64, arith, rules, length, refl, subst, sym}, lemmas.Int.to_z-of_z}
 use Rattle.fp_field.proofs.ServedLemmas.{served_field}
 use Rattle.complex_index.specs.Names.{level}
-use Rattle.bockstein.specs.Places.{IsQuotient, IsRemainder}
-use Rattle.bockstein.proofs.PlaceLemmas.{at-place, divided-more, divided-start, made, not-closed, nothing-above, refused-at}
+use Rattle.bockstein.{specs.Places.{IsQuotient, IsRemainder}, proofs.PlaceLemmas.{at-place, divided-more, divided-start, made, not-closed, nothing-above, refused-at}}
 use Rattle.bockstein.proofs.cocycles.bockstein.Goals as goal
 
 pub returns-then-degree-degrees : goal.returns-then-degree-degrees

@@ -1,6 +1,4 @@
-use Rattle.std.proofs.Common.{◌≡◌, ◌∙◌, pos, w64, rules, ap}
-use Rattle.std.specs.Int.{int_rem_euclid}
-use Rattle.std.proofs.lemmas.Int.{to_z-of_z}
+use Rattle.std.{proofs.Common.{◌≡◌, ◌∙◌, pos, w64, rules, ap}, specs.Int.int_rem_euclid, proofs.lemmas.Int.to_z-of_z}
 use Rattle.fp_field.proofs.ServedLemmas.{served_large}
 use Rattle.bockstein.proofs.PlaceLemmas.{remainder-same}
 use Rattle.bockstein.proofs.cocycles.divided.Goals as goal

@@ -1,7 +1,5 @@
-use Rattle.std.proofs.Common.{◌≡◌, ◌∙◌, ◌+◌, ◌≤◌, ℤ, pos, ◌-ℤ◌, FitsSigned, w64, to_z, of_z, arith, rules, subst, sym, ap}
-use Rattle.std.proofs.lemmas.Int.{ints, to_z-of_z}
-use Rattle.bockstein.specs.Places.{IsSumFrom}
-use Rattle.bockstein.proofs.PlaceLemmas.{at-most-four, sum-more, sum-start, sum-whole}
+use Rattle.std.proofs.{Common.{◌≡◌, ◌∙◌, ◌+◌, ◌≤◌, ℤ, pos, ◌-ℤ◌, FitsSigned, w64, to_z, of_z, arith, rules, subst, sym, ap}, lemmas.Int.{ints, to_z-of_z}}
+use Rattle.bockstein.{specs.Places.IsSumFrom, proofs.PlaceLemmas.{at-most-four, sum-more, sum-start, sum-whole}}
 use Rattle.bockstein.proofs.cocycles.lifted_sum.Goals as goal
 
 pub loop-k-init : goal.loop-k-init

@@ -1,7 +1,5 @@
-use Rattle.std.proofs.Common.{◌-◌, ◌≤◌, arith, lit<, subst}
-use Rattle.std.proofs.lemmas.Result.{IfOk-weaker}
-use Rattle.bockstein.specs.Places.{RefusesBockstein}
-use Rattle.bockstein.proofs.MatrixLemmas.{class-closed, class-inside, class-placed, column-is}
+use Rattle.std.proofs.{Common.{◌-◌, ◌≤◌, arith, lit<, subst}, lemmas.Result.IfOk-weaker}
+use Rattle.bockstein.{specs.Places.RefusesBockstein, proofs.MatrixLemmas.{class-closed, class-inside, class-placed, column-is}}
 use Rattle.bockstein.proofs.matrices.bockstein_column.Goals as goal
 
 pub bockstein-requires : goal.bockstein-requires

@@ -1,9 +1,7 @@
-use Rattle.std.proofs.Common.{◌≤◌, ℕ, List, arith, length, subst, take_all}
-use Rattle.std.specs.List.{AllZip}
+use Rattle.std.{proofs.Common.{◌≤◌, ℕ, List, arith, length, subst, take_all}, specs.List.AllZip}
 use Rattle.complex_index.specs.declared.indexed.Cochain.{Cochain}
 use Rattle.cohomology.specs.declared.basis.Column.{Column}
-use Rattle.bockstein.specs.Matrices.{IsBocksteinColumn}
-use Rattle.bockstein.proofs.MatrixLemmas.{bockstein-matrix, item-more}
+use Rattle.bockstein.{specs.Matrices.IsBocksteinColumn, proofs.MatrixLemmas.{bockstein-matrix, item-more}}
 use Rattle.bockstein.proofs.matrices.bockstein_matrix.Goals as goal
 
 pub loop-i-preserved : goal.loop-i-preserved

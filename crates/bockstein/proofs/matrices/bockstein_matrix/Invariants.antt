@@ -1,5 +1,4 @@
-use Rattle.std.proofs.Common.{take}
-use Rattle.std.specs.List.{AllZip}
+use Rattle.std.{proofs.Common.take, specs.List.AllZip}
 use Rattle.bockstein.specs.Matrices.{IsBocksteinColumn}
 use Rattle.bockstein.proofs.matrices.bockstein_matrix.Given as goal
 

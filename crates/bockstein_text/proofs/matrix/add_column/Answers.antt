@@ -1,6 +1,5 @@
 use Rattle.std.proofs.Common.{◌≡◌, ◌∙◌, ◌++◌, ℕ, List, OnOk, subst}
-use Rattle.report_text_law.specs.Names.{ended, spelled}
-use Rattle.report_text_law.specs.declared.line.Line.TheVariants.{Column as column_line}
+use Rattle.report_text_law.specs.{Names.{ended, spelled}, declared.line.Line.TheVariants.{Column as column_line}}
 use Rattle.bockstein_text.proofs.matrix.add_column.Goals as goal
 
 pub returns : goal.returns

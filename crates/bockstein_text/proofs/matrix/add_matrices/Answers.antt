@@ -1,8 +1,6 @@
-use Rattle.std.proofs.Common.{◌≡◌, ℕ, arith, length, subst}
-use Rattle.std.specs.List.{filter}
+use Rattle.std.{proofs.Common.{◌≡◌, ℕ, arith, length, subst}, specs.List.filter}
 use Rattle.signed_sum.specs.Names.{numbers_from}
-use Rattle.bockstein_text.specs.Names.{Adds, IsListed, is_live, matrix_text}
-use Rattle.bockstein_text.proofs.Added.{none_added, number_added}
+use Rattle.bockstein_text.{specs.Names.{Adds, IsListed, is_live, matrix_text}, proofs.Added.{none_added, number_added}}
 use Rattle.bockstein_text.proofs.matrix.add_matrices.Goals as goal
 
 pub loop-q-init : goal.loop-q-init

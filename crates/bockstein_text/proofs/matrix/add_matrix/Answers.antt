@@ -1,9 +1,7 @@
 use Rattle.std.proofs.Common.{◌∙◌, ◌++◌, ap, length, lit<, sym}
 use Rattle.linear_law.proofs.Names.{length_alike}
 use Rattle.bockstein.specs.Matrices.{IsBocksteinColumn, values_of}
-use Rattle.bockstein_text.specs.Names.{IsListed, columns_text, is_live, matrix_text}
-use Rattle.bockstein_text.proofs.Added.{on_ok, test_fails}
-use Rattle.bockstein_text.proofs.Listed.{matrix_added}
+use Rattle.bockstein_text.{specs.Names.{IsListed, columns_text, is_live, matrix_text}, proofs.Added.{on_ok, test_fails}, proofs.Listed.matrix_added}
 use Rattle.bockstein_text.proofs.matrix.add_matrix.Goals as goal
 
 pub returns-then-not-is_live : goal.returns-then-not-is_live

@@ -1,6 +1,5 @@
 use Rattle.std.proofs.Common.{◌∙◌, false}
-use Rattle.bockstein_text.proofs.Added.{on_ok}
-use Rattle.bockstein_text.proofs.Listed.{complex_added}
+use Rattle.bockstein_text.proofs.{Added.on_ok, Listed.complex_added}
 use Rattle.bockstein_text.proofs.text.add_complex.Goals as goal
 
 pub of-requires : goal.of-requires

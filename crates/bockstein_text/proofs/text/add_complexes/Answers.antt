@@ -1,9 +1,7 @@
 use Rattle.std.proofs.Common.{List, subst, take_all, arith}
 use Rattle.complex_file.specs.declared.block.ComplexBlock.{ComplexBlock}
-use Rattle.job_report.specs.Jobs.{CanBeIndexed}
-use Rattle.job_report.proofs.Zips.{each-item}
-use Rattle.bockstein_text.specs.Names.{Adds, AreBocksteins, bocksteins_text}
-use Rattle.bockstein_text.proofs.Added.{more_added, none_added}
+use Rattle.job_report.{specs.Jobs.CanBeIndexed, proofs.Zips.each-item}
+use Rattle.bockstein_text.{specs.Names.{Adds, AreBocksteins, bocksteins_text}, proofs.Added.{more_added, none_added}}
 use Rattle.bockstein_text.proofs.text.add_complexes.Goals as goal
 
 pub loop-block-init : goal.loop-block-init

@@ -1,11 +1,8 @@
 use Rattle.std.proofs.Common.{ℕ, List, subst, sym}
 use Rattle.linear_law.specs.Names.{Each}
-use Rattle.complex_file.specs.declared.block.ComplexBlock.{ComplexBlock}
-use Rattle.complex_file.specs.Names.{content}
-use Rattle.job_report.specs.Jobs.{CanBeIndexed}
-use Rattle.job_report.proofs.JobLemmas.{is-served, job-fits}
-use Rattle.bockstein_text.specs.Names.{Adds, AreBocksteins, bocksteins_text}
-use Rattle.bockstein_text.proofs.Listed.{job_text}
+use Rattle.complex_file.specs.{declared.block.ComplexBlock.ComplexBlock, Names.content}
+use Rattle.job_report.{specs.Jobs.CanBeIndexed, proofs.JobLemmas.{is-served, job-fits}}
+use Rattle.bockstein_text.{specs.Names.{Adds, AreBocksteins, bocksteins_text}, proofs.Listed.job_text}
 use Rattle.bockstein_text.proofs.text.print_over.Goals as goal
 
 pub add_complexes-requires : goal.add_complexes-requires

@@ -1,8 +1,6 @@
-use Rattle.std.proofs.Common.{◌≡◌, ◌∙◌, ◌<◌, ◌≤◌, ◌+◌, ℕ, List, true, ap, ap₂, arith, get_or, length, lit<, subst, sym, take, take_all}
-use Rattle.std.proofs.lemmas.List.{take_more}
+use Rattle.std.proofs.{Common.{◌≡◌, ◌∙◌, ◌<◌, ◌≤◌, ◌+◌, ℕ, List, true, ap, ap₂, arith, get_or, length, lit<, subst, sym, take, take_all}, lemmas.List.take_more}
 use Rattle.report_law.specs.Names.{cartan_op, cartan_pairs, is_defined}
-use Rattle.cartan_check.specs.ByMatrices.{HasPart, IsLessParts}
-use Rattle.cartan_check.proofs.ByMatrixLemmas.{no-parts, one-more, pair-at, part-degree}
+use Rattle.cartan_check.{specs.ByMatrices.{HasPart, IsLessParts}, proofs.ByMatrixLemmas.{no-parts, one-more, pair-at, part-degree}}
 use Rattle.cartan_check.proofs.by_matrices.less_parts.Goals as goal
 
 pub loop-pair-init : goal.loop-pair-init

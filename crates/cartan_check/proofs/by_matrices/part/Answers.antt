@@ -1,5 +1,4 @@
-use Rattle.std.proofs.Common.{◌∙◌, ap, subst, sym}
-use Rattle.std.proofs.lemmas.Result.{IfOk-weaker}
+use Rattle.std.proofs.{Common.{◌∙◌, ap, subst, sym}, lemmas.Result.IfOk-weaker}
 use Rattle.report.specs.declared.plan.Op.{Op}
 use Rattle.report_law.specs.Names.{IsOperation, target_degree}
 use Rattle.cartan_check.proofs.ByMatrixLemmas.{part-has}

@@ -1,13 +1,10 @@
-use Rattle.std.proofs.Common.{ℕ, ◌∙◌, sym, ap, subst, List}
-use Rattle.std.specs.List.{AllZip}
-use Rattle.linear_law.specs.Names.{Each}
-use Rattle.linear_law.proofs.Names.{each_of_map}
+use Rattle.std.{proofs.Common.{ℕ, ◌∙◌, sym, ap, subst, List}, specs.List.AllZip}
+use Rattle.linear_law.{specs.Names.Each, proofs.Names.each_of_map}
 use Rattle.complex_file.specs.declared.block.ComplexBlock.{ComplexBlock}
 use Rattle.complex_index.specs.Names.{IsIndexOf}
 use Rattle.certificate_law.specs.Names.{itself}
 use Rattle.certificate_walk.specs.declared.stop.Stop.TheVariants.{Fails}
-use Rattle.cert_check.specs.Ready.{CanIndex, IsKept}
-use Rattle.cert_check.proofs.ReadyLemmas.{all_can_index, first_fails, kept_all, zip_unmap}
+use Rattle.cert_check.{specs.Ready.{CanIndex, IsKept}, proofs.ReadyLemmas.{all_can_index, first_fails, kept_all, zip_unmap}}
 use Rattle.cert_check.proofs.checked.check_over.Goals as goal
 
 pub indexes-requires : goal.indexes-requires

@@ -1,9 +1,7 @@
 use Rattle.std.proofs.Common.{◌≡◌, ℕ, ◌+◌, lit≤, sym, ◌∙◌, ap, subst, arith, [], length, Ok}
 use Rattle.certificate_law.specs.Names.{Asks, complex_stated}
-use Rattle.certificate_walk.specs.Names.{IsWalk}
-use Rattle.certificate_walk.proofs.Names.{complex_length}
-use Rattle.cert_check.proofs.FreeLemmas.{complex_free}
-use Rattle.cert_check.proofs.PartLemmas.{low_degrees}
+use Rattle.certificate_walk.{specs.Names.IsWalk, proofs.Names.complex_length}
+use Rattle.cert_check.proofs.{FreeLemmas.complex_free, PartLemmas.low_degrees}
 use Rattle.cert_check.proofs.complexes.complex_fault.Goals as goal
 
 pub count_fault-requires-clause-indexed : goal.count_fault-requires-clause-indexed

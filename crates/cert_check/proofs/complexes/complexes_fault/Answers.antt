@@ -3,8 +3,7 @@ use Rattle.linear_law.proofs.Names.{each_get_or, length_alike}
 use Rattle.report.specs.declared.complex.ComplexPart.{ComplexPart}
 use Rattle.report_law.specs.Names.{ranks_of}
 use Rattle.certificate_law.specs.Names.{Asks, behind, complex_stated}
-use Rattle.certificate_walk.specs.Names.{complex_lines}
-use Rattle.certificate_walk.proofs.Names.{complex_length, rest_less, rest_next, behind_end, behind_more, behind_stop, walk_passed}
+use Rattle.certificate_walk.{specs.Names.complex_lines, proofs.Names.{complex_length, rest_less, rest_next, behind_end, behind_more, behind_stop, walk_passed}}
 use Rattle.line_difference.specs.Elements.{AreStored}
 use Rattle.count_check.proofs.TotalLemmas.{zip_get}
 use Rattle.cert_check.specs.Ready.{IsReady}

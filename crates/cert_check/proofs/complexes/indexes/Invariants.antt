@@ -1,5 +1,4 @@
-use Rattle.std.proofs.Common.{take}
-use Rattle.std.specs.List.{AllZip}
+use Rattle.std.{proofs.Common.take, specs.List.AllZip}
 use Rattle.complex_index.specs.Names.{IsIndexOf}
 use Rattle.cert_check.proofs.complexes.indexes.Given as goal
 

@@ -1,18 +1,13 @@
-use Rattle.std.proofs.Common.{◌≡◌, ℕ, ◌+◌, ◌++◌, lit<, sym, ap, subst, refl, arith, List, [], ◌∷◌, Ok, Err, sum_by}
-use Rattle.std.specs.List.{AllZip}
+use Rattle.std.{proofs.Common.{◌≡◌, ℕ, ◌+◌, ◌++◌, lit<, sym, ap, subst, refl, arith, List, [], ◌∷◌, Ok, Err, sum_by}, specs.List.AllZip}
 use Rattle.linear_law.specs.Names.{Each}
-use Rattle.report.specs.declared.complex.ComplexPart.{ComplexPart}
-use Rattle.report.specs.declared.map.MapPart.{MapPart}
+use Rattle.report.specs.declared.{complex.ComplexPart.ComplexPart, map.MapPart.MapPart}
 use Rattle.report_law.specs.Names.{ranks_of}
 use Rattle.certificate_law.specs.Names.{Asks, behind, complex_stated, finish, map_stated, stated}
-use Rattle.certificate_walk.specs.Names.{complex_lines, map_lines, IsWalk}
-use Rattle.certificate_walk.proofs.Names.{walk_both, walk_passed, walk_stops}
+use Rattle.certificate_walk.{specs.Names.{complex_lines, map_lines, IsWalk}, proofs.Names.{walk_both, walk_passed, walk_stops}}
 use Rattle.line_difference.specs.Elements.{AreStored}
 use Rattle.block_check.proofs.BlockLemmas.{complexes_length, maps_length, stated_length}
 use Rattle.count_check.specs.Totals.{IsCountable}
-use Rattle.cert_check.specs.Ready.{AreAllStored, IsMapReady, IsReady}
-use Rattle.cert_check.proofs.FreeLemmas.{outer_free}
-use Rattle.cert_check.proofs.ReadyLemmas.{all_stored, countable_all, maps_ready, maps_walk, on_ok_map, ready_all, ready_more, stated_walk}
+use Rattle.cert_check.{specs.Ready.{AreAllStored, IsMapReady, IsReady}, proofs.FreeLemmas.outer_free, proofs.ReadyLemmas.{all_stored, countable_all, maps_ready, maps_walk, on_ok_map, ready_all, ready_more, stated_walk}}
 use Rattle.cert_check.proofs.conditions.condition_fault.Goals as goal
 
 pub complexes_fault-requires : goal.complexes_fault-requires

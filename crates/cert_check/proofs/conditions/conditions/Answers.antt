@@ -1,6 +1,5 @@
 use Rattle.std.proofs.Common.{arith}
-use Rattle.cert_check.proofs.FreeLemmas.{certified}
-use Rattle.cert_check.proofs.ReadyLemmas.{holds_next}
+use Rattle.cert_check.proofs.{FreeLemmas.certified, ReadyLemmas.holds_next}
 use Rattle.cert_check.proofs.conditions.conditions.Goals as goal
 
 pub loop-condition-preserved : goal.loop-condition-preserved

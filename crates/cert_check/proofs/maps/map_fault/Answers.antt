@@ -1,9 +1,7 @@
 use Rattle.std.proofs.Common.{ℕ, ◌+◌, ◌∙◌, lit≤, sym, ap, subst, arith, []}
 use Rattle.certificate_law.specs.Names.{Asks, map_between}
-use Rattle.certificate_walk.specs.Names.{IsWalk}
-use Rattle.certificate_walk.proofs.Names.{map_length}
-use Rattle.cert_check.proofs.FreeLemmas.{map_free, maps_free}
-use Rattle.cert_check.proofs.PartLemmas.{few_of, low_degrees}
+use Rattle.certificate_walk.{specs.Names.IsWalk, proofs.Names.map_length}
+use Rattle.cert_check.proofs.{FreeLemmas.{map_free, maps_free}, PartLemmas.{few_of, low_degrees}}
 use Rattle.cert_check.proofs.maps.map_fault.Goals as goal
 
 pub map_count_fault-requires-clause-from : goal.map_count_fault-requires-clause-from

@@ -1,11 +1,9 @@
 use Rattle.std.proofs.Common.{◌≡◌, ◌+◌, ◌∙◌, sym, ap, subst, arith, [], Ok, Err, take}
 use Rattle.linear_law.proofs.Names.{each_get_or, length_alike}
 use Rattle.certificate_law.specs.Names.{Asks, complex_named, behind, map_stated}
-use Rattle.certificate_walk.specs.Names.{map_lines}
-use Rattle.certificate_walk.proofs.Names.{map_length, rest_less, behind_end, behind_more, behind_stop, walk_passed}
+use Rattle.certificate_walk.{specs.Names.map_lines, proofs.Names.{map_length, rest_less, behind_end, behind_more, behind_stop, walk_passed}}
 use Rattle.count_check.proofs.TotalLemmas.{zip_get}
-use Rattle.cert_check.specs.Ready.{IsMapReady, IsReady}
-use Rattle.cert_check.proofs.ReadyLemmas.{counts_between, walk_between}
+use Rattle.cert_check.{specs.Ready.{IsMapReady, IsReady}, proofs.ReadyLemmas.{counts_between, walk_between}}
 use Rattle.cert_check.proofs.maps.maps_fault.Goals as goal
 
 pub bounds-indexes-from : goal.bounds-indexes-from

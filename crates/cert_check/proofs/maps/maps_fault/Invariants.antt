@@ -1,7 +1,6 @@
 use Rattle.std.proofs.Common.{◌≡◌, ◌+◌, [], drop, sum_by, take}
 use Rattle.certificate_law.specs.Names.{Asks, behind, map_stated}
-use Rattle.certificate_walk.specs.Names.{map_lines}
-use Rattle.certificate_walk.proofs.Names.{Leads}
+use Rattle.certificate_walk.{specs.Names.map_lines, proofs.Names.Leads}
 use Rattle.cert_check.proofs.maps.maps_fault.Given as goal
 
 abbrev pub invariant-loop-map : goal.invariant-loop-map

@@ -1,5 +1,4 @@
-use Rattle.std.proofs.Common.{◌∙◌, sym, ap}
-use Rattle.std.specs.Str.{bytes_eq}
+use Rattle.std.{proofs.Common.{◌∙◌, sym, ap}, specs.Str.bytes_eq}
 use Rattle.cert_check.proofs.PartLemmas.{found_part, not_yet_part}
 use Rattle.cert_check.proofs.maps.place_of.Goals as goal
 

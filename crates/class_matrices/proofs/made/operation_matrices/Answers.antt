@@ -1,6 +1,5 @@
 use Rattle.std.proofs.Common.{◌∙◌, lit<}
-use Rattle.report_law.specs.Names.{blocks}
-use Rattle.report_law.proofs.Names.{of-blocks}
+use Rattle.report_law.{specs.Names.blocks, proofs.Names.of-blocks}
 use Rattle.class_matrices.proofs.ListLemmas.{item-among}
 use Rattle.line_difference.proofs.PlanLemmas.{block-low, block-stored}
 use Rattle.class_matrices.proofs.made.operation_matrices.Goals as goal

@@ -1,11 +1,6 @@
-use Rattle.std.proofs.Common.{◌≡◌, ◌∙◌, ◌+◌, ◌*◌, ◌%◌, ℕ, ap, ap₂, length, rules, subst, sym, take}
-use Rattle.std.proofs.lemmas.Slice.Zip.{zip_end, zip_turn}
-use Rattle.std.specs.Iterator.Adapters.{zip_first, zip_second}
-use Rattle.std.specs.Slice.Iter.{iter_rest}
-use Rattle.linear_law.specs.Names.{plus_scaled}
-use Rattle.linear_law.proofs.Names.{length_push}
-use Rattle.class_matrices.proofs.ListLemmas.{shorter}
-use Rattle.class_matrices.proofs.SumLemmas.{plus_scaled-all, plus_scaled-more}
+use Rattle.std.{proofs.Common.{◌≡◌, ◌∙◌, ◌+◌, ◌*◌, ◌%◌, ℕ, ap, ap₂, length, rules, subst, sym, take}, proofs.lemmas.Slice.Zip.{zip_end, zip_turn}, specs.Iterator.Adapters.{zip_first, zip_second}, specs.Slice.Iter.iter_rest}
+use Rattle.linear_law.{specs.Names.plus_scaled, proofs.Names.length_push}
+use Rattle.class_matrices.proofs.{ListLemmas.shorter, SumLemmas.{plus_scaled-all, plus_scaled-more}}
 use Rattle.class_matrices.proofs.sums.plus_scaled.Goals as goal
 
 pub loop-x-preserved : goal.loop-x-preserved

@@ -1,7 +1,6 @@
 use Rattle.std.proofs.Common.{◌≡◌, ◌==◌, ◌∙◌, ◌%◌, ℕ, ap, cond, rules}
 use Rattle.fp_field.proofs.ServedLemmas.{served_field}
-use Rattle.class_matrices.proofs.ListLemmas.{counted-more}
-use Rattle.class_matrices.proofs.SumLemmas.{bit-mod}
+use Rattle.class_matrices.proofs.{ListLemmas.counted-more, SumLemmas.bit-mod}
 use Rattle.class_matrices.proofs.sums.unit.Goals as goal
 
 pub loop-k-preserved : goal.loop-k-preserved

@@ -1,14 +1,8 @@
-use Rattle.std.proofs.Common.{[], ◌≡◌, ◌∙◌, ◌*◌, ◌%◌, ◌<◌, ℕ, List, ap, arith, length, map, rules, subst, sym, take}
-use Rattle.std.proofs.lemmas.List.{length-map}
-use Rattle.std.proofs.lemmas.Slice.Zip.{zip_end, zip_turn}
-use Rattle.std.specs.Iterator.Adapters.{zip_first, zip_second}
-use Rattle.std.specs.Slice.Iter.{iter_rest}
+use Rattle.std.{proofs.Common.{[], ◌≡◌, ◌∙◌, ◌*◌, ◌%◌, ◌<◌, ℕ, List, ap, arith, length, map, rules, subst, sym, take}, proofs.lemmas.List.length-map, proofs.lemmas.Slice.Zip.{zip_end, zip_turn}, specs.Iterator.Adapters.{zip_first, zip_second}, specs.Slice.Iter.iter_rest}
 use Rattle.fp_field.proofs.ServedLemmas.{served_field}
 use Rattle.linear_law.proofs.Names.{length_push}
 use Rattle.op_matrix.specs.Columns.{values_of}
-use Rattle.class_matrices.specs.Names.{sum_onto}
-use Rattle.class_matrices.proofs.ListLemmas.{mapped-at, shorter}
-use Rattle.class_matrices.proofs.SumLemmas.{column-more, columns-none, sum-all}
+use Rattle.class_matrices.{specs.Names.sum_onto, proofs.ListLemmas.{mapped-at, shorter}, proofs.SumLemmas.{column-more, columns-none, sum-all}}
 use Rattle.class_matrices.proofs.sums.with_columns.Goals as goal
 
 pub returns-then-is_zero : goal.returns-then-is_zero

@@ -1,11 +1,8 @@
-use Rattle.std.proofs.Common.{◌≡◌, ◌∙◌, ◌≤◌, ℕ, List, ap, arith, length, min, rules, sym}
-use Rattle.std.proofs.lemmas.List.{drop_all}
+use Rattle.std.proofs.{Common.{◌≡◌, ◌∙◌, ◌≤◌, ℕ, List, ap, arith, length, min, rules, sym}, lemmas.List.drop_all}
 use Rattle.fp_field.proofs.ServedLemmas.{served_field}
 use Rattle.op_matrix.specs.Columns.{values_of}
 use Rattle.steenrod_law.specs.Names.{coefficient_products}
-use Rattle.class_matrices.specs.Names.{sum_onto}
-use Rattle.class_matrices.proofs.ListLemmas.{mapped-back, mapped-front}
-use Rattle.class_matrices.proofs.SumLemmas.{row-more, sum-no-more}
+use Rattle.class_matrices.{specs.Names.sum_onto, proofs.ListLemmas.{mapped-back, mapped-front}, proofs.SumLemmas.{row-more, sum-no-more}}
 use Rattle.class_matrices.proofs.sums.with_products.Goals as goal
 
 pub loop-by-preserved : goal.loop-by-preserved

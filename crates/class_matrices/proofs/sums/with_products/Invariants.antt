@@ -1,8 +1,7 @@
 use Rattle.std.proofs.Common.{drop}
 use Rattle.op_matrix.specs.Columns.{values_of}
 use Rattle.steenrod_law.specs.Names.{coefficient_products}
-use Rattle.class_matrices.specs.Names.{Fits, sum_onto}
-use Rattle.class_matrices.proofs.SumLemmas.{IsRest}
+use Rattle.class_matrices.{specs.Names.{Fits, sum_onto}, proofs.SumLemmas.IsRest}
 use Rattle.class_matrices.proofs.sums.with_products.Given as goal
 
 abbrev pub invariant-loop-by : goal.invariant-loop-by

@@ -1,7 +1,6 @@
 use Rattle.std.proofs.Common.{◌∙◌, false}
 use Rattle.fp_field.proofs.ServedLemmas.{served_field}
-use Rattle.class_matrices.proofs.ListLemmas.{copies-more}
-use Rattle.class_matrices.proofs.SumLemmas.{bit-mod}
+use Rattle.class_matrices.proofs.{ListLemmas.copies-more, SumLemmas.bit-mod}
 use Rattle.class_matrices.proofs.sums.zeros.Goals as goal
 
 pub loop-preserved : goal.loop-preserved

@@ -1,6 +1,5 @@
 use Rattle.std.proofs.Common.{◌≡◌, ◌∙◌, ◌++◌, ℕ, List, [], ◌∷◌, ap, codes}
-use Rattle.comch_app.specs.Names.{number_line, sample_text}
-use Rattle.comch_app.proofs.SampleLemmas.{five_parts}
+use Rattle.comch_app.{specs.Names.{number_line, sample_text}, proofs.SampleLemmas.five_parts}
 use Rattle.comch_app.proofs.samples.text_of.Goals as goal
 
 pub returns : goal.returns

@@ -1,9 +1,7 @@
 use Rattle.std.proofs.Common.{refl, []}
-use Rattle.comch_app.proofs.Endings.{memory_ends, memory_ends_may, memory_ends_sample, none_given, one_sample, memory_ends_words, one_element, words_end}
-use Rattle.comch_app.specs.Names.{Ends, MayAnswers, SampleAnswers}
+use Rattle.comch_app.{proofs.Endings.{memory_ends, memory_ends_may, memory_ends_sample, none_given, one_sample, memory_ends_words, one_element, words_end}, specs.Names.{Ends, MayAnswers, SampleAnswers}, proofs.Verdicts.complete_of}
 use Rattle.comch_app.specs.declared.answer.Asked.TheVariants as asked
 use Rattle.comch_app.specs.declared.answer.Wanted.TheVariants as wanted
-use Rattle.comch_app.proofs.Verdicts.{complete_of}
 use Rattle.report.specs.declared.form.Form.TheVariants as form
 use Rattle.comch_app.proofs.top.run.Goals as goal
 

@@ -1,9 +1,6 @@
-use Rattle.std.proofs.Common.{◌≡◌, ◌∙◌, ap, ap₂, true}
-use Rattle.std.proofs.lemmas.Result.{IfOk-weaker}
-use Rattle.clap.specs.Words.{app_of, with_rule}
-use Rattle.clap.specs.Simple.{app_of_fields, on_top}
-use Rattle.comch_app.specs.Names.{bare}
-use Rattle.comch_app.specs.CommandLine.{line}
+use Rattle.std.proofs.{Common.{◌≡◌, ◌∙◌, ap, ap₂, true}, lemmas.Result.IfOk-weaker}
+use Rattle.clap.specs.{Words.{app_of, with_rule}, Simple.{app_of_fields, on_top}}
+use Rattle.comch_app.specs.{Names.bare, CommandLine.line}
 use Rattle.comch_app.proofs.words.command_line.Goals as goal
 
 pub returns : goal.returns

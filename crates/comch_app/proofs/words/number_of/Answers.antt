@@ -1,5 +1,4 @@
-use Rattle.std.proofs.Common.{arith, lit<, ◌≤◌, ◌^◌}
-use Rattle.std.proofs.Math.Nat.{pow-le-pow_right}
+use Rattle.std.proofs.{Common.{arith, lit<, ◌≤◌, ◌^◌}, Math.Nat.pow-le-pow_right}
 use Rattle.comch_app.proofs.words.number_of.Goals as goal
 
 pub overflow_mul-value : goal.overflow_mul-value

@@ -1,7 +1,4 @@
-use Rattle.std.proofs.Common.{◌∙◌, List, [], ℕ, get_or, ap, sym, arith}
-use Rattle.std.specs.Ordering.{nat_cmp}
-use Rattle.std.specs.BTreeSet.{insert_key}
-use Rattle.std.proofs.lemmas.List.Sums.{fold_more}
+use Rattle.std.{proofs.Common.{◌∙◌, List, [], ℕ, get_or, ap, sym, arith}, specs.Ordering.nat_cmp, specs.BTreeSet.insert_key, proofs.lemmas.List.Sums.fold_more}
 use Rattle.complex_file.proofs.complexes.ascending_of.Goals as goal
 
 pub loop-v-preserved : goal.loop-v-preserved

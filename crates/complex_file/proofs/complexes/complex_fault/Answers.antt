@@ -1,6 +1,5 @@
 use Rattle.std.proofs.Common.{◌∙◌, Some, ap, arith}
-use Rattle.complex_file.specs.Names.{InputKind}
-use Rattle.complex_file.proofs.FacetLemmas.{fault_at, fault_not_yet}
+use Rattle.complex_file.{specs.Names.InputKind, proofs.FacetLemmas.{fault_at, fault_not_yet}}
 use Rattle.complex_file.proofs.complexes.complex_fault.Goals as goal
 
 pub returns-in-Err-Kind : goal.returns-in-Err-Kind

@@ -1,7 +1,5 @@
-use Rattle.std.proofs.Common.{◌≡◌, ◌∙◌, List, ℕ, Ok, Vec, Global, true, false, ap, length, option_map, refl, sym, le-ltb, lt-ltb}
-use Rattle.std.specs.declared.option.Option.{Option}
-use Rattle.complex_file.specs.Names.{ascending, facet_of, has_repeat}
-use Rattle.complex_file.proofs.RepeatLemmas.{repeat_tells}
+use Rattle.std.{proofs.Common.{◌≡◌, ◌∙◌, List, ℕ, Ok, Vec, Global, true, false, ap, length, option_map, refl, sym, le-ltb, lt-ltb}, specs.declared.option.Option.Option}
+use Rattle.complex_file.{specs.Names.{ascending, facet_of, has_repeat}, proofs.RepeatLemmas.repeat_tells}
 use Rattle.complex_file.proofs.complexes.facet_of.Goals as goal
 
 pub returns-then-vertices-len : goal.returns-then-vertices-len

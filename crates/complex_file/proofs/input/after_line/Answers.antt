@@ -1,7 +1,5 @@
-use Rattle.std.proofs.Common.{◌≡◌, ◌∙◌, List, ℕ, true, ap, subst, rules}
-use Rattle.std.specs.List.{list_all}
-use Rattle.complex_file.specs.Names.{is_allowed, words, after_words, Gives, place_seen, texts}
-use Rattle.complex_file.specs.Input.{after_line}
+use Rattle.std.{proofs.Common.{◌≡◌, ◌∙◌, List, ℕ, true, ap, subst, rules}, specs.List.list_all}
+use Rattle.complex_file.specs.{Names.{is_allowed, words, after_words, Gives, place_seen, texts}, Input.after_line}
 use Rattle.complex_file.proofs.input.after_line.Goals as goal
 
 pub returns : goal.returns

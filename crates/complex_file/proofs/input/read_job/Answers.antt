@@ -1,7 +1,5 @@
 use Rattle.std.proofs.Common.{◌≡◌, true, subst, sym}
-use Rattle.complex_file.specs.Names.{Spelled}
-use Rattle.complex_file.specs.Jobs.{is_job}
-use Rattle.complex_file.proofs.JobLemmas.{spelled_job}
+use Rattle.complex_file.{specs.Names.Spelled, specs.Jobs.is_job, proofs.JobLemmas.spelled_job}
 use Rattle.complex_file.proofs.input.read_job.Goals as goal
 
 pub invariant_of-result : goal.invariant_of-result

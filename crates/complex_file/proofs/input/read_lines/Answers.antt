@@ -1,6 +1,4 @@
-use Rattle.std.proofs.Common.{◌≡◌, ◌∙◌, ◌+◌, List, ℕ, Bor, Ok, ap, subst, sym, length, count_by}
-use Rattle.std.proofs.lemmas.List.{length-map}
-use Rattle.std.proofs.lemmas.List.Splits.{length-slice_split}
+use Rattle.std.proofs.{Common.{◌≡◌, ◌∙◌, ◌+◌, List, ℕ, Bor, Ok, ap, subst, sym, length, count_by}, lemmas.List.length-map, lemmas.List.Splits.length-slice_split}
 use Rattle.complex_file.specs.Names.{is_line_end, lines, Spelled, at_end, at_line, at_start, place_after, GivesInput, place_seen, texts}
 use Rattle.complex_file.proofs.input.read_lines.Goals as goal
 

@@ -1,5 +1,4 @@
-use Rattle.complex_file.proofs.FaultLines.{text_fault}
-use Rattle.complex_file.proofs.FaultTable.{line_table}
+use Rattle.complex_file.proofs.{FaultLines.text_fault, FaultTable.line_table}
 use Rattle.complex_file.proofs.laws.first_fault.Goals as goal
 
 pub returns : goal.returns

@@ -1,7 +1,5 @@
-use Rattle.std.proofs.Common.{List, ℕ, Bor, arith}
-use Rattle.std.proofs.lemmas.List.{length-map}
-use Rattle.complex_file.specs.Names.{texts}
-use Rattle.complex_file.proofs.LineLemmas.{few_many}
+use Rattle.std.proofs.{Common.{List, ℕ, Bor, arith}, lemmas.List.length-map}
+use Rattle.complex_file.{specs.Names.texts, proofs.LineLemmas.few_many}
 use Rattle.complex_file.proofs.line.line_of_few.Goals as goal
 
 pub returns-in-len4-up : goal.returns-in-len4-up

@@ -1,6 +1,5 @@
 use Rattle.std.proofs.Common.{◌∙◌, Some, List, ap, arith}
-use Rattle.complex_file.specs.Names.{Sent, InputKind, map_fault}
-use Rattle.complex_file.proofs.MapLemmas.{send_at, send_not_yet}
+use Rattle.complex_file.{specs.Names.{Sent, InputKind, map_fault}, proofs.MapLemmas.{send_at, send_not_yet}}
 use Rattle.complex_file.proofs.maps.map_fault.Goals as goal
 
 pub returns-in-Err-Kind : goal.returns-in-Err-Kind

@@ -2,10 +2,8 @@ use Rattle.std.proofs.Common.{◌∙◌, ap, subst, List, [], ◌∷◌, get_or}
 use Rattle.report.specs.declared.columns.Column.{Column}
 use Rattle.report_law.specs.Names.{block_of}
 use Rattle.certificate_law.specs.Names.{Asks, numbered, operation_column, operation_opens, operation_stated}
-use Rattle.certificate_walk.specs.Names.{IsWalk}
-use Rattle.certificate_walk.proofs.Names.{walk_both, walk_passed, walk_stops, walk_tested}
-use Rattle.count_check.specs.Columns.{with_primitive}
-use Rattle.count_check.proofs.SectionLemmas.{is_live, operation_asks, rank_is}
+use Rattle.certificate_walk.{specs.Names.IsWalk, proofs.Names.{walk_both, walk_passed, walk_stops, walk_tested}}
+use Rattle.count_check.{specs.Columns.with_primitive, proofs.SectionLemmas.{is_live, operation_asks, rank_is}}
 use Rattle.count_check.proofs.blocks.operation.Goals as goal
 
 pub returns-in_err-line-clause-walk : goal.returns-in_err-line-clause-walk

@@ -2,8 +2,7 @@ use Rattle.std.proofs.Common.{◌≡◌, ℕ, ◌+◌, drop, sum_by}
 use Rattle.report.specs.declared.complex.ComplexPart.{ComplexPart}
 use Rattle.report_law.specs.Names.{blocks, ranks_of}
 use Rattle.certificate_law.specs.Names.{numbered, operation_stated, Asks}
-use Rattle.certificate_walk.proofs.Names.{Leads}
-use Rattle.certificate_walk.specs.Names.{operation_lines}
+use Rattle.certificate_walk.{proofs.Names.Leads, specs.Names.operation_lines}
 use Rattle.count_check.proofs.blocks.operations.Given as goal
 
 abbrev pub invariant-loop-place : goal.invariant-loop-place

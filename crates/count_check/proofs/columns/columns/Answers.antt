@@ -1,9 +1,7 @@
 use Rattle.std.proofs.Common.{subst, arith, [], ◌∷◌}
 use Rattle.certificate_law.specs.Names.{Asks, numbered, with_stands}
-use Rattle.certificate_walk.specs.Names.{IsWalk}
-use Rattle.certificate_walk.proofs.Names.{numbered_end, numbered_more, numbered_stop, walk_first, walk_passed}
-use Rattle.count_check.specs.Columns.{with_primitive}
-use Rattle.count_check.proofs.SectionLemmas.{asked}
+use Rattle.certificate_walk.{specs.Names.IsWalk, proofs.Names.{numbered_end, numbered_more, numbered_stop, walk_first, walk_passed}}
+use Rattle.count_check.{specs.Columns.with_primitive, proofs.SectionLemmas.asked}
 use Rattle.count_check.proofs.columns.columns.Goals as goal
 
 pub returns-in_err-at-clause-walk : goal.returns-in_err-at-clause-walk

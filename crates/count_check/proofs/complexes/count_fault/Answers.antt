@@ -1,13 +1,8 @@
 use Rattle.std.proofs.Common.{◌+◌, ◌^◌, ◌<◌, sym, ◌∙◌, ap, subst, arith, List, [], ◌∷◌, ◌++◌, flat_map, length, sum_by, Ok, Err}
-use Rattle.report.specs.declared.columns.CartanPart.{CartanPart}
-use Rattle.report.specs.declared.columns.OperationPart.{OperationPart}
-use Rattle.report.specs.declared.columns.ProductPart.{ProductPart}
+use Rattle.report.specs.declared.columns.{CartanPart.CartanPart, OperationPart.OperationPart, ProductPart.ProductPart}
 use Rattle.certificate_law.specs.Names.{Asks, cartan_stated, complex_ends, complex_stated, degree_stated, operation_stated, product_stated}
-use Rattle.certificate_walk.specs.Names.{operation_lines, product_lines}
-use Rattle.certificate_walk.proofs.Names.{walk_both, walk_passed, walk_stops, walk_tested}
-use Rattle.count_check.specs.Columns.{AreFew}
-use Rattle.count_check.specs.LineGroups.{group_lines}
-use Rattle.count_check.proofs.ComplexWalks.{behind_products, cartans_in, degrees_in, few_classes, few_small, live_of, on_ok, opened, operations_in, products_in, room_cartans, room_end, room_operations, room_products, walk_slice, whole_of}
+use Rattle.certificate_walk.{specs.Names.{operation_lines, product_lines}, proofs.Names.{walk_both, walk_passed, walk_stops, walk_tested}}
+use Rattle.count_check.{specs.Columns.AreFew, specs.LineGroups.group_lines, proofs.ComplexWalks.{behind_products, cartans_in, degrees_in, few_classes, few_small, live_of, on_ok, opened, operations_in, products_in, room_cartans, room_end, room_operations, room_products, walk_slice, whole_of}}
 use Rattle.count_check.proofs.complexes.count_fault.Goals as goal
 
 pub returns-in_err-at-clause-walk : goal.returns-in_err-at-clause-walk

@@ -1,7 +1,6 @@
 use Rattle.std.proofs.Common.{◌+◌, subst, [], ◌∷◌, Ok}
 use Rattle.certificate_law.specs.Names.{Asks, degree_opens, degree_stated}
-use Rattle.certificate_walk.specs.Names.{IsWalk}
-use Rattle.certificate_walk.proofs.Names.{walk_both, walk_passed, walk_stops, walk_tested}
+use Rattle.certificate_walk.{specs.Names.IsWalk, proofs.Names.{walk_both, walk_passed, walk_stops, walk_tested}}
 use Rattle.count_check.proofs.SectionLemmas.{degree_tested, under_degree, under_walked}
 use Rattle.count_check.proofs.degrees.degree.Goals as goal
 

@@ -1,8 +1,7 @@
 use Rattle.std.proofs.Common.{◌+◌, sym, ◌∙◌, ap, List, [], length, map, get_or, sum_by}
 use Rattle.report.specs.declared.complex.DegreePart.{DegreePart}
 use Rattle.certificate_law.specs.Names.{Asks, numbered, degree_stated}
-use Rattle.certificate_walk.specs.Names.{degree_lines}
-use Rattle.certificate_walk.proofs.Names.{numbered_end, numbered_more, numbered_stop, walk_passed, rest_less}
+use Rattle.certificate_walk.{specs.Names.degree_lines, proofs.Names.{numbered_end, numbered_more, numbered_stop, walk_passed, rest_less}}
 use Rattle.count_check.proofs.SectionLemmas.{degree_few}
 use Rattle.count_check.proofs.degrees.degrees.Goals as goal
 

@@ -1,8 +1,7 @@
 use Rattle.std.proofs.Common.{◌≡◌, ℕ, ◌+◌, drop, sum_by}
 use Rattle.report.specs.declared.complex.ComplexPart.{ComplexPart}
 use Rattle.certificate_law.specs.Names.{degree_stated, numbered, Asks}
-use Rattle.certificate_walk.proofs.Names.{Leads}
-use Rattle.certificate_walk.specs.Names.{degree_lines}
+use Rattle.certificate_walk.{proofs.Names.Leads, specs.Names.degree_lines}
 use Rattle.count_check.specs.Totals.{IsIndexed}
 use Rattle.count_check.proofs.degrees.degrees.Given as goal
 

@@ -1,9 +1,6 @@
 use Rattle.std.proofs.Common.{◌++◌, ◌∙◌, ap, subst, sym, arith, refl, flat_map, length, get_or}
-use Rattle.linear_law.specs.Names.{Each}
-use Rattle.linear_law.proofs.Names.{each_push}
-use Rattle.count_check.specs.declared.lines.LineGroup.{LineGroup}
-use Rattle.count_check.specs.LineGroups.{IsSmallGroup, group_lines, pair_lines}
-use Rattle.count_check.proofs.LiveLemmas.{Grows, all_taken, grown, grown_small}
+use Rattle.linear_law.{specs.Names.Each, proofs.Names.each_push}
+use Rattle.count_check.{specs.declared.lines.LineGroup.LineGroup, specs.LineGroups.{IsSmallGroup, group_lines, pair_lines}, proofs.LiveLemmas.{Grows, all_taken, grown, grown_small}}
 use Rattle.count_check.proofs.lines.add_groups.Goals as goal
 
 pub loop-b-preserved : goal.loop-b-preserved

@@ -1,8 +1,7 @@
 use Rattle.std.proofs.Common.{subst, arith, [], ◌∷◌}
 use Rattle.report_law.specs.Names.{line_of}
 use Rattle.certificate_law.specs.Names.{Asks, answer_stated, cartan_stands, cartan_stated, numbered}
-use Rattle.certificate_walk.specs.Names.{IsWalk}
-use Rattle.certificate_walk.proofs.Names.{numbered_end, numbered_more, numbered_stop, walk_first, walk_passed}
+use Rattle.certificate_walk.{specs.Names.IsWalk, proofs.Names.{numbered_end, numbered_more, numbered_stop, walk_first, walk_passed}}
 use Rattle.count_check.proofs.SectionLemmas.{asked, asks_nothing, is_live}
 use Rattle.count_check.proofs.lines.cartans.Goals as goal
 

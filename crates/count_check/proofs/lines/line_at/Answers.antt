@@ -1,6 +1,5 @@
 use Rattle.std.proofs.Common.{◌<◌, arith, length}
-use Rattle.count_check.specs.LineGroups.{group_lines}
-use Rattle.count_check.proofs.PlaceLemmas.{found_here, found_later}
+use Rattle.count_check.{specs.LineGroups.group_lines, proofs.PlaceLemmas.{found_here, found_later}}
 use Rattle.count_check.proofs.lines.line_at.Goals as goal
 
 pub returns-then-left-size : goal.returns-then-left-size

@@ -1,6 +1,5 @@
 use Rattle.std.proofs.Common.{◌++◌, ◌∙◌, ap, sym, flat_map, length}
-use Rattle.count_check.specs.LineGroups.{lines_from}
-use Rattle.count_check.proofs.LiveLemmas.{all_live, all_taken, flat_taken}
+use Rattle.count_check.{specs.LineGroups.lines_from, proofs.LiveLemmas.{all_live, all_taken, flat_taken}}
 use Rattle.count_check.proofs.lines.line_groups.Goals as goal
 
 pub loop-a-preserved : goal.loop-a-preserved

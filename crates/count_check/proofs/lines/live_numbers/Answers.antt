@@ -1,9 +1,6 @@
-use Rattle.std.proofs.Common.{◌+◌, sym, ◌∙◌, ap}
-use Rattle.std.specs.List.{filter}
-use Rattle.count_check.specs.LineGroups.{is_live_number}
-use Rattle.count_check.proofs.LiveLemmas.{all_taken, kept, left}
+use Rattle.std.{proofs.Common.{◌+◌, sym, ◌∙◌, ap}, specs.List.filter}
+use Rattle.count_check.{specs.LineGroups.is_live_number, proofs.LiveLemmas.{all_taken, kept, left}, proofs.lines.live_numbers.Goals.{then-is_live+in_ok-push, else-is_live}}
 use Rattle.count_check.proofs.lines.live_numbers.Goals as goal
-use Rattle.count_check.proofs.lines.live_numbers.Goals.{then-is_live+in_ok-push, else-is_live}
 
 pub loop-n-preserved : goal.loop-n-preserved
 loop-n-preserved c =

@@ -1,5 +1,4 @@
-use Rattle.std.proofs.Common.{◌≡◌, ◌+◌, take}
-use Rattle.std.specs.List.{filter}
+use Rattle.std.{proofs.Common.{◌≡◌, ◌+◌, take}, specs.List.filter}
 use Rattle.signed_sum.specs.Names.{numbers_from}
 use Rattle.count_check.specs.LineGroups.{is_live_number}
 use Rattle.count_check.proofs.lines.live_numbers.Given as goal

@@ -1,10 +1,8 @@
 use Rattle.std.proofs.Common.{◌∙◌, ap, subst, List, [], ◌∷◌, get_or}
 use Rattle.report.specs.declared.columns.Column.{Column}
 use Rattle.certificate_law.specs.Names.{Asks, numbered, induced_column, induced_opens, induced_stated}
-use Rattle.certificate_walk.specs.Names.{IsWalk}
-use Rattle.certificate_walk.proofs.Names.{walk_both, walk_passed, walk_stops, walk_tested}
-use Rattle.count_check.specs.Columns.{with_primitive}
-use Rattle.count_check.proofs.SectionLemmas.{is_live, induced_asks, rank_is}
+use Rattle.certificate_walk.{specs.Names.IsWalk, proofs.Names.{walk_both, walk_passed, walk_stops, walk_tested}}
+use Rattle.count_check.{specs.Columns.with_primitive, proofs.SectionLemmas.{is_live, induced_asks, rank_is}}
 use Rattle.count_check.proofs.maps.block.Goals as goal
 
 pub returns-in_err-line-clause-walk : goal.returns-in_err-line-clause-walk

@@ -1,6 +1,5 @@
 use Rattle.certificate_law.specs.Names.{Asks, numbered, induced_stated}
-use Rattle.certificate_walk.specs.Names.{induced_lines}
-use Rattle.certificate_walk.proofs.Names.{numbered_end, numbered_more, numbered_stop, walk_passed, rest_less}
+use Rattle.certificate_walk.{specs.Names.induced_lines, proofs.Names.{numbered_end, numbered_more, numbered_stop, walk_passed, rest_less}}
 use Rattle.count_check.proofs.maps.blocks.Goals as goal
 
 pub returns-in_err-at : goal.returns-in_err-at

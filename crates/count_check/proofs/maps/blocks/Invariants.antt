@@ -1,10 +1,8 @@
 use Rattle.std.proofs.Common.{◌≡◌, ℕ, ◌+◌, drop, sum_by}
-use Rattle.report.specs.declared.complex.ComplexPart.{ComplexPart}
-use Rattle.report.specs.declared.map.MapPart.{MapPart}
+use Rattle.report.specs.declared.{complex.ComplexPart.ComplexPart, map.MapPart.MapPart}
 use Rattle.report_law.specs.Names.{induced_degrees, ranks_of}
 use Rattle.certificate_law.specs.Names.{induced_stated, numbered, Asks}
-use Rattle.certificate_walk.proofs.Names.{Leads}
-use Rattle.certificate_walk.specs.Names.{induced_lines}
+use Rattle.certificate_walk.{proofs.Names.Leads, specs.Names.induced_lines}
 use Rattle.count_check.proofs.maps.blocks.Given as goal
 
 abbrev pub invariant-loop-place : goal.invariant-loop-place

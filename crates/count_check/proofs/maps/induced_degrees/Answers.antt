@@ -1,9 +1,6 @@
-use Rattle.std.proofs.Common.{sym, ◌∙◌, ap, length}
-use Rattle.std.specs.List.{filter}
-use Rattle.count_check.specs.Columns.{is_induced}
-use Rattle.count_check.proofs.LiveLemmas.{all_taken, kept, left}
+use Rattle.std.{proofs.Common.{sym, ◌∙◌, ap, length}, specs.List.filter}
+use Rattle.count_check.{specs.Columns.is_induced, proofs.LiveLemmas.{all_taken, kept, left}, proofs.maps.induced_degrees.Goals.{then-is_shared+in_ok-push, else-is_shared}}
 use Rattle.count_check.proofs.maps.induced_degrees.Goals as goal
-use Rattle.count_check.proofs.maps.induced_degrees.Goals.{then-is_shared+in_ok-push, else-is_shared}
 
 pub loop-q-preserved : goal.loop-q-preserved
 loop-q-preserved c =

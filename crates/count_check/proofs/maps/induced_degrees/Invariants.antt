@@ -1,5 +1,4 @@
-use Rattle.std.proofs.Common.{◌≡◌, take}
-use Rattle.std.specs.List.{filter}
+use Rattle.std.{proofs.Common.{◌≡◌, take}, specs.List.filter}
 use Rattle.report_law.specs.Names.{degrees}
 use Rattle.count_check.specs.Columns.{is_induced}
 use Rattle.count_check.proofs.maps.induced_degrees.Given as goal

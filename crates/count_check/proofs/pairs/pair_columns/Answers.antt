@@ -1,10 +1,8 @@
 use Rattle.std.proofs.Common.{◌≡◌, ◌+◌, ◌<◌, ◌≤◌, ◌∙◌, ap, subst, arith, List, [], ◌∷◌, length, get_or}
 use Rattle.report.specs.declared.columns.PairColumn.{PairColumn}
 use Rattle.certificate_law.specs.Names.{Asks, numbered, product_column, with_stands}
-use Rattle.certificate_walk.specs.Names.{IsWalk}
-use Rattle.certificate_walk.proofs.Names.{numbered_end, numbered_more, numbered_stop, walk_first, walk_passed}
-use Rattle.count_check.specs.Columns.{with_numbers}
-use Rattle.count_check.proofs.SectionLemmas.{asked, product_asks, rank_is}
+use Rattle.certificate_walk.{specs.Names.IsWalk, proofs.Names.{numbered_end, numbered_more, numbered_stop, walk_first, walk_passed}}
+use Rattle.count_check.{specs.Columns.with_numbers, proofs.SectionLemmas.{asked, product_asks, rank_is}}
 use Rattle.count_check.proofs.pairs.pair_columns.Goals as goal
 
 pub returns-in_err-at-clause-walk : goal.returns-in_err-at-clause-walk

@@ -1,10 +1,8 @@
 use Rattle.std.proofs.Common.{subst, [], ◌∷◌}
 use Rattle.report_law.specs.Names.{product_of}
 use Rattle.certificate_law.specs.Names.{Asks, numbered, product_opens, product_stated}
-use Rattle.certificate_walk.specs.Names.{IsWalk}
-use Rattle.certificate_walk.proofs.Names.{walk_both, walk_passed, walk_stops, walk_tested}
-use Rattle.count_check.specs.Columns.{with_numbers}
-use Rattle.count_check.proofs.SectionLemmas.{is_live}
+use Rattle.certificate_walk.{specs.Names.IsWalk, proofs.Names.{walk_both, walk_passed, walk_stops, walk_tested}}
+use Rattle.count_check.{specs.Columns.with_numbers, proofs.SectionLemmas.is_live}
 use Rattle.count_check.proofs.pairs.product.Goals as goal
 
 pub returns-in_err-line-clause-walk : goal.returns-in_err-line-clause-walk

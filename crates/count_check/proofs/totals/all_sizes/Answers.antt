@@ -1,7 +1,6 @@
 use Rattle.std.proofs.Common.{◌∙◌, ap, arith, take_all}
 use Rattle.linear_law.proofs.Names.{length_alike}
-use Rattle.count_check.specs.Totals.{IsCountable, job_sizes}
-use Rattle.count_check.proofs.TotalLemmas.{sizes_more, zip_get}
+use Rattle.count_check.{specs.Totals.{IsCountable, job_sizes}, proofs.TotalLemmas.{sizes_more, zip_get}}
 use Rattle.count_check.proofs.totals.all_sizes.Goals as goal
 
 pub bounds-indexes-place : goal.bounds-indexes-place

@@ -1,7 +1,6 @@
 use Rattle.std.proofs.Common.{◌∙◌, ◌++◌, ◌∷◌, [], sym, ap, ap₂, length, map}
 use Rattle.complex_index.specs.Names.{level}
-use Rattle.count_check.proofs.LiveLemmas.{all_taken, map_taken}
-use Rattle.count_check.proofs.TotalLemmas.{counts_are}
+use Rattle.count_check.proofs.{LiveLemmas.{all_taken, map_taken}, TotalLemmas.counts_are}
 use Rattle.count_check.proofs.totals.simplex_numbers.Goals as goal
 
 pub loop-n-preserved : goal.loop-n-preserved

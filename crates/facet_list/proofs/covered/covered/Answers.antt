@@ -1,9 +1,7 @@
-use Rattle.std.proofs.Common.{ℕ, ◌+◌, ◌-◌, ◌<◌, ◌≡◌, arith, sym, ◌∙◌, subst, Bool, List, [], length, get_or, take}
-use Rattle.std.proofs.lemmas.List.{with_items_is}
+use Rattle.std.proofs.{Common.{ℕ, ◌+◌, ◌-◌, ◌<◌, ◌≡◌, arith, sym, ◌∙◌, subst, Bool, List, [], length, get_or, take}, lemmas.List.with_items_is}
 use Rattle.linear_law.proofs.Names.{each_map}
 use Rattle.complex_index.specs.Names.{ArePlaces, level}
-use Rattle.facet_list.specs.Covered.{AreMarked, Covers}
-use Rattle.facet_list.proofs.MarkLemmas.{more_covered}
+use Rattle.facet_list.{specs.Covered.{AreMarked, Covers}, proofs.MarkLemmas.more_covered}
 use Rattle.facet_list.proofs.covered.covered.Goals as goal
 
 pub mark-requires : goal.mark-requires

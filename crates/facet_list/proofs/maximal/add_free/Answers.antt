@@ -1,11 +1,8 @@
-use Rattle.std.proofs.Common.{◌≡◌, ◌+◌, ℕ, List, [], false, true, ◌<◌, ◌∙◌, arith, ap, sym, subst, get_or, length}
-use Rattle.std.specs.BTreeSet.{insert_key}
+use Rattle.std.{proofs.Common.{◌≡◌, ◌+◌, ℕ, List, [], false, true, ◌<◌, ◌∙◌, arith, ap, sym, subst, get_or, length}, specs.BTreeSet.insert_key}
 use Rattle.simplicial_law.specs.Names.{simplex_cmp}
 use Rattle.complex_index.specs.Names.{level}
-use Rattle.facet_list.specs.Covered.{AddsBelow}
-use Rattle.facet_list.proofs.MarkLemmas.{added, all_added, left_out, read_mark}
+use Rattle.facet_list.{specs.Covered.AddsBelow, proofs.MarkLemmas.{added, all_added, left_out, read_mark}, proofs.maximal.add_free.Goals.{then-not-index+in_ok-new+in_ok-insert, else-not-index}}
 use Rattle.facet_list.proofs.maximal.add_free.Goals as goal
-use Rattle.facet_list.proofs.maximal.add_free.Goals.{then-not-index+in_ok-new+in_ok-insert, else-not-index}
 
 pub loop-place-preserved : goal.loop-place-preserved
 loop-place-preserved c =

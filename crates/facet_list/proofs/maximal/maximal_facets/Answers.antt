@@ -2,8 +2,7 @@ use Rattle.std.proofs.Common.{ℕ, ◌<◌, List, length, arith}
 use Rattle.linear_law.specs.Names.{Each, IsAscending}
 use Rattle.complex_index.specs.Names.{IsIndexOf}
 use Rattle.report_law.specs.Names.{AreMaximalFacets}
-use Rattle.facet_list.proofs.FreeFacets.{are_maximal}
-use Rattle.facet_list.proofs.MarkLemmas.{more_free, with_listed}
+use Rattle.facet_list.proofs.{FreeFacets.are_maximal, MarkLemmas.{more_free, with_listed}}
 use Rattle.facet_list.proofs.maximal.maximal_facets.Goals as goal
 
 pub loop-n-preserved : goal.loop-n-preserved

@@ -1,10 +1,7 @@
-use Rattle.std.proofs.Common.{◌≡◌, ◌<◌, ◌≤◌, ◌%◌, ◌∙◌, ℕ, List, ap, arith, get_or, length, lit<, refl, subst, sym, take, take_all}
-use Rattle.std.proofs.lemmas.List.{take_more}
-use Rattle.linear_law.specs.Names.{negated}
-use Rattle.linear_law.proofs.Names.{each_get_or}
+use Rattle.std.proofs.{Common.{◌≡◌, ◌<◌, ◌≤◌, ◌%◌, ◌∙◌, ℕ, List, ap, arith, get_or, length, lit<, refl, subst, sym, take, take_all}, lemmas.List.take_more}
+use Rattle.linear_law.{specs.Names.negated, proofs.Names.each_get_or}
 use Rattle.report_law.specs.Names.{cartan_pairs}
-use Rattle.line_difference.specs.Differences.{IsLess, IsLinePair, IsPart}
-use Rattle.line_difference.proofs.DifferenceLemmas.{line-pairs, one-less}
+use Rattle.line_difference.{specs.Differences.{IsLess, IsLinePair, IsPart}, proofs.DifferenceLemmas.{line-pairs, one-less}}
 use Rattle.line_difference.proofs.differences.difference.Goals as goal
 
 pub part-requires : goal.part-requires

@@ -1,6 +1,5 @@
 use Rattle.std.proofs.Common.{ℕ, List, subst, sym, IfOk, Result}
-use Rattle.complex_index.specs.declared.indexed.Cochain.{Cochain}
-use Rattle.complex_index.specs.Names.{IsIndexOf}
+use Rattle.complex_index.specs.{declared.indexed.Cochain.Cochain, Names.IsIndexOf}
 use Rattle.may_steenrod.specs.Cochains.{IsClosed, cochain_in}
 use Rattle.report.specs.declared.plan.Op.{Op}
 use Rattle.report_law.specs.Names.{IsOperation, target_degree}

@@ -1,10 +1,7 @@
-use Rattle.std.proofs.Common.{◌≡◌, ◌+◌, ◌-◌, ◌<◌, ◌≤◌, ℕ, List, arith, length, subst, sym, take, take_all, slice_get, Some}
-use Rattle.std.specs.List.{AllZip}
+use Rattle.std.{proofs.Common.{◌≡◌, ◌+◌, ◌-◌, ◌<◌, ◌≤◌, ℕ, List, arith, length, subst, sym, take, take_all, slice_get, Some}, specs.List.AllZip}
 use Rattle.complex_index.specs.declared.indexed.Cochain.{Cochain}
 use Rattle.cohomology.specs.declared.basis.Column.{Column}
-use Rattle.op_matrix.specs.Tables.{IsResultColumn}
-use Rattle.op_matrix.proofs.ListLemmas.{zip-more}
-use Rattle.op_matrix.proofs.TableLemmas.{operation-matrix}
+use Rattle.op_matrix.{specs.Tables.IsResultColumn, proofs.ListLemmas.zip-more, proofs.TableLemmas.operation-matrix}
 use Rattle.op_matrix.proofs.matrices.matrix.Goals as goal
 
 pub loop-i-preserved : goal.loop-i-preserved

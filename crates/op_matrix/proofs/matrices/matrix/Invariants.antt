@@ -1,5 +1,4 @@
-use Rattle.std.proofs.Common.{take}
-use Rattle.std.specs.List.{AllZip}
+use Rattle.std.{proofs.Common.take, specs.List.AllZip}
 use Rattle.op_matrix.specs.Tables.{IsResultColumn}
 use Rattle.op_matrix.proofs.matrices.matrix.Given as goal
 

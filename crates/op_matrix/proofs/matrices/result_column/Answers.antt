@@ -1,5 +1,4 @@
-use Rattle.std.proofs.Common.{◌-◌}
-use Rattle.std.proofs.lemmas.Result.{IfOk-weaker}
+use Rattle.std.proofs.{Common.{◌-◌}, lemmas.Result.IfOk-weaker}
 use Rattle.op_matrix.proofs.TableLemmas.{result-column}
 use Rattle.op_matrix.proofs.matrices.result_column.Goals as goal
 

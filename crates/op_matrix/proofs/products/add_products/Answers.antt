@@ -1,9 +1,7 @@
-use Rattle.std.proofs.Common.{◌≡◌, ◌+◌, ◌-◌, ◌<◌, ◌≤◌, ℕ, List, ◌++◌, arith, length, map, subst, sym, take, take_all, slice_get, Some}
-use Rattle.std.specs.List.{AllZip}
+use Rattle.std.{proofs.Common.{◌≡◌, ◌+◌, ◌-◌, ◌<◌, ◌≤◌, ℕ, List, ◌++◌, arith, length, map, subst, sym, take, take_all, slice_get, Some}, specs.List.AllZip}
 use Rattle.complex_index.specs.declared.indexed.Cochain.{Cochain}
 use Rattle.cohomology.specs.declared.basis.Column.{Column}
-use Rattle.op_matrix.specs.Tables.{IsPairColumn}
-use Rattle.op_matrix.proofs.ListLemmas.{more-behind}
+use Rattle.op_matrix.{specs.Tables.IsPairColumn, proofs.ListLemmas.more-behind}
 use Rattle.op_matrix.proofs.products.add_products.Goals as goal
 
 pub loop-j-preserved : goal.loop-j-preserved

@@ -1,5 +1,4 @@
-use Rattle.std.proofs.Common.{◌≡◌, ◌-◌, ◌++◌, List, map, take, slice_get, Some}
-use Rattle.std.specs.List.{AllZip}
+use Rattle.std.{proofs.Common.{◌≡◌, ◌-◌, ◌++◌, List, map, take, slice_get, Some}, specs.List.AllZip}
 use Rattle.complex_index.specs.declared.indexed.Cochain.{Cochain}
 use Rattle.op_matrix.specs.Tables.{IsPairColumn}
 use Rattle.op_matrix.proofs.products.add_products.Given as goal

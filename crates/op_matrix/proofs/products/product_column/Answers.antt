@@ -1,5 +1,4 @@
-use Rattle.std.proofs.Common.{◌-◌}
-use Rattle.std.proofs.lemmas.Result.{IfOk-weaker}
+use Rattle.std.proofs.{Common.{◌-◌}, lemmas.Result.IfOk-weaker}
 use Rattle.op_matrix.proofs.TableLemmas.{pair-column}
 use Rattle.op_matrix.proofs.products.product_column.Goals as goal
 

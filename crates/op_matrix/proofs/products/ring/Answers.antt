@@ -1,10 +1,7 @@
-use Rattle.std.proofs.Common.{◌≡◌, ◌+◌, ◌-◌, ◌<◌, ◌≤◌, ℕ, List, arith, length, map, subst, sym, take, take_all, slice_get, Some}
-use Rattle.std.specs.List.{AllZip}
+use Rattle.std.{proofs.Common.{◌≡◌, ◌+◌, ◌-◌, ◌<◌, ◌≤◌, ℕ, List, arith, length, map, subst, sym, take, take_all, slice_get, Some}, specs.List.AllZip}
 use Rattle.complex_index.specs.declared.indexed.Cochain.{Cochain}
 use Rattle.cohomology.specs.declared.basis.Column.{Column}
-use Rattle.op_matrix.specs.Tables.{IsPairColumn}
-use Rattle.op_matrix.proofs.ListLemmas.{flat-more, next}
-use Rattle.op_matrix.proofs.TableLemmas.{pairs_of, product-matrix-of}
+use Rattle.op_matrix.{specs.Tables.IsPairColumn, proofs.ListLemmas.{flat-more, next}, proofs.TableLemmas.{pairs_of, product-matrix-of}}
 use Rattle.op_matrix.proofs.products.ring.Goals as goal
 
 pub loop-i-preserved : goal.loop-i-preserved

@@ -1,7 +1,5 @@
-use Rattle.std.proofs.Common.{take}
-use Rattle.std.specs.List.{AllZip}
-use Rattle.op_matrix.specs.Tables.{IsPairColumn}
-use Rattle.op_matrix.proofs.TableLemmas.{pairs_of}
+use Rattle.std.{proofs.Common.take, specs.List.AllZip}
+use Rattle.op_matrix.{specs.Tables.IsPairColumn, proofs.TableLemmas.pairs_of}
 use Rattle.op_matrix.proofs.products.ring.Given as goal
 
 abbrev pub invariant-loop-i : goal.invariant-loop-i

@@ -1,5 +1,4 @@
-use Rattle.std.proofs.Common.{◌∙◌, ◌++◌, List, ℕ, ap}
-use Rattle.std.specs.Str.{bytes_eq}
+use Rattle.std.{proofs.Common.{◌∙◌, ◌++◌, List, ℕ, ap}, specs.Str.bytes_eq}
 use Rattle.report.specs.declared.form.Form.TheVariants.{Certificate}
 use Rattle.report_text_law.specs.Names.{shown}
 use Rattle.report_lines.proofs.Spelled.{spelled_front}

@@ -1,5 +1,4 @@
-use Rattle.std.proofs.Common.{rules, nat_lt}
-use Rattle.std.proofs.lemmas.Fn.{always_returns_same}
+use Rattle.std.proofs.{Common.{rules, nat_lt}, lemmas.Fn.always_returns_same}
 use Rattle.report_lines.proofs.Neighbours.{ascends_tested}
 use Rattle.report_lines.proofs.well_formed.ascends.Goals as goal
 

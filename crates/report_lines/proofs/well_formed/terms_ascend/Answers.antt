@@ -1,7 +1,5 @@
-use Rattle.std.proofs.Common.{ℕ, List, rules}
-use Rattle.std.specs.Ordering.{is_lt}
+use Rattle.std.{proofs.Common.{ℕ, List, rules}, specs.Ordering.is_lt, proofs.lemmas.Fn.always_returns_same}
 use Rattle.simplicial_law.specs.Names.{simplex_cmp}
-use Rattle.std.proofs.lemmas.Fn.{always_returns_same}
 use Rattle.report_lines.proofs.Neighbours.{terms_tested}
 use Rattle.report_lines.proofs.well_formed.terms_ascend.Goals as goal
 

@@ -1,6 +1,4 @@
-use Rattle.std.proofs.Common.{rules, ◌==◌}
-use Rattle.std.proofs.lemmas.Iterator.Consumers.{map_from_collect}
-use Rattle.std.proofs.lemmas.Iterator.Splits.{YieldsList-from_slice_split}
+use Rattle.std.proofs.{Common.{rules, ◌==◌}, lemmas.Iterator.Consumers.map_from_collect, lemmas.Iterator.Splits.YieldsList-from_slice_split}
 use Rattle.report_lines.proofs.word.pieces.Goals as goal
 
 pub returns : goal.returns

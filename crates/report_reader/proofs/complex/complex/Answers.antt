@@ -1,7 +1,5 @@
 use Rattle.report_text_law.specs.declared.line.Line.TheVariants.{Complex as complex_line}
-use Rattle.report_reader.specs.Names.{any, complexes}
-use Rattle.report_reader.proofs.Items.{complex_opens}
-use Rattle.report_reader.proofs.Steps.{item_refused}
+use Rattle.report_reader.{specs.Names.{any, complexes}, proofs.Items.complex_opens, proofs.Steps.item_refused}
 use Rattle.report_reader.proofs.complex.complex.Goals as goal
 
 pub returns-in_err-part-in-Complex : goal.returns-in_err-part-in-Complex

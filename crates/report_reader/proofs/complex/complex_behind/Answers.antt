@@ -1,9 +1,7 @@
 use Rattle.std.proofs.Common.{◌∙◌, [], refl}
 use Rattle.report.specs.declared.complex.ComplexPart.{ComplexPart}
-use Rattle.report_text_law.specs.Names.{complex_of, move, with_complex}
-use Rattle.report_text_law.specs.declared.state.State.TheVariants.{Between}
-use Rattle.report_reader.specs.Names.{end_only, within_degrees}
-use Rattle.report_reader.proofs.Steps.{items_ok, items_refused, part_refused, progress}
+use Rattle.report_text_law.specs.{Names.{complex_of, move, with_complex}, declared.state.State.TheVariants.Between}
+use Rattle.report_reader.{specs.Names.{end_only, within_degrees}, proofs.Steps.{items_ok, items_refused, part_refused, progress}}
 use Rattle.report_reader.proofs.complex.complex_behind.Goals as goal
 
 pub returns-in_err-degrees-clause-reads : goal.returns-in_err-degrees-clause-reads

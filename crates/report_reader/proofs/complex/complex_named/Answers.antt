@@ -1,9 +1,7 @@
 use Rattle.std.proofs.Common.{[], refl}
 use Rattle.report.specs.declared.complex.ComplexPart.{ComplexPart}
-use Rattle.report_text_law.specs.Names.{move, with_complex}
-use Rattle.report_text_law.specs.declared.state.State.TheVariants.{Between}
-use Rattle.report_reader.specs.Names.{facets, within_degrees}
-use Rattle.report_reader.proofs.Steps.{items_ok, items_refused, preceded}
+use Rattle.report_text_law.specs.{Names.{move, with_complex}, declared.state.State.TheVariants.Between}
+use Rattle.report_reader.{specs.Names.{facets, within_degrees}, proofs.Steps.{items_ok, items_refused, preceded}}
 use Rattle.report_reader.proofs.complex.complex_named.Goals as goal
 
 pub returns-in_err-facets-clause-reads : goal.returns-in_err-facets-clause-reads

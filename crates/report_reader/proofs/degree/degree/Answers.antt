@@ -1,7 +1,5 @@
 use Rattle.report_text_law.specs.declared.line.Line.TheVariants.{Degree as degree_line}
-use Rattle.report_reader.specs.Names.{counted, degrees}
-use Rattle.report_reader.proofs.Items.{degree_opens}
-use Rattle.report_reader.proofs.Steps.{item_refused}
+use Rattle.report_reader.{specs.Names.{counted, degrees}, proofs.Items.degree_opens, proofs.Steps.item_refused}
 use Rattle.report_reader.proofs.degree.degree.Goals as goal
 
 pub returns-in_err-degree_part-in-Degree : goal.returns-in_err-degree_part-in-Degree

@@ -1,6 +1,5 @@
 use Rattle.std.proofs.Common.{List, ap, sym, rules}
-use Rattle.report_reader.specs.Names.{reading}
-use Rattle.report_reader.proofs.Steps.{end_of_items, fewer, more_items, refused_items}
+use Rattle.report_reader.{specs.Names.reading, proofs.Steps.{end_of_items, fewer, more_items, refused_items}}
 use Rattle.report_reader.proofs.list.listed.Goals as goal
 
 pub loop-found-init : goal.loop-found-init

@@ -1,7 +1,5 @@
-use Rattle.std.proofs.Common.{◌≡◌, ◌≤◌, ℕ, List, [], length}
-use Rattle.std.specs.declared.option.Option.{Option}
-use Rattle.report_text_law.specs.declared.line.Line.{Line}
-use Rattle.report_text_law.specs.declared.state.State.{State}
+use Rattle.std.{proofs.Common.{◌≡◌, ◌≤◌, ℕ, List, [], length}, specs.declared.option.Option.Option}
+use Rattle.report_text_law.specs.declared.{line.Line.Line, state.State.State}
 use Rattle.report_reader.specs.Names.{ReadsItem, left, reading}
 use Rattle.report_reader.proofs.list.listed.Given as goal
 

@@ -1,7 +1,5 @@
 use Rattle.report_text_law.specs.declared.line.Line.TheVariants.{Induced as induced_line}
-use Rattle.report_reader.specs.Names.{any, induced_blocks}
-use Rattle.report_reader.proofs.Items.{induced_opens}
-use Rattle.report_reader.proofs.Steps.{item_read, item_refused}
+use Rattle.report_reader.{specs.Names.{any, induced_blocks}, proofs.Items.induced_opens, proofs.Steps.{item_read, item_refused}}
 use Rattle.report_reader.proofs.map.induced_block.Goals as goal
 
 pub returns-in_err-columns-in-Induced : goal.returns-in_err-columns-in-Induced

@@ -1,7 +1,5 @@
 use Rattle.report_text_law.specs.declared.line.Line.TheVariants.{Map as map_line}
-use Rattle.report_reader.specs.Names.{any, maps}
-use Rattle.report_reader.proofs.Items.{map_opens}
-use Rattle.report_reader.proofs.Steps.{item_refused}
+use Rattle.report_reader.{specs.Names.{any, maps}, proofs.Items.map_opens, proofs.Steps.item_refused}
 use Rattle.report_reader.proofs.map.map.Goals as goal
 
 pub returns-in_err-part-in-Map : goal.returns-in_err-part-in-Map

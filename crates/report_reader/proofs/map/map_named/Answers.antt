@@ -1,9 +1,7 @@
 use Rattle.std.proofs.Common.{◌∙◌, ◌++◌, ◌∷◌, [], refl}
 use Rattle.report.specs.declared.map.MapPart.{MapPart}
-use Rattle.report_text_law.specs.Names.{map_of, move}
-use Rattle.report_text_law.specs.declared.state.State.TheVariants.{BetweenMaps}
-use Rattle.report_reader.specs.Names.{end_only, sends}
-use Rattle.report_reader.proofs.Steps.{items_ok, items_refused, part_refused, progress}
+use Rattle.report_text_law.specs.{Names.{map_of, move}, declared.state.State.TheVariants.BetweenMaps}
+use Rattle.report_reader.{specs.Names.{end_only, sends}, proofs.Steps.{items_ok, items_refused, part_refused, progress}}
 use Rattle.report_reader.proofs.map.map_named.Goals as goal
 
 pub returns-in_err-sends-clause-reads : goal.returns-in_err-sends-clause-reads

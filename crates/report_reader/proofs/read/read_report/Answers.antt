@@ -1,8 +1,6 @@
 use Rattle.std.proofs.Common.{◌∙◌, ℕ, []}
-use Rattle.report_text_law.specs.Names.{move}
-use Rattle.report_text_law.specs.declared.state.State.TheVariants.{AtPrime, AtStart, Between}
-use Rattle.report_reader.proofs.Steps.{failed, progress, refusal}
-use Rattle.report_reader.proofs.Whole.{first_line, is_reading, report_behind, report_refused}
+use Rattle.report_text_law.specs.{Names.move, declared.state.State.TheVariants.{AtPrime, AtStart, Between}}
+use Rattle.report_reader.proofs.{Steps.{failed, progress, refusal}, Whole.{first_line, is_reading, report_behind, report_refused}}
 use Rattle.report_reader.proofs.read.read_report.Goals as goal
 
 pub returns-in_err-heading : goal.returns-in_err-heading

@@ -1,9 +1,6 @@
 use Rattle.std.proofs.Common.{◌∙◌, [], refl}
-use Rattle.report_text_law.specs.declared.state.Finding.{Finding}
-use Rattle.report_text_law.specs.declared.state.State.TheVariants.{Finished}
-use Rattle.report_reader.specs.Names.{complexes, done_only, maps}
-use Rattle.report_reader.proofs.Steps.{failed, items_ok, refusal}
-use Rattle.report_reader.proofs.Whole.{report_behind, report_refused}
+use Rattle.report_text_law.specs.declared.state.{Finding.Finding, State.TheVariants.Finished}
+use Rattle.report_reader.{specs.Names.{complexes, done_only, maps}, proofs.Steps.{failed, items_ok, refusal}, proofs.Whole.{report_behind, report_refused}}
 use Rattle.report_reader.proofs.read.report.Goals as goal
 
 pub returns-in_err-complexes : goal.returns-in_err-complexes

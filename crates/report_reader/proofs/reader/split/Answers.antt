@@ -1,6 +1,4 @@
-use Rattle.std.proofs.Common.{rules, tests, subst}
-use Rattle.std.proofs.lemmas.Iterator.{YieldsList-from_slice}
-use Rattle.std.proofs.lemmas.Iterator.Search.{position_from_yields_List}
+use Rattle.std.proofs.{Common.{rules, tests, subst}, lemmas.Iterator.YieldsList-from_slice, lemmas.Iterator.Search.position_from_yields_List}
 use Rattle.report_reader.proofs.Pieces.{is_end, FirstPiece, first_piece}
 use Rattle.report_reader.proofs.reader.split.Goals as goal
 

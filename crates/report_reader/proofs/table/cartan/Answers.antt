@@ -1,8 +1,6 @@
 use Rattle.report.specs.declared.columns.CartanAnswer.TheVariants.{Yes, No}
 use Rattle.report_text_law.specs.declared.line.Line.TheVariants.{CartanYes as cartan_yes, CartanNo as cartan_no}
-use Rattle.report_reader.specs.Names.{any, cartans}
-use Rattle.report_reader.proofs.Items.{yes_opens, no_opens}
-use Rattle.report_reader.proofs.Steps.{item_read, item_refused}
+use Rattle.report_reader.{specs.Names.{any, cartans}, proofs.Items.{yes_opens, no_opens}, proofs.Steps.{item_read, item_refused}}
 use Rattle.report_reader.proofs.table.cartan.Goals as goal
 
 pub returns-in_err-primitive-in-CartanYes : goal.returns-in_err-primitive-in-CartanYes

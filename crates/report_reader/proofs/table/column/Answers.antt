@@ -1,8 +1,6 @@
 use Rattle.std.proofs.Common.{arith}
 use Rattle.report_text_law.specs.declared.line.Line.TheVariants.{Column as column_line}
-use Rattle.report_reader.specs.Names.{counted, columns}
-use Rattle.report_reader.proofs.Items.{column_opens}
-use Rattle.report_reader.proofs.Steps.{item_read, item_refused}
+use Rattle.report_reader.{specs.Names.{counted, columns}, proofs.Items.column_opens, proofs.Steps.{item_read, item_refused}}
 use Rattle.report_reader.proofs.table.column.Goals as goal
 
 pub returns-in_err-primitive-in-Column : goal.returns-in_err-primitive-in-Column

@@ -1,7 +1,5 @@
 use Rattle.report_text_law.specs.declared.line.Line.TheVariants.{Operation as operation_line}
-use Rattle.report_reader.specs.Names.{any, operations}
-use Rattle.report_reader.proofs.Items.{operation_opens}
-use Rattle.report_reader.proofs.Steps.{item_read, item_refused}
+use Rattle.report_reader.{specs.Names.{any, operations}, proofs.Items.operation_opens, proofs.Steps.{item_read, item_refused}}
 use Rattle.report_reader.proofs.table.operation.Goals as goal
 
 pub returns-in_err-columns-in-Operation : goal.returns-in_err-columns-in-Operation

@@ -1,7 +1,5 @@
 use Rattle.report_text_law.specs.declared.line.Line.TheVariants.{Pair as pair_line}
-use Rattle.report_reader.specs.Names.{any, pairs}
-use Rattle.report_reader.proofs.Items.{pair_opens}
-use Rattle.report_reader.proofs.Steps.{item_read, item_refused}
+use Rattle.report_reader.{specs.Names.{any, pairs}, proofs.Items.pair_opens, proofs.Steps.{item_read, item_refused}}
 use Rattle.report_reader.proofs.table.pair.Goals as goal
 
 pub returns-in_err-primitive-in-Pair : goal.returns-in_err-primitive-in-Pair

@@ -1,7 +1,5 @@
 use Rattle.report_text_law.specs.declared.line.Line.TheVariants.{Product as product_line}
-use Rattle.report_reader.specs.Names.{any, products}
-use Rattle.report_reader.proofs.Items.{product_opens}
-use Rattle.report_reader.proofs.Steps.{item_read, item_refused}
+use Rattle.report_reader.{specs.Names.{any, products}, proofs.Items.product_opens, proofs.Steps.{item_read, item_refused}}
 use Rattle.report_reader.proofs.table.product.Goals as goal
 
 pub returns-in_err-columns-in-Product : goal.returns-in_err-columns-in-Product

@@ -1,7 +1,5 @@
-use Rattle.std.proofs.Common.{arith, get_or, refl}
-use Rattle.std.proofs.lemmas.List.{get_or_default}
-use Rattle.term_total.specs.Names.{sum_of}
-use Rattle.term_total.proofs.ChargeLemmas.{all-summed, none-summed, one-summed}
+use Rattle.std.proofs.{Common.{arith, get_or, refl}, lemmas.List.get_or_default}
+use Rattle.term_total.{specs.Names.sum_of, proofs.ChargeLemmas.{all-summed, none-summed, one-summed}}
 use Rattle.term_total.proofs.charges.capped_sum.Goals as goal
 
 pub loop-n-init : goal.loop-n-init

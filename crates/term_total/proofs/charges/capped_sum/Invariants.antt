@@ -1,7 +1,6 @@
 use Rattle.std.proofs.Common.{drop}
 use Rattle.linear_law.specs.Names.{sum_over}
-use Rattle.term_total.specs.Names.{sum_of}
-use Rattle.term_total.proofs.ChargeLemmas.{IsSummed}
+use Rattle.term_total.{specs.Names.sum_of, proofs.ChargeLemmas.IsSummed}
 use Rattle.term_total.proofs.charges.capped_sum.Given as goal
 
 abbrev pub invariant-loop-n : goal.invariant-loop-n

@@ -1,5 +1,4 @@
-use Rattle.std.proofs.Common.{◌∷◌, [], arith, get_or}
-use Rattle.std.proofs.lemmas.List.{get_or_default}
+use Rattle.std.proofs.{Common.{◌∷◌, [], arith, get_or}, lemmas.List.get_or_default}
 use Rattle.term_total.proofs.ChargeLemmas.{item-charged, item-refused, items-charged, self-left}
 use Rattle.term_total.proofs.charges.charge_all.Goals as goal
 

@@ -1,9 +1,7 @@
 use Rattle.std.proofs.Common.{◌≡◌, ◌-◌, ◌*◌, ◌/◌, ◌∙◌, Ok, ap, arith, min}
 use Rattle.may_elements.specs.Counted.{charged}
-use Rattle.term_total.specs.Names.{IsCount, repeated, sum_of}
-use Rattle.term_total.proofs.ChargeLemmas.{AreMost, fits-refused, rows-all, rows-cut, rows-fit, rows-pass, whole-least, whole-zero}
+use Rattle.term_total.{specs.Names.{IsCount, repeated, sum_of}, proofs.ChargeLemmas.{AreMost, fits-refused, rows-all, rows-cut, rows-fit, rows-pass, whole-least, whole-zero}, proofs.charges.charge_rows.Goals.{then-sum-eq0, else-sum-eq0}}
 use Rattle.term_total.proofs.charges.charge_rows.Goals as goal
-use Rattle.term_total.proofs.charges.charge_rows.Goals.{then-sum-eq0, else-sum-eq0}
 
 pub returns-in_err-charge : goal.returns-in_err-charge
 returns-in_err-charge c = λ ns e.

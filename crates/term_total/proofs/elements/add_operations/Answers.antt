@@ -1,9 +1,5 @@
-use Rattle.std.proofs.Common.{◌∙◌, ◌+◌, ap, drop, map, sym, fold}
-use Rattle.std.specs.BTreeSet.{insert_key}
-use Rattle.std.specs.Ordering.{nat_cmp}
-use Rattle.std.proofs.lemmas.List.{at_drop_more}
-use Rattle.term_total.specs.Names.{Applied}
-use Rattle.term_total.proofs.ReadyLemmas.{no_applied}
+use Rattle.std.{proofs.Common.{◌∙◌, ◌+◌, ap, drop, map, sym, fold}, specs.BTreeSet.insert_key, specs.Ordering.nat_cmp, proofs.lemmas.List.at_drop_more}
+use Rattle.term_total.{specs.Names.Applied, proofs.ReadyLemmas.no_applied}
 use Rattle.term_total.proofs.elements.add_operations.Goals as goal
 
 pub loop-operation-preserved : goal.loop-operation-preserved

@@ -1,6 +1,4 @@
-use Rattle.std.proofs.Common.{◌≡◌, drop, map, fold}
-use Rattle.std.specs.BTreeSet.{insert_key}
-use Rattle.std.specs.Ordering.{nat_cmp}
+use Rattle.std.{proofs.Common.{◌≡◌, drop, map, fold}, specs.BTreeSet.insert_key, specs.Ordering.nat_cmp}
 use Rattle.term_total.proofs.elements.add_operations.Given as goal
 
 abbrev pub invariant-loop-operation : goal.invariant-loop-operation

@@ -1,6 +1,4 @@
-use Rattle.std.proofs.Common.{◌≡◌, drop, map, flat_map, fold}
-use Rattle.std.specs.BTreeSet.{insert_key}
-use Rattle.std.specs.Ordering.{nat_cmp}
+use Rattle.std.{proofs.Common.{◌≡◌, drop, map, flat_map, fold}, specs.BTreeSet.insert_key, specs.Ordering.nat_cmp}
 use Rattle.term_total.specs.Names.{row_elements, Addend}
 use Rattle.term_total.proofs.elements.add_row.Given as goal
 

@@ -1,6 +1,4 @@
-use Rattle.std.proofs.Common.{◌≡◌, [], drop, fold}
-use Rattle.std.specs.BTreeSet.{insert_key}
-use Rattle.std.specs.Ordering.{nat_cmp}
+use Rattle.std.{proofs.Common.{◌≡◌, [], drop, fold}, specs.BTreeSet.insert_key, specs.Ordering.nat_cmp}
 use Rattle.term_total.specs.Names.{elements_in}
 use Rattle.term_total.proofs.elements.elements.Given as goal
 

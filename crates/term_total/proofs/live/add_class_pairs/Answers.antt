@@ -1,9 +1,7 @@
 use Rattle.std.proofs.Common.{◌+◌, ◌≡◌, ◌∙◌, arith, ap, sym, Vec, Global}
-use Rattle.term_total.specs.Names.{is_class_pair, product_of}
-use Rattle.term_total.proofs.LiveLemmas.{fails, items-more, passes}
+use Rattle.term_total.{specs.Names.{is_class_pair, product_of}, proofs.LiveLemmas.{fails, items-more, passes}, proofs.live.add_class_pairs.Goals.{then-are_inhabited+in_ok-push, else-are_inhabited}}
 use Rattle.term_total.proofs.live.add_class_pairs.Goals as goal
 use Rattle.report.specs.declared.plan.Product.{Product}
-use Rattle.term_total.proofs.live.add_class_pairs.Goals.{then-are_inhabited+in_ok-push, else-are_inhabited}
 
 pub loop-b-preserved : goal.loop-b-preserved
 loop-b-preserved c =

@@ -1,5 +1,4 @@
-use Rattle.std.proofs.Common.{◌≡◌, ◌++◌, map}
-use Rattle.std.specs.List.{filter}
+use Rattle.std.{proofs.Common.{◌≡◌, ◌++◌, map}, specs.List.filter}
 use Rattle.signed_sum.specs.Names.{numbers_from}
 use Rattle.term_total.specs.Names.{is_class_pair, product_of}
 use Rattle.term_total.proofs.live.add_class_pairs.Given as goal

@@ -1,7 +1,6 @@
 use Rattle.std.proofs.Common.{◌+◌, ◌≡◌, arith}
 use Rattle.report_law.specs.Names.{lines_of_pair}
-use Rattle.term_total.specs.Names.{is_live_line}
-use Rattle.term_total.proofs.LiveLemmas.{parts-more}
+use Rattle.term_total.{specs.Names.is_live_line, proofs.LiveLemmas.parts-more}
 use Rattle.term_total.proofs.live.add_lines_of_class.Goals as goal
 
 pub loop-j-preserved : goal.loop-j-preserved

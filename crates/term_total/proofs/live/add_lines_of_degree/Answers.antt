@@ -1,6 +1,5 @@
 use Rattle.std.proofs.Common.{◌+◌, ◌≡◌, arith}
-use Rattle.term_total.specs.Names.{is_live_line, lines_of_degrees}
-use Rattle.term_total.proofs.LiveLemmas.{parts-more}
+use Rattle.term_total.{specs.Names.{is_live_line, lines_of_degrees}, proofs.LiveLemmas.parts-more}
 use Rattle.term_total.proofs.live.add_lines_of_degree.Goals as goal
 
 pub loop-b-preserved : goal.loop-b-preserved

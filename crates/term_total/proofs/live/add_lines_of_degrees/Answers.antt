@@ -1,6 +1,5 @@
 use Rattle.std.proofs.Common.{◌+◌, ◌≡◌, arith}
-use Rattle.term_total.specs.Names.{is_live_line, lines_of_class}
-use Rattle.term_total.proofs.LiveLemmas.{parts-more}
+use Rattle.term_total.{specs.Names.{is_live_line, lines_of_class}, proofs.LiveLemmas.parts-more}
 use Rattle.term_total.proofs.live.add_lines_of_degrees.Goals as goal
 
 pub loop-i-preserved : goal.loop-i-preserved

@@ -1,9 +1,7 @@
 use Rattle.std.proofs.Common.{◌+◌, ◌≡◌, ◌∙◌, arith, ap, sym, Vec, Global}
-use Rattle.term_total.specs.Names.{is_live_line, line_of}
-use Rattle.term_total.proofs.LiveLemmas.{fails, items-more, passes}
+use Rattle.term_total.{specs.Names.{is_live_line, line_of}, proofs.LiveLemmas.{fails, items-more, passes}, proofs.live.add_lines_of_pair.Goals.{then-is_live+in_ok-push, else-is_live}}
 use Rattle.term_total.proofs.live.add_lines_of_pair.Goals as goal
 use Rattle.report.specs.declared.plan.Line.{Line}
-use Rattle.term_total.proofs.live.add_lines_of_pair.Goals.{then-is_live+in_ok-push, else-is_live}
 
 pub loop-n-preserved : goal.loop-n-preserved
 loop-n-preserved c =

@@ -1,9 +1,7 @@
 use Rattle.std.proofs.Common.{◌+◌, ◌≡◌, ◌∙◌, arith, ap, sym, Vec, Global}
-use Rattle.term_total.specs.Names.{is_live_product, product_of}
-use Rattle.term_total.proofs.LiveLemmas.{fails, items-more, passes}
+use Rattle.term_total.{specs.Names.{is_live_product, product_of}, proofs.LiveLemmas.{fails, items-more, passes}, proofs.live.add_products.Goals.{then-is_live_pair+in_ok-push, else-is_live_pair}}
 use Rattle.term_total.proofs.live.add_products.Goals as goal
 use Rattle.report.specs.declared.plan.Product.{Product}
-use Rattle.term_total.proofs.live.add_products.Goals.{then-is_live_pair+in_ok-push, else-is_live_pair}
 
 pub loop-b-preserved : goal.loop-b-preserved
 loop-b-preserved c =

@@ -1,7 +1,6 @@
 use Rattle.std.proofs.Common.{◌+◌, ◌≡◌, [], arith, map}
 use Rattle.report_law.specs.Names.{block_on, operations}
-use Rattle.term_total.specs.Names.{is_live_block}
-use Rattle.term_total.proofs.LiveLemmas.{parts-more}
+use Rattle.term_total.{specs.Names.is_live_block, proofs.LiveLemmas.parts-more}
 use Rattle.term_total.proofs.live.blocks.Goals as goal
 
 pub loop-q-preserved : goal.loop-q-preserved

@@ -1,5 +1,4 @@
-use Rattle.std.proofs.Common.{◌≡◌, map, flat_map}
-use Rattle.std.specs.List.{filter}
+use Rattle.std.{proofs.Common.{◌≡◌, map, flat_map}, specs.List.filter}
 use Rattle.signed_sum.specs.Names.{numbers_from}
 use Rattle.report_law.specs.Names.{block_on, operations}
 use Rattle.term_total.specs.Names.{is_live_block}

@@ -1,7 +1,6 @@
 use Rattle.std.proofs.Common.{◌+◌, ◌≡◌, [], arith, map}
 use Rattle.report_law.specs.Names.{degrees}
-use Rattle.term_total.specs.Names.{is_class_pair, product_of}
-use Rattle.term_total.proofs.LiveLemmas.{parts-more}
+use Rattle.term_total.{specs.Names.{is_class_pair, product_of}, proofs.LiveLemmas.parts-more}
 use Rattle.term_total.proofs.live.class_pairs.Goals as goal
 
 pub loop-a-preserved : goal.loop-a-preserved

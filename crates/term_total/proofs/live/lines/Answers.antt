@@ -1,6 +1,5 @@
 use Rattle.std.proofs.Common.{◌+◌, ◌≡◌, [], arith}
-use Rattle.term_total.specs.Names.{is_live_line, lines_of_degree}
-use Rattle.term_total.proofs.LiveLemmas.{parts-more}
+use Rattle.term_total.{specs.Names.{is_live_line, lines_of_degree}, proofs.LiveLemmas.parts-more}
 use Rattle.term_total.proofs.live.lines.Goals as goal
 
 pub loop-a-preserved : goal.loop-a-preserved

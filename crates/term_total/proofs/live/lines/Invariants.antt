@@ -1,5 +1,4 @@
-use Rattle.std.proofs.Common.{◌≡◌, flat_map}
-use Rattle.std.specs.List.{filter}
+use Rattle.std.{proofs.Common.{◌≡◌, flat_map}, specs.List.filter}
 use Rattle.signed_sum.specs.Names.{numbers_from}
 use Rattle.term_total.specs.Names.{is_live_line, lines_of_degree}
 use Rattle.term_total.proofs.live.lines.Given as goal

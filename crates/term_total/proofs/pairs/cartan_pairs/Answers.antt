@@ -1,8 +1,7 @@
 use Rattle.std.proofs.Common.{◌≡◌, ◌+◌, ◌-◌, ◌∙◌, ℕ, arith, ap, sym, Vec, Global, [], ◌&&◌}
 use Rattle.report_law.specs.Names.{cartan_op, is_defined}
-use Rattle.term_total.proofs.LiveLemmas.{fails, items-more, passes}
+use Rattle.term_total.proofs.{LiveLemmas.{fails, items-more, passes}, pairs.cartan_pairs.Goals.{then-are_defined+in_ok-push, else-are_defined}}
 use Rattle.term_total.proofs.pairs.cartan_pairs.Goals as goal
-use Rattle.term_total.proofs.pairs.cartan_pairs.Goals.{then-are_defined+in_ok-push, else-are_defined}
 
 pub loop-i-preserved : goal.loop-i-preserved
 loop-i-preserved c =

@@ -1,5 +1,4 @@
-use Rattle.std.proofs.Common.{◌≡◌, ℕ, ◌-◌, map, ◌&&◌}
-use Rattle.std.specs.List.{filter}
+use Rattle.std.{proofs.Common.{◌≡◌, ℕ, ◌-◌, map, ◌&&◌}, specs.List.filter}
 use Rattle.signed_sum.specs.Names.{numbers_from}
 use Rattle.report_law.specs.Names.{cartan_op, is_defined}
 use Rattle.term_total.proofs.pairs.cartan_pairs.Given as goal

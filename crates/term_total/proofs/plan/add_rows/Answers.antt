@@ -1,9 +1,7 @@
 use Rattle.std.proofs.Common.{◌∙◌, ◌+◌, ◌≤◌, ap, subst, sym}
-use Rattle.linear_law.specs.Names.{Each}
-use Rattle.linear_law.proofs.Names.{each_get_or}
+use Rattle.linear_law.{specs.Names.Each, proofs.Names.each_get_or}
 use Rattle.report.specs.declared.plan.Product.{Product}
-use Rattle.term_total.specs.Names.{class_pairs}
-use Rattle.term_total.proofs.ReadyLemmas.{each-pair, no_product}
+use Rattle.term_total.{specs.Names.class_pairs, proofs.ReadyLemmas.{each-pair, no_product}}
 use Rattle.term_total.proofs.plan.add_rows.Goals as goal
 
 pub pair_row-requires-clause-low : goal.pair_row-requires-clause-low

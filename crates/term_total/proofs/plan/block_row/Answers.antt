@@ -1,9 +1,7 @@
 use Rattle.std.proofs.Common.{◌∙◌, ap, subst, sym}
-use Rattle.linear_law.specs.Names.{Each}
-use Rattle.linear_law.proofs.Names.{each_get_or}
+use Rattle.linear_law.{specs.Names.Each, proofs.Names.each_get_or}
 use Rattle.report_law.specs.Names.{blocks}
-use Rattle.term_total.specs.Names.{IsBlock}
-use Rattle.term_total.proofs.ReadyLemmas.{each-block, no_block}
+use Rattle.term_total.{specs.Names.IsBlock, proofs.ReadyLemmas.{each-block, no_block}}
 use Rattle.term_total.proofs.plan.block_row.Goals as goal
 
 pub block_addend-requires-clause-block : goal.block_addend-requires-clause-block

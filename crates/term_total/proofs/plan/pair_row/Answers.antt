@@ -1,8 +1,6 @@
 use Rattle.std.proofs.Common.{◌∙◌, ap, subst, sym, List, ℕ}
-use Rattle.linear_law.specs.Names.{Each}
-use Rattle.linear_law.proofs.Names.{each_get_or}
-use Rattle.term_total.specs.Names.{IsLine, pair_lines}
-use Rattle.term_total.proofs.ReadyLemmas.{each-line, no_line}
+use Rattle.linear_law.{specs.Names.Each, proofs.Names.each_get_or}
+use Rattle.term_total.{specs.Names.{IsLine, pair_lines}, proofs.ReadyLemmas.{each-line, no_line}}
 use Rattle.term_total.proofs.plan.pair_row.Goals as goal
 
 pub line_operations-requires-clause-line : goal.line_operations-requires-clause-line

@@ -1,7 +1,6 @@
 use Rattle.std.proofs.Common.{◌∙◌, arith, lit<, map, subst, sym, flat_map}
 use Rattle.linear_law.proofs.Names.{each_get_or}
-use Rattle.term_total.specs.Names.{AreReady, IsThere, addend_number, row_numbers}
-use Rattle.term_total.proofs.ChargeLemmas.{all-left, item-charged, item-refused, items-charged}
+use Rattle.term_total.{specs.Names.{AreReady, IsThere, addend_number, row_numbers}, proofs.ChargeLemmas.{all-left, item-charged, item-refused, items-charged}}
 use Rattle.term_total.proofs.terms.charge_plan.Goals as goal
 
 pub loop-row-init : goal.loop-row-init

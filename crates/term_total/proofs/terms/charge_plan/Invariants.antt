@@ -1,6 +1,5 @@
 use Rattle.std.proofs.Common.{drop, flat_map}
-use Rattle.term_total.specs.Names.{row_numbers}
-use Rattle.term_total.proofs.ChargeLemmas.{IsLeft}
+use Rattle.term_total.{specs.Names.row_numbers, proofs.ChargeLemmas.IsLeft}
 use Rattle.term_total.proofs.terms.charge_plan.Given as goal
 
 abbrev pub invariant-loop-row : goal.invariant-loop-row

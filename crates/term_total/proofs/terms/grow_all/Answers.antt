@@ -1,12 +1,8 @@
-use Rattle.std.proofs.Common.{ℕ, List, ◌≤◌, ◌∷◌, [], arith, ap, get_or, lit<, map, subst, take_all, IsNone, is_some}
-use Rattle.std.proofs.lemmas.List.{get_or_default}
-use Rattle.linear_law.specs.Names.{Each}
-use Rattle.linear_law.proofs.Names.{each_get_or}
+use Rattle.std.proofs.{Common.{ℕ, List, ◌≤◌, ◌∷◌, [], arith, ap, get_or, lit<, map, subst, take_all, IsNone, is_some}, lemmas.List.get_or_default}
+use Rattle.linear_law.{specs.Names.Each, proofs.Names.each_get_or}
 use Rattle.table_reduction_law.specs.Names.{candidate_count}
 use Rattle.may_elements.specs.Stored.{stored_at}
-use Rattle.term_total.specs.Names.{IsThere}
-use Rattle.term_total.proofs.ChargeLemmas.{item-charged, item-refused, items-charged, singles-left}
-use Rattle.term_total.proofs.GrowLemmas.{free-left, grow-err, grow-ok, grown-none, grown-stored, none-stored}
+use Rattle.term_total.{specs.Names.IsThere, proofs.ChargeLemmas.{item-charged, item-refused, items-charged, singles-left}, proofs.GrowLemmas.{free-left, grow-err, grow-ok, grown-none, grown-stored, none-stored}}
 use Rattle.term_total.proofs.terms.grow_all.Goals as goal
 
 pub loop-d-init : goal.loop-d-init

@@ -2,8 +2,7 @@ use Rattle.std.proofs.Common.{◌≡◌, ◌∷◌, [], None, drop, map, take, f
 use Rattle.linear_law.specs.Names.{Each}
 use Rattle.table_reduction_law.specs.Names.{candidate_count}
 use Rattle.may_elements.specs.Stored.{stored_at}
-use Rattle.term_total.specs.Names.{IsThere}
-use Rattle.term_total.proofs.ChargeLemmas.{IsLeft}
+use Rattle.term_total.{specs.Names.IsThere, proofs.ChargeLemmas.IsLeft}
 use Rattle.term_total.proofs.terms.grow_all.Given as goal
 
 abbrev pub invariant-loop-d : goal.invariant-loop-d

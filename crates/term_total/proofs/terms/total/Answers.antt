@@ -1,14 +1,9 @@
-use Rattle.std.proofs.Common.{◌≡◌, ℕ, ◌≤◌, ◌∙◌, List, Err, Ok, lit<, map, subst, sym, IsTrue, flat_map, is_some}
-use Rattle.std.specs.List.Sorted.{IsStrictlySortedBy}
-use Rattle.std.specs.Ordering.{nat_cmp}
+use Rattle.std.{proofs.Common.{◌≡◌, ℕ, ◌≤◌, ◌∙◌, List, Err, Ok, lit<, map, subst, sym, IsTrue, flat_map, is_some}, specs.List.Sorted.IsStrictlySortedBy, specs.Ordering.nat_cmp}
 use Rattle.linear_law.specs.Names.{Each}
 use Rattle.may_elements.specs.Stored.{stored_at}
 use Rattle.report_law.specs.Names.{addends, elements}
 use Rattle.table_reduction_law.specs.Names.{candidate_count}
-use Rattle.term_total.specs.Names.{Charges, AreReady, IsThere, plan, row_numbers, Row}
-use Rattle.term_total.proofs.ElementLemmas.{each-element, each-of-rows, elements-found, elements-sorted}
-use Rattle.term_total.proofs.ReadyLemmas.{plan-low, plan-ready, rows-ready}
-use Rattle.term_total.proofs.TotalLemmas.{all-charged, first-refused, on-ok, total-passes, total-used, total-within}
+use Rattle.term_total.{specs.Names.{Charges, AreReady, IsThere, plan, row_numbers, Row}, proofs.ElementLemmas.{each-element, each-of-rows, elements-found, elements-sorted}, proofs.ReadyLemmas.{plan-low, plan-ready, rows-ready}, proofs.TotalLemmas.{all-charged, first-refused, on-ok, total-passes, total-used, total-within}}
 use Rattle.term_total.proofs.terms.total.Goals as goal
 
 pub grow_all-requires : goal.grow_all-requires

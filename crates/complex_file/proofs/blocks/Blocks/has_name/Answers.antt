@@ -1,8 +1,5 @@
-use Rattle.std.proofs.Common.{◌∙◌, ap}
-use Rattle.std.specs.List.{list_any}
-use Rattle.std.specs.Str.{bytes_eq}
-use Rattle.complex_file.specs.Names.{Spelled, ComplexBlock, MapBlock}
-use Rattle.complex_file.proofs.NameLemmas.{named_first, named_second}
+use Rattle.std.{proofs.Common.{◌∙◌, ap}, specs.List.list_any, specs.Str.bytes_eq}
+use Rattle.complex_file.{specs.Names.{Spelled, ComplexBlock, MapBlock}, proofs.NameLemmas.{named_first, named_second}}
 use Rattle.complex_file.proofs.blocks.Blocks.has_name.Goals as goal
 
 pub returns-then-is_complex_name : goal.returns-then-is_complex_name

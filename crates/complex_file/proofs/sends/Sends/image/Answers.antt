@@ -1,7 +1,5 @@
-use Rattle.std.proofs.Common.{◌∙◌, List, ap, ℕ, unwrap_or}
-use Rattle.std.specs.declared.option.Option.{Option}
-use Rattle.complex_file.specs.Names.{Sent, image}
-use Rattle.complex_file.proofs.MapLemmas.{image_by_lookup}
+use Rattle.std.{proofs.Common.{◌∙◌, List, ap, ℕ, unwrap_or}, specs.declared.option.Option.Option}
+use Rattle.complex_file.{specs.Names.{Sent, image}, proofs.MapLemmas.image_by_lookup}
 use Rattle.complex_file.proofs.sends.Sends.image.Goals as goal
 
 pub returns : goal.returns

@@ -1,6 +1,5 @@
 use Rattle.std.proofs.Common.{◌∙◌, List, ap}
-use Rattle.complex_file.specs.Names.{Sent, is_sent}
-use Rattle.complex_file.proofs.MapLemmas.{sent_by_lookup}
+use Rattle.complex_file.{specs.Names.{Sent, is_sent}, proofs.MapLemmas.sent_by_lookup}
 use Rattle.complex_file.proofs.sends.Sends.is_sent.Goals as goal
 
 pub returns : goal.returns

@@ -1,7 +1,6 @@
 use Rattle.std.proofs.Common.{drop}
 use Rattle.linear_law.specs.Names.{sum_over}
-use Rattle.term_total.specs.Names.{operation_number}
-use Rattle.term_total.proofs.ChargeLemmas.{IsSummed}
+use Rattle.term_total.{specs.Names.operation_number, proofs.ChargeLemmas.IsSummed}
 use Rattle.term_total.proofs.counts.CutCounts.addend.Given as goal
 
 abbrev pub invariant-loop-operation : goal.invariant-loop-operation

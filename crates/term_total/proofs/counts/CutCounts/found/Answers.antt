@@ -1,6 +1,5 @@
 use Rattle.std.proofs.Common.{◌∙◌, ap₂, get_or, subst}
-use Rattle.linear_law.specs.Names.{Among}
-use Rattle.linear_law.proofs.Names.{each_get_or, each_itself}
+use Rattle.linear_law.{specs.Names.Among, proofs.Names.{each_get_or, each_itself}}
 use Rattle.may_elements.specs.Counted.{cut_off}
 use Rattle.term_total.specs.Names.{live_total, Counted}
 use Rattle.term_total.proofs.counts.CutCounts.found.Goals as goal

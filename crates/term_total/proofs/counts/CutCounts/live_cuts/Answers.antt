@@ -1,9 +1,6 @@
-use Rattle.std.proofs.Common.{◌≡◌, ◌∙◌}
-use Rattle.std.specs.Result.{is_ok}
+use Rattle.std.{proofs.Common.{◌≡◌, ◌∙◌}, specs.Result.is_ok}
 use Rattle.may_elements.specs.Counted.{cut_off}
-use Rattle.term_total.specs.Names.{live_total}
-use Rattle.term_total.proofs.CountLemmas.{count-is}
-use Rattle.term_total.proofs.ReadyLemmas.{counted-pushed}
+use Rattle.term_total.{specs.Names.live_total, proofs.CountLemmas.count-is, proofs.ReadyLemmas.counted-pushed}
 use Rattle.term_total.proofs.counts.CutCounts.live_cuts.Goals as goal
 
 pub invariant_of-self : goal.invariant_of-self
