@@ -5,7 +5,8 @@ usage: bench/bench.py PROGRAM [PRIME] [GROUP ..]
 
 PROGRAM is the built program (crates/comch/out/comch, after `rt run` in crates/comch), PRIME is 2, 3
 or 5 (default 2), and the groups are torus, random, dense, sphere, wide, strip and ground, which run
-`basis`; report, certify and bockstein, which run these commands; check, may and sample (default: all).
+`basis`; report, powers and squares, which run `report`; certify and bockstein, which run these commands;
+check, may and sample (default: all).
 
 Each input is made here, written to the program's standard input, and run RUNS times. One line is
 printed for each: simplices, bytes of input and of output, the least of the processor seconds, the
@@ -96,11 +97,13 @@ def repeated(facets, times, last=()):
     yield from last
 
 
-def example(name):
-    """The facets of a complex in examples/."""
+def example(name, block):
+    """The facets of this complex of a file in examples/."""
     path = os.path.join(os.path.dirname(os.path.dirname(os.path.abspath(__file__))), "examples", name)
-    with open(path) as lines:
-        return [tuple(map(int, line.split()[1:])) for line in lines if line.startswith("facet ")]
+    with open(path) as file:
+        _, _, rest = file.read().partition(f"complex {block}\n")
+    lines = rest.partition("\nend")[0].splitlines()
+    return [tuple(map(int, line.split()[1:])) for line in lines if line.startswith("facet ")]
 
 
 def text_of(prime, facets):
@@ -136,16 +139,24 @@ GROUPS = {
     ],
     "report": [
         *((f"torus {m}", lambda m=m: torus(m)) for m in (100, 500, 1000, 15000)),
-        ("k3 surface", lambda: example("k3_surface.txt")),
+        ("k3 surface", lambda: example("k3_surface.txt", "k3")),
         *((f"sphere {k - 2}", lambda k=k: sphere(k)) for k in (6, 7, 8, 9, 10)),
         ("triangles 160", lambda: some_triangles(160, 11776, 1)),
+    ],
+    "powers": [*((f"sphere {k - 2}", lambda k=k: sphere(k)) for k in (8, 9, 10, 11, 12)), ("torus 15000", lambda: torus(15000))],
+    "squares": [
+        ("complex plane", lambda: example("complex_plane_and_wedge.txt", "plane")),
+        ("its suspension", lambda: example("suspensions.txt", "plane")),
+        ("quaternionic", lambda: example("quaternionic_plane_and_wedge.txt", "plane")),
     ],
     "certify": [(f"torus {m}", lambda m=m: torus(m)) for m in (100, 500, 1000, 3000)],
     "bockstein": [(f"torus {m}", lambda m=m: torus(m)) for m in (100, 1000, 15000)],
 }
 
+REPORT = ["report", "--terms", "1000000000000"]
+
 # the words that a group is run with; the others run `basis`
-WORDS = {"report": ["report", "--terms", "1000000000000"], "certify": ["certify"], "bockstein": ["bockstein"]}
+WORDS = {"report": REPORT, "powers": REPORT, "squares": REPORT, "certify": ["certify"], "bockstein": ["bockstein"]}
 
 
 def peak_of(pid):
