@@ -1,9 +1,9 @@
 -- Lengths and equal neighbours, step by step; and that a list without a fault is a generator.
 use Rattle.std.{proofs.Common.{◌≡◌, ℕ, zero, suc, ◌+◌, ◌<◌, ◌≤◌, ◌==◌, ◌&&◌, true, false, List, [], ◌∷◌, length, take, drop, get_or, None, Some, is_some, refl, sym, ap, ◌∙◌, inl, inr, arith, subst, All, eq-eqb, eqb-true}, specs.Ordering.{eq_by_cmp, nat_cmp}, specs.Cmp.Lexicographic.slice_cmp, specs.Str.bytes_eq, proofs.Math.Seq.drop-cons, proofs.lemmas.Bool.{cases_Bool, cases_eq, eqb-false}, proofs.lemmas.List.Elements.{All-head, All-more, All-tail}, proofs.lemmas.Map.Text.is_eq-slice_cmp}
 use Rattle.signed_sum.specs.Names.{is_same_list}
-use Rattle.operad_law.specs.Permutations.{IsPerm}
-use Rattle.table_reduction_law.specs.Names.{IsPermutationOf, IsTuple, begins_with_entry, is_degenerate_tuple, is_zero_tuple, tuple_arity}
-use Rattle.barratt_eccles.specs.{ActionLaws.permutation, Generators.IsGenerator, Refusals.{equal_neighbours_from, other_length_from}}
+use Rattle.operad_law.{specs.Permutations.IsPerm, proofs.PermLemmas.permutation_of}
+use Rattle.table_reduction_law.specs.Names.{IsTuple, begins_with_entry, is_degenerate_tuple, is_zero_tuple, tuple_arity}
+use Rattle.barratt_eccles.specs.{Generators.IsGenerator, Refusals.{equal_neighbours_from, other_length_from}}
 
 pub rest : {X : Type 0} (w : List X) (i : ℕ) (x : X) → x ≡ get_or w i x → i < length w → drop i w ≡ x ∷ drop (suc i) w
 rest w i x e h = drop-cons w i x h ∙ ap (λ v. v ∷ drop (suc i) w) (sym e)
@@ -73,7 +73,7 @@ entries-tuple : (r from : ℕ) (w : List (List ℕ)) → other_length_from r fro
 entries-tuple r from [] e p = tt
 entries-tuple r from (x ∷ w) e p =
     let f = length-first r from x w e in
-    (subst (λ (n : ℕ). IsPermutationOf n x) f.0 (permutation x (All-head IsPerm x w p)), entries-tuple r (suc from) w f.1 (All-tail IsPerm x w p))
+    (permutation_of r x (All-head IsPerm x w p) f.0, entries-tuple r (suc from) w f.1 (All-tail IsPerm x w p))
 
 pub no_fault : (w : List (List ℕ)) → 1 ≤ length w → length w ≤ 201 → other_length_from (tuple_arity w) 0 w ≡ None → All IsPerm w → equal_neighbours_from 0 w ≡ None → IsGenerator w
 no_fault [] a b c p e = absurd (omega arith)

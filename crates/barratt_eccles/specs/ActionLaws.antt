@@ -1,16 +1,9 @@
 -- The laws of the action of permutations on tuples, which the impls cite.
 use Rattle.std.{proofs.Common.{◌≡◌, ℕ, zero, suc, ◌+◌, ◌-◌, ◌<◌, ◌≤◌, List, [], ◌∷◌, length, map, get_or, refl, sym, ap, ◌∙◌, inl, inr, arith, subst}, specs.Prelude.ℤ, proofs.lemmas.List.{length-map, map-id}, proofs.lemmas.Simd.map-map}
 use Rattle.signed_sum.{specs.Names.{numbers_from, occurs, entry_at, value_at}, proofs.Names.{occurs-01, occurs-self, range-out}}
-use Rattle.operad_law.{specs.Permutations.{IsPerm, composed, identity}, proofs.PermLemmas.{entry-identity, entry-map, perm-onto}}
-use Rattle.table_reduction_law.{proofs.FormalSums.{is_degenerate_tuple-map, tuple_action_law}, proofs.Permutations.{Within, perm-within, place, relabels, within-tail}, specs.Names.{IsPermutationOf, IsTuple, permuted_tuple, tuple_boundary, tuple_arity, tuple_degree}}
+use Rattle.operad_law.{specs.Permutations.{IsPerm, composed, identity}, proofs.PermLemmas.{entry-identity, entry-map, permutation_of}}
+use Rattle.table_reduction_law.{proofs.FormalSums.{is_degenerate_tuple-map, tuple_action_law}, proofs.Permutations.{Within, perm-within, place, relabels, within-tail}, specs.Names.{IsTuple, permuted_tuple, tuple_boundary, tuple_arity, tuple_degree}}
 use Rattle.barratt_eccles.specs.Generators.{IsGenerator}
-
-pub permutation : (w : List ℕ) → IsPerm w → IsPermutationOf (length w) w
-permutation w p = record { distinct = p.distinct; onto = perm-onto w p }
-
--- a permutation of as many numbers as the arity
-permutation_of : (t : List ℕ) (w : List (List ℕ)) → IsPerm t → length t ≡ tuple_arity w → IsPermutationOf (tuple_arity w) t
-permutation_of t w p l = subst (λ (n : ℕ). IsPermutationOf n t) l (permutation t p)
 
 pub act_arity : (t : List ℕ) (w : List (List ℕ)) → IsGenerator w → IsPerm t → length t ≡ tuple_arity w → tuple_arity (permuted_tuple t w) ≡ tuple_arity w
 act_arity t [] g p l = refl
@@ -21,7 +14,7 @@ act_degree t w g p l = ap (λ n. n - 1) (length-map w (λ x. map (entry_at t) x)
 
 pub act_valid : (t : List ℕ) (w : List (List ℕ)) → IsGenerator w → IsPerm t → length t ≡ tuple_arity w → IsGenerator (permuted_tuple t w)
 act_valid t w g p l =
-    let k = permutation_of t w p l in
+    let k = permutation_of (tuple_arity w) t p l in
     let e = act_arity t w g p l in
     let n : length (permuted_tuple t w) ≡ length w = length-map w (λ x. map (entry_at t) x) in
     record {
@@ -34,7 +27,7 @@ act_valid t w g p l =
     }
 
 pub boundary_act : (phi : List (List ℕ) → ℤ) (t : List ℕ) (w : List (List ℕ)) → IsGenerator w → IsPerm t → length t ≡ tuple_arity w → value_at phi (tuple_boundary (permuted_tuple t w)) ≡ value_at (λ v. phi (permuted_tuple t v)) (tuple_boundary w)
-boundary_act phi t w g p l = tuple_action_law.boundary (tuple_arity w) t w phi (permutation_of t w p l) g.entries
+boundary_act phi t w g p l = tuple_action_law.boundary (tuple_arity w) t w phi (permutation_of (tuple_arity w) t p l) g.entries
 
 -- ---- maps that agree on the numbers from 1 to r
 pub same-map : (r : ℕ) (f h : ℕ → ℕ) (u : List ℕ) → Within r u → ((v : ℕ) → 1 ≤ v → v ≤ r → f v ≡ h v) → map f u ≡ map h u

@@ -1,6 +1,6 @@
 -- The laws of the boundary of tuples, which the impls cite.
 use Rattle.std.{proofs.Common.{◌≡◌, ℕ, suc, ◌+◌, ◌≤◌, Bool, false, List, [], ◌∷◌, length, map, refl, sym, ap, ◌∙◌, inl, inr, arith, subst}, specs.Prelude.{ℤ, pos, neg_ℤ, nat_abs, All}, proofs.lemmas.Int.ints, proofs.lemmas.Bool.cases_Bool, proofs.lemmas.List.length-map, proofs.lemmas.List.Elements.{All-nil, All-cons, All-head, All-tail, All-map, All-weaker}}
-use Rattle.signed_sum.specs.Names.{alternating_terms_from, kept_terms, weight_of, without_each}
+use Rattle.signed_sum.{specs.Names.{alternating_terms_from, kept_terms, weight_of, without_each}, proofs.Names.All-kept_terms}
 use Rattle.table_reduction_law.{proofs.ReductionBoundary.permutation-length, specs.Names.{IsTuple, is_zero_tuple, tuple_boundary, tuple_arity, tuple_degree}}
 use Rattle.barratt_eccles.specs.Generators.{IsGenerator}
 
@@ -34,19 +34,16 @@ face_valid w (x ∷ v) g f z =
       e,
     )
 
--- what holds of the lists that count as no zero holds of the terms
-kept-all : {X : Type 0} (gone : X → Bool) (P Q : X → Type 0) → ((x : X) → P x → gone x ≡ false → Q x) → (c : ℤ) (xs : List X) → All P xs → All (λ (t : X × ℤ). Q t.0) (kept_terms gone (alternating_terms_from c xs))
-kept-all {X} gone P Q h c [] a = All-nil (λ (t : X × ℤ). Q t.0)
-kept-all {X} gone P Q h c (x ∷ xs) a =
-    let ih = kept-all gone P Q h (neg_ℤ c) xs (All-tail P x xs a) in
-    elim (cases_Bool (gone x)) [
-      | inl z ↦ rw z ih
-      | inr z ↦ rw z (All-cons (λ (t : X × ℤ). Q t.0) (x, c) (kept_terms gone (alternating_terms_from (neg_ℤ c) xs)) (h x (All-head P x xs a) z) ih)
-    ]
+alternating-all : {X : Type 0} (P : X → Type 0) (c : ℤ) (xs : List X) → All P xs → All (λ t. P t.0) (alternating_terms_from c xs)
+alternating-all P c [] a = All-nil (λ t. P t.0)
+alternating-all P c (x ∷ xs) a = All-cons (λ t. P t.0) (x, c) (alternating_terms_from (neg_ℤ c) xs) (All-head P x xs a) (alternating-all P (neg_ℤ c) xs (All-tail P x xs a))
 
 terms : (Q : List (List ℕ) → Type 0) (w : List (List ℕ)) → IsGenerator w →
     ((v : List (List ℕ)) → IsFace (tuple_arity w) w v → is_zero_tuple v ≡ false → Q v) → All (λ t. Q t.0) (tuple_boundary w)
-terms Q w g h = kept-all is_zero_tuple (IsFace (tuple_arity w) w) Q h (pos 1) (without_each w) (faces (tuple_arity w) w g.entries)
+terms Q w g h =
+    let P : List (List ℕ) → Type 0 = λ v. is_zero_tuple v ≡ false → Q v in
+    All-kept_terms is_zero_tuple Q (alternating_terms_from (pos 1) (without_each w))
+    (alternating-all P (pos 1) (without_each w) (All-weaker (IsFace (tuple_arity w) w) P h (without_each w) (faces (tuple_arity w) w g.entries)))
 
 pub boundary_valid : (w : List (List ℕ)) → IsGenerator w → All (λ t. IsGenerator t.0) (tuple_boundary w)
 boundary_valid w g = terms IsGenerator w g (λ v f z. (face_valid w v g f z).0)

@@ -1,6 +1,6 @@
 -- The laws of the composition of tuples, which the impl cites.
-use Rattle.std.{proofs.Common.{◌≡◌, ℕ, zero, suc, ◌+◌, ◌-◌, ◌<◌, ◌≤◌, Bool, false, List, [], ◌∷◌, length, map, get_or, refl, sym, ◌∙◌, inl, inr, arith, subst}, specs.Prelude.{ℤ, All}, proofs.lemmas.Bool.cases_Bool, proofs.lemmas.List.length-map, proofs.lemmas.List.Elements.{All-nil, All-cons, All-head, All-tail, All-weaker}}
-use Rattle.signed_sum.specs.Names.{kept_terms}
+use Rattle.std.{proofs.Common.{◌≡◌, ℕ, zero, suc, ◌+◌, ◌-◌, ◌<◌, ◌≤◌, Bool, false, List, [], ◌∷◌, length, map, get_or, refl, sym, ◌∙◌, inl, inr, arith, subst}, specs.Prelude.{ℤ, All}, proofs.lemmas.Bool.cases_Bool, proofs.lemmas.List.length-map, proofs.lemmas.List.Elements.{All-nil, All-cons, All-head, All-map, All-tail, All-weaker}}
+use Rattle.signed_sum.proofs.Names.{All-kept_terms}
 use Rattle.table_reduction_law.{proofs.ReductionBoundary.permutation-length, specs.Names.{IsPermutationOf, IsTuple, is_degenerate_tuple, tuple_arity, tuple_degree}}
 use Rattle.barratt_eccles.specs.{Generators.IsGenerator, InsertedLaws.inserted-permutation}
 use Rattle.composition_law.{proofs.Paths.each-path, specs.Tuples.{IsWithinLimits, Step, inserted, lattice_paths, path_sign, points_from, step_x, step_y, tuple_along, tuple_composition}}
@@ -64,19 +64,13 @@ arity-of r [] t h = absurd (omega arith)
 arity-of r (x ∷ w) t h = permutation-length r x t.0
 
 -- ---- the terms
-term-all : {X S : Type 0} (gone : X → Bool) (P : S → Type 0) (Q : X → Type 0) (f : S → X) (g : S → ℤ) → ((s : S) → P s → gone (f s) ≡ false → Q (f s)) → (ss : List S) → All P ss → All (λ (t : X × ℤ). Q t.0) (kept_terms gone (map (λ s. (f s, g s)) ss))
-term-all {X} {S} gone P Q f g h [] a = All-nil (λ (t : X × ℤ). Q t.0)
-term-all {X} {S} gone P Q f g h (s ∷ ss) a =
-    let ih = term-all gone P Q f g h ss (All-tail P s ss a) in
-    elim (cases_Bool (gone (f s))) [
-      | inl z ↦ rw z ih
-      | inr z ↦ rw z (All-cons (λ (t : X × ℤ). Q t.0) (f s, g s) (kept_terms gone (map (λ s. (f s, g s)) ss)) (h s (All-head P s ss a) z) ih)
-    ]
-
 terms : (k : ℕ) (w v : List (List ℕ)) (Q : List (List ℕ) → Type 0) → ((s : List Step) → IsPath (tuple_degree w) (tuple_degree v) s → is_degenerate_tuple (tuple_along k w v s) ≡ false → Q (tuple_along k w v s)) → All (λ t. Q t.0) (tuple_composition k w v)
 terms k w v Q h =
-    term-all is_degenerate_tuple (IsPath (tuple_degree w) (tuple_degree v)) Q (tuple_along k w v) (path_sign (tuple_degree w) (tuple_degree v)) h
-    (lattice_paths (tuple_degree w) (tuple_degree v)) (are-paths (tuple_degree w) (tuple_degree v))
+    let f : List Step → List (List ℕ) × ℤ = λ s. (tuple_along k w v s, path_sign (tuple_degree w) (tuple_degree v) s) in
+    let paths = lattice_paths (tuple_degree w) (tuple_degree v) in
+    All-kept_terms is_degenerate_tuple Q (map f paths)
+    (All-map (λ t. is_degenerate_tuple t.0 ≡ false → Q t.0) f paths
+    (All-weaker (IsPath (tuple_degree w) (tuple_degree v)) (λ s. is_degenerate_tuple (tuple_along k w v s) ≡ false → Q (tuple_along k w v s)) h paths (are-paths (tuple_degree w) (tuple_degree v))))
 
 compose : (k : ℕ) (w v : List (List ℕ)) → IsGenerator w → IsGenerator v → 1 ≤ k → k ≤ tuple_arity w → IsWithinLimits w v → Compose k w v
 compose k w v g h a b l = record { outer = g; inner = h; place = a; within = b; limits = l }

@@ -1,7 +1,6 @@
 -- A permutation in the place of a value of another is a permutation.
 use Rattle.std.{proofs.Common.{◌≡◌, ℕ, ◌+◌, ◌-◌, ◌<◌, ◌≤◌, ◌≢◌, ◌⊎◌, cond, List, [], ◌∷◌, ◌++◌, length, map, refl, sym, ap, ◌∙◌, inl, inr, arith}, specs.Prelude.{flat_map, nat_lt}, proofs.lemmas.Bool.{cases_Bool, cases_eq, eq-eqb, ne_eqb}, proofs.lemmas.Bool.Decides.nat_tests}
 use Rattle.signed_sum.{specs.Names.{IsDistinct, numbers_from, occurs}, proofs.Names.{occurs-01, occurs-later, occurs-more, occurs-none, occurs-range, occurs-self, occurs-tail, range-in, range-out}}
-use Rattle.operad_law.proofs.PermLemmas.{IsDistinct-map}
 use Rattle.table_reduction_law.{proofs.Permutations.map-in, proofs.ReductionBoundary.permutation-length, specs.Names.IsPermutationOf}
 use Rattle.composition_law.specs.Tuples.{inserted, replaced}
 
@@ -47,6 +46,14 @@ module _ (f : ℕ → List ℕ) where
             let same : q.0 ≡ y = sym (s q.0 z (occurs-tail q.0 y w q.1) q.2) ∙ s y z (occurs-self y w) o in
             absurd (let k : occurs y w ≡ 1 = ap (λ v. occurs v w) (sym same) ∙ q.1 in let n = d.0 in omega arith)
       ]
+
+occurs-shift : (c z : ℕ) (v : List ℕ) → occurs (z + c) (map (λ y. y + c) v) ≡ occurs z v
+occurs-shift c z [] = refl
+occurs-shift c z (y ∷ v) = grind (arith, nat_tests, occurs-shift c z v)
+
+distinct-shift : (c : ℕ) (v : List ℕ) → IsDistinct v → IsDistinct (map (λ y. y + c) v)
+distinct-shift c [] d = tt
+distinct-shift c (y ∷ v) d = (occurs-shift c y v ∙ d.0, distinct-shift c v d.1)
 
 -- ---- what stands for a value
 replaced-here : (k : ℕ) (v : List ℕ) (x : ℕ) → x ≡ k → replaced k v x ≡ map (λ y. y + (k - 1)) v
@@ -118,7 +125,7 @@ module _ (k r s : ℕ) (w v : List ℕ) (a : 1 ≤ k) (b : k ≤ r) (p : 1 ≤ s
 
   has-inner : (x : ℕ) → occurs x w ≡ 1 → IsDistinct (replaced k v x)
   has-inner x o = elim (one-apart x k) [
-    | inl e ↦ rw (replaced-here k v x e) (IsDistinct-map (λ y. y + (k - 1)) v pv.distinct (λ y z i j q. omega arith))
+    | inl e ↦ rw (replaced-here k v x e) (distinct-shift (k - 1) v pv.distinct)
     | inr n ↦ elim n [ inl h ↦ rw (replaced-below k v x h) (refl, tt) | inr h ↦ rw (replaced-above k v x h) (refl, tt) ]
   ]
 

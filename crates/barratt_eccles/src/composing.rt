@@ -126,6 +126,7 @@ fn with_sign(changes: usize, sign: i64) -> i64
 }
 
 // The outer permutation with the inner one in the place of its value k.
+#[tactic(auto, using(operad_law::proofs::PermLemmas::perm_values))]
 fn composed_entry(alloc: Global, outer: &Perm, k: u8, inner: &Perm) -> Result<Perm, AllocError>
     requires some { 1 ≤ k }
     requires within { k ≤ length outer.now }

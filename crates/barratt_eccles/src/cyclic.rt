@@ -1,5 +1,7 @@
 //! The turn of tuples: the cycle acts.
-ghost use Rattle.barratt_eccles.specs.{Generators.turned_tuple, CycleLaws.{has_arity, boundary_fits as boundary_fits_law, boundary_turn as boundary_turn_law, turn_degree as turn_degree_law, turn_fits as turn_fits_law, turn_sign as turn_sign_law, turn_valid as turn_valid_law, turned_round as turned_round_law}};
+ghost use Rattle.std.specs.Prelude.{◌==◌};
+ghost use Rattle.table_reduction_law.specs.Names.{tuple_arity};
+ghost use Rattle.barratt_eccles.specs.{Generators.turned_tuple, CycleLaws.{boundary_fits as boundary_fits_law, boundary_turn as boundary_turn_law, turn_degree as turn_degree_law, turn_fits as turn_fits_law, turn_sign as turn_sign_law, turn_valid as turn_valid_law, turned_round as turned_round_law}};
 
 use crate::symmetric::permuted_entries;
 use crate::tuple::Tuple;
@@ -9,7 +11,7 @@ use operad_law::symmetric::Symmetric;
 use std::alloc::{AllocError, Global};
 
 impl<const P: u32> CyclicModel<P> for Tuple {
-    ghost fits = { has_arity P };
+    ghost fits = { λ w. tuple_arity w == P };
 
     ghost turn = { turned_tuple P };
 

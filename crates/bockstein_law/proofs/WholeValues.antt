@@ -1,12 +1,13 @@
 -- The coboundary of the value of a May element on p times one cochain, with whole values.
 use Rattle.std.proofs.{Common.{◌≡◌, ℕ, zero, suc, ◌*◌, ◌%◌, ◌≤◌, false, Bool, List, [], ◌∷◌, ◌++◌, map, length, refl, sym, ◌∙◌, ap, arith, ℤ, pos, ◌+ℤ◌, ◌*ℤ◌, neg_ℤ}, Math.IntN.{*ℤ-zero, suc_ℤ-*ℤ, zero-*ℤ}, lemmas.Int.ints}
 use Rattle.interval_cut_law.{proofs.CochainLaws.cut_sum-sum, specs.Names.{cut_sum, one_coboundary, operation_value, value_product}}
-use Rattle.signed_sum.{proofs.Names.{mul-add, mul-neg, mul_assoc, signed-mul, signed-parity, bound-false, value_at-sum}, specs.Names.{signed, word_boundary, cycle, turned}}
+use Rattle.signed_sum.{proofs.Names.{mul-add, mul-neg, mul_assoc, signed-mul, signed-parity, bound-false, value_at-sum}, specs.Names.{signed, value_at, word_boundary, cycle, power_sum, turned}}
 use Rattle.linear_law.proofs.Names.{length-copies}
 use Rattle.simplicial_law.{proofs.Names.CongruentInt_of, specs.Names.{CongruentInt, integral_coboundary}}
-use Rattle.steenrod_law.{proofs.AdditiveMaps.{adds-over, adds-scale}, proofs.CycleFaces.onto-cycle, proofs.Forms.{IsCochain, IsFaceClosed, IsMayFamily, IsWeakFace, SurjectionTerm, boundary_over, operation_of, turned_total, value_over}, proofs.Staircase.{copies-end, degree-copies, even-times}, proofs.ValuesOnFaces.{at-mid, value-at}, proofs.WordBoundary.{letters-first, letters-normalized, some, sum-law}, proofs.WordCochains.{degrees-letters, over-equal, over-sum, word-cycle}, specs.Names.{sum_value, word_cochains, copies, letter_degree, boundary_value}}
+use Rattle.steenrod_law.{proofs.AdditiveMaps.{adds-over, adds-scale}, proofs.Forms.{IsCochain, IsFaceClosed, IsMayFamily, IsWeakFace, SurjectionTerm, boundary_over, operation_of, value_over}, proofs.Staircase.{copies-end, degree-copies, even-times}, proofs.ValuesOnFaces.{at-mid, value-at}, proofs.WordBoundary.{letters-first, letters-normalized, some, sum-law}, proofs.WordCochains.{degrees-letters, over-equal, over-sum, word-cycle}, specs.Names.{sum_value, word_cochains, copies, letter_degree, boundary_value}}
 use Rattle.bockstein_law.proofs.Quotients.{mul_swap}
 use Rattle.surjection_law.specs.Names.{IsOnto}
+use Rattle.table_reduction_law.{proofs.Permutations.{onto-turned, turned-at}, specs.Names.turned_values}
 
 over-scale : (x : List SurjectionTerm) (c : ℤ) (h : List ℕ → ℤ) → value_over x (λ u. c *ℤ h u) ≡ c *ℤ value_over x h
 over-scale x c h = adds-scale (value_over x) (over-sum x) c h
@@ -61,23 +62,23 @@ module _ (K : List ℕ → Type 0) (fc : IsFaceClosed K) (k q : ℕ) (x : ℕ �
       ∙ (λ i. signed (q * degree-copies (letter_degree q) k false i) (v (copies-end k false i)))
       ∙ signed-parity (q * (k * q)) 0 (here u) (let g : q * (k * q) ≡ (q * q) * k = omega arith in omega (arith, m, g))
 
-  turned-onto : (j : ℕ) (u : List ℕ) → IsOnto p u → IsOnto p (turned p j u)
-  turned-onto zero u o = o
-  turned-onto (suc j) u o = onto-cycle p (turned p j u) pos_p (turned-onto j u o)
-
   here-turned : (j : ℕ) (u : List ℕ) → IsOnto p u → here (turned p j u) ≡ here u
   here-turned zero u o = refl
-  here-turned (suc j) u o = here-cycle (turned p j u) (turned-onto j u o) ∙ here-turned j u o
+  here-turned (suc j) u o = here-cycle (turned p j u) (onto-turned p j u o) ∙ here-turned j u o
 
-  here-total : (j : ℕ) (u : List ℕ) → IsOnto p u → turned_total p j here u ≡ pos j *ℤ here u
+  here-total : (j : ℕ) (u : List ℕ) → IsOnto p u → value_at here (power_sum (turned_values p) j u) ≡ pos j *ℤ here u
   here-total zero u o = sym (zero-*ℤ (here u))
-  here-total (suc j) u o = (λ i. here-total j u o i +ℤ here-turned j u o i) ∙ sym (suc_ℤ-*ℤ (pos j) (here u))
+  here-total (suc j) u o =
+      let a = here-total j u o in
+      let b = turned-at p j here u ∙ here-turned j u o in
+      let c = suc_ℤ-*ℤ (pos j) (here u) in
+      omega (arith, ints)
 
   -- the boundary of x_(e + 1), for odd e
   boundary-here : (e : ℕ) → e % 2 ≡ 1 → boundary_over (x (suc e)) here ≡ pos p *ℤ value_over (x e) here
   boundary-here e o =
       may.odd e o here
-      ∙ over-equal p e (x e) (turned_total p p here) (λ u. pos p *ℤ here u) (may.terms e) (λ u on c. here-total p u on)
+      ∙ over-equal p e (x e) (λ u. value_at here (power_sum (turned_values p) p u)) (λ u. pos p *ℤ here u) (may.terms e) (λ u on c. here-total p u on)
       ∙ over-scale (x e) (pos p) here
 
   -- where the coboundary of a is p times b, that of the value of x_(e + 1) on p times a is p times this

@@ -4,11 +4,11 @@ use Rattle.signed_sum.specs.Names.{occurs, signed, count_before, inversion_count
 use Rattle.operad_law.specs.Parity.{is_odd}
 
 -- whether some entry is v
-pub any-occurs : (v : ℕ) (xs : List ℕ) → list_any (λ y. y == v) xs ≡ (occurs v xs == 1)
-any-occurs v [] = refl
-any-occurs v (y ∷ xs) = elim (cases_eq v y) [
+pub any_occurs : (v : ℕ) (xs : List ℕ) → list_any (λ y. y == v) xs ≡ (occurs v xs == 1)
+any_occurs v [] = refl
+any_occurs v (y ∷ xs) = elim (cases_eq v y) [
   | inl e ↦ rw (eq-eqb v y e, eq-eqb y v (sym e)) refl
-  | inr n ↦ rw (ne_eqb v y n, ne_eqb y v (λ e. n (sym e))) (any-occurs v xs)
+  | inr n ↦ rw (ne_eqb v y n, ne_eqb y v (λ e. n (sym e))) (any_occurs v xs)
 ]
 
 -- ---- the first place at which a test holds

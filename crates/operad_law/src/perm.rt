@@ -1,5 +1,5 @@
 //! Permutations of the numbers from 1 on.
-ghost use Rattle.std.specs.Prelude.{◌≡◌, ◌↔◌, ◌≤◌, ◌<◌, ◌==◌, ℕ, IfOk, Some, Err, length};
+ghost use Rattle.std.specs.Prelude.{◌≡◌, ◌↔◌, ◌≤◌, ◌<◌, ◌==◌, ℕ, All, IfOk, Some, Err, length};
 ghost use Rattle.std.proofs.Common.{rules};
 ghost use Rattle.std.specs.Cmp.{partial_order_from_own_ties};
 ghost use Rattle.std.specs.Cmp.Rules.{comparing};
@@ -151,8 +151,8 @@ impl Perm {
     }
 }
 
-// Whether a value is in a list.
-fn stands_in(values: &[u8], value: u8) -> bool
+/// Whether a value is in a list.
+pub fn stands_in(values: &[u8], value: u8) -> bool
     ensures { result ≡ (occurs value values.now == 1) }
 {
     values.contains(&value)
@@ -187,11 +187,9 @@ fn shifted_numbers(alloc: Global, r: u8, by: u8) -> Result<SmallVec<u8, 8>, Allo
     Ok(values)
 }
 
-// The values of the one permutation at those of the other.
+// The values of the one list at the places of the other.
 fn values_at(alloc: Global, outer: &[u8], inner: &[u8]) -> Result<SmallVec<u8, 8>, AllocError>
-    requires outer { IsPerm outer.now }
-    requires inner { IsPerm inner.now }
-    requires same { length outer.now ≡ length inner.now }
+    requires { All (λ v. (1 ≤ v) × (v ≤ length outer.now)) inner.now }
     ensures { IfOk result (λ values. values.items ≡ composed outer.now inner.now) }
 {
     let mut values = SmallVec::new(alloc);

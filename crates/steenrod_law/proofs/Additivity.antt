@@ -1,10 +1,10 @@
 -- D is additive up to the coboundary of a sum over orbits.
-use Rattle.std.proofs.{Common.{◌≡◌, ℕ, zero, suc, ◌-◌, ◌*◌, ◌%◌, ◌≤◌, true, false, Bool, List, [], ◌∷◌, ◌++◌, map, length, refl, sym, ◌∙◌, ap, arith, ◌⊎◌, ℤ, pos, ◌+ℤ◌, ◌*ℤ◌, neg_ℤ}, lemmas.Int.ints}
+use Rattle.std.proofs.{Common.{◌≡◌, ℕ, zero, suc, ◌-◌, ◌*◌, ◌%◌, ◌≤◌, true, false, Bool, List, [], ◌∷◌, ◌++◌, map, length, refl, sym, ◌∙◌, ap, arith, ◌⊎◌, ℤ, pos, ◌+ℤ◌, ◌*ℤ◌, neg_ℤ}, Math.IntN.*ℤ-zero, lemmas.Int.ints}
 use Rattle.interval_cut_law.{proofs.CochainLaws.cut_sum-sum, specs.Names.{cut_sum, operation_value, value_product}}
-use Rattle.signed_sum.{proofs.Names.{add-mul, neg-mul}, specs.Names.{unless_empty, signed, without_one}}
+use Rattle.signed_sum.{proofs.Names.{add-mul, mul-add, mul_assoc, value_at-append}, specs.Names.{difference as turn_difference, unless_empty, signed, value_at, without_one}}
 use Rattle.simplicial_law.{proofs.Names.{CongruentInt-neg, CongruentInt-signed, CongruentInt-sum, CongruentInt_from, CongruentInt_of, CongruentInt_refl, CongruentInt_sym, CongruentInt_trans}, specs.Names.{CongruentInt, HasDegree, integral_coboundary}}
-use Rattle.steenrod_law.{proofs.AdditiveMaps.{adds-coboundary, adds-neg, adds-over, adds-scale, adds-signed, adds-zero}, proofs.Binomials.{difference, difference-prime}, proofs.ClosedValues.closed-law, proofs.Degrees.{degree-even, of-power}, proofs.Forms.{AreTerms, IsFaceClosed, IsIntegralCocycle, IsMayFamily, IsPrime, IsWeakFace, SurjectionTerm, boundary_over, drop, none, operation_of, take, value_over, word_sum}, proofs.Staircase.{Alike, back-alike, minus-alike, norms-alike, sign-turn}, proofs.WordBoundary.{letters-copies, letters-first, relation}, proofs.WordCochains.{over-same, over-sum, word-cycle}, proofs.WordLemmas.{back-sum, minus-sum, norm-sum_below, power-back}, specs.Names.{cycle_less_one_power, opposite_sum, orbit_sum, sum_above, sum_value, turned_sum, word_cochains, HaveLength, IsOrbitTable, all_words, choice, copies, norm, step, turn_back, turn_back_less_one, turn_back_power, word_degree}}
-use Rattle.table_reduction_law.specs.Names.{cycle}
+use Rattle.steenrod_law.{proofs.AdditiveMaps.{adds-coboundary, adds-neg, adds-over, adds-scale, adds-signed, adds-zero}, proofs.Binomials.{difference, difference-prime}, proofs.ClosedValues.closed-law, proofs.Degrees.{degree-even, of-power}, proofs.Forms.{AreTerms, IsFaceClosed, IsIntegralCocycle, IsMayFamily, IsPrime, IsWeakFace, SurjectionTerm, boundary_over, drop, none, operation_of, take, value_over, word_sum}, proofs.Staircase.{Alike, back-alike, minus-alike, norms-alike, sign-turn}, proofs.WordBoundary.{letters-copies, letters-first, relation, sum-turned}, proofs.WordCochains.over-sum, proofs.WordLemmas.{minus-sum, norm-sum_below, power-back}, specs.Names.{applied, cycle_less_one_power, orbit_sum, sum_above, sum_value, word_cochains, HaveLength, IsOrbitTable, all_words, choice, copies, norm, step, turn_back, turn_back_less_one, turn_back_power, word_degree}}
+use Rattle.table_reduction_law.specs.Names.{turned_values}
 
 -- powers of T on words
 
@@ -48,17 +48,17 @@ module _ (deg : Bool → ℕ) where
 
 -- powers of T on sums of surjections
 
-over-append : (x y : List SurjectionTerm) (h : List ℕ → ℤ) → value_over (x ++ y) h ≡ value_over x h +ℤ value_over y h
-over-append [] y h = omega (arith, ints)
-over-append (t ∷ x) y h = let a = over-append x y h in omega (arith, ints)
+over-scaled : (c : ℤ) (x : List SurjectionTerm) (h : List ℕ → ℤ) → value_over (map (λ t. (t.0, c *ℤ t.1)) x) h ≡ c *ℤ value_over x h
+over-scaled c [] h = sym (*ℤ-zero c)
+over-scaled c (t ∷ x) h =
+    let a = over-scaled c x h in
+    let b = mul_assoc c t.1 (h t.0) in
+    let d = mul-add c (t.1 *ℤ h t.0) (value_over x h) in
+    omega (arith, ints)
 
-over-turned : (p : ℕ) (x : List SurjectionTerm) (h : List ℕ → ℤ) → value_over (turned_sum p x) h ≡ value_over x (λ u. h (map (cycle p) u))
-over-turned p [] h = refl
-over-turned p (t ∷ x) h = ap (λ z. (t.1 *ℤ h (map (cycle p) t.0)) +ℤ z) (over-turned p x h)
-
-over-opposite : (x : List SurjectionTerm) (h : List ℕ → ℤ) → value_over (opposite_sum x) h ≡ neg_ℤ (value_over x h)
-over-opposite [] h = refl
-over-opposite (t ∷ x) h = let a = over-opposite x h in let b = neg-mul t.1 (h t.0) in omega (arith, ints)
+over-applied : (f : List ℕ → List SurjectionTerm) (x : List SurjectionTerm) (h : List ℕ → ℤ) → value_over (applied f x) h ≡ value_over x (λ u. value_at h (f u))
+over-applied f [] h = refl
+over-applied f (t ∷ x) h = value_at-append h (map (λ s. (s.0, t.1 *ℤ s.1)) (f t.0)) (applied f x) ∙ (λ i. over-scaled t.1 (f t.0) h i +ℤ over-applied f x h i)
 
 -- T on the sum is T on the words
 power-words : (p : ℕ) (deg : Bool → ℕ) (a b : List ℕ → ℤ) → HasDegree (deg false) a → HasDegree (deg true) b → (t : List ℕ) → 1 ≤ p → (m : ℕ) (x : List SurjectionTerm) → AreTerms p m x → (k : ℕ) →
@@ -66,18 +66,9 @@ power-words : (p : ℕ) (deg : Bool → ℕ) (a b : List ℕ → ℤ) → HasDeg
 power-words p deg a b da db t le m x o zero w e = CongruentInt_refl (sum_value p x (word_cochains a b w) t)
 power-words p deg a b da db t le m x o (suc k) w e =
     let y : List SurjectionTerm = cycle_less_one_power p k x in
-    let h : List ℕ → ℤ = λ u. operation_value p u (word_cochains a b w) t in
-    let g : List ℕ → ℤ = λ u. turn_back deg (λ v. operation_value p u (word_cochains a b v) t) w in
-    let f : List Bool → ℤ = λ v. sum_value p y (word_cochains a b v) t in
-    let one : CongruentInt p (value_over y (λ u. h (map (cycle p) u))) (value_over y g) =
-    over-same p m y (λ u. h (map (cycle p) u)) g (of-power p m k x le o) (λ u q c. CongruentInt_of (word-cycle p deg a b da db t le u w q e)) in
     CongruentInt_trans
-    (CongruentInt_trans
-    (CongruentInt_of (over-append (turned_sum p y) (opposite_sum y) h ∙ (λ i. over-turned p y h i +ℤ over-opposite y h i)))
-    (CongruentInt-sum one (CongruentInt_refl (neg_ℤ (value_over y h)))))
-    (CongruentInt_trans
-    (CongruentInt_of (ap (λ z. z +ℤ neg_ℤ (value_over y h)) (sym (adds-over (λ q. turn_back deg q w) (λ q1 q2. back-sum deg q1 q2 w) y (λ u v. operation_value p u (word_cochains a b v) t)))))
-    (minus-alike p deg p f (t_words deg k (λ v. sum_value p x (word_cochains a b v) t)) (power-words p deg a b da db t le m x o k) w e))
+    (CongruentInt_of (over-applied (turn_difference (turned_values p)) y (λ u. operation_value p u (word_cochains a b w) t) ∙ sum-turned p deg a b da db t le m y (of-power p m k x le o) w e))
+    (minus-alike p deg p (λ v. sum_value p y (word_cochains a b v) t) (t_words deg k (λ v. sum_value p x (word_cochains a b v) t)) (power-words p deg a b da db t le m x o k) w e)
 
 -- coboundaries modulo p
 

@@ -1,17 +1,11 @@
 -- The permutation law at the cycle: the last face goes to the front.
-use Rattle.std.proofs.{Common.{◌≡◌, ℕ, zero, suc, ◌+◌, ◌*◌, ◌≤◌, cond, List, [], ◌∷◌, ◌++◌, map, length, refl, sym, ◌∙◌, ap, arith, append_assoc, length-append, ◌⊎◌, inl, inr, eq-eqb, ℤ, pos, ◌*ℤ◌, ne_eqb, pred}, Math.IntN.{zero-*ℤ, *ℤ-zero, *ℤ_comm}, lemmas.List.length-map}
+use Rattle.std.proofs.{Common.{◌≡◌, ℕ, zero, suc, ◌+◌, ◌*◌, ◌≤◌, cond, List, [], ◌∷◌, ◌++◌, map, length, refl, sym, ◌∙◌, ap, arith, append_assoc, length-append, ◌⊎◌, inl, inr, ℤ, pos, ◌*ℤ◌, ne_eqb, pred}, Math.IntN.{zero-*ℤ, *ℤ-zero, *ℤ_comm}, lemmas.List.length-map}
 use native.Mathlib.Decide.{ℕ_discrete}
 use Rattle.interval_cut_law.{proofs.CochainLaws.cut_sum-signed, proofs.Relabellings.relabelling_law, specs.Names.{cut_faces, cut_sum, cuts, sign_exponent, vertex_at, operation_value, value_product, degrees_passed, exchange_exponent, face_at, relabelled_faces}}
 use Rattle.signed_sum.{proofs.Names.{less-no, occurs-01, mul_assoc, signed-zero, less-yes, length-numbers_from}, specs.Names.{less, numbers_from, occurs, signed, total}}
 use Rattle.simplicial_law.specs.Names.{HasDegree, HaveDegrees, degree}
 use Rattle.surjection_law.specs.Names.{IsOnto, IsRelabelling}
-use Rattle.table_reduction_law.{proofs.Permutations.{moves-cycle, onto-moved, uncycle}, specs.Names.cycle}
-
-cycle-last : (p : ℕ) → cycle p p ≡ 1
-cycle-last p = ap (λ t. cond t 1 (suc p)) (eq-eqb p p refl)
-
-cycle-other : (p v : ℕ) → (v ≡ p → ⊥) → cycle p v ≡ suc v
-cycle-other p v n = ap (λ t. cond t 1 (suc v)) (ne_eqb v p n)
+use Rattle.table_reduction_law.{proofs.Permutations.{cycle-last, cycle-other, moves-cycle, onto-moved, uncycle}, specs.Names.cycle}
 
 uncycle-first : (p : ℕ) → uncycle p 1 ≡ p
 uncycle-first p = refl

@@ -1,12 +1,12 @@
 -- The degrees of D and of the primitives.
 use Rattle.std.proofs.{Common.{◌≡◌, ℕ, zero, suc, ◌+◌, ◌-◌, ◌*◌, ◌%◌, ◌≤◌, true, false, Bool, cond, ◌==◌, List, [], ◌∷◌, ◌++◌, map, length, refl, sym, ◌∙◌, ap, arith, inl, inr, length-append, eq-eqb, ℤ, pos, ne_eqb}, Math.IntN.*ℤ-zero, lemmas.Int.ints, lemmas.Bool.Decides.eqb_tells, lemmas.List.length-map}
 use Rattle.interval_cut_law.{proofs.BoundaryLaws.{degeneracy_law, product_normalized}, proofs.CutsAsWalks.cut_sum-walk_sum, proofs.FaceBoundary.more, proofs.WalkBoundary.occurs-cell_values, proofs.WalkSums.IsWalk, proofs.Walks.{Cell, cell_value, cell_values, cell_vertex, edge, edge_count, ends, next, walk_exponent, walk_face, walk_faces, walk_sum, walk_term}, specs.Names.{operation_value, value_product}}
-use Rattle.signed_sum.{proofs.Names.{numbers_from-distinct, occurs-later, occurs-mid, occurs-self, one_if, signed-zero, degree-append}, specs.Names.{IsDistinct, is_degenerate, numbers_from, occurs, signed}}
+use Rattle.signed_sum.{proofs.Names.{numbers_from-distinct, occurs-later, occurs-mid, occurs-self, one_if, signed-zero, degree-append}, specs.Names.{IsDistinct, difference, is_degenerate, numbers_from, occurs, signed}}
 use Rattle.simplicial_law.{proofs.Names.{CongruentInt-signed, CongruentInt_of}, specs.Names.{HaveDegrees, integral_coboundary}}
 use Rattle.linear_law.proofs.Names.{length-copies}
-use Rattle.steenrod_law.{proofs.AdditiveMaps.adds-zero, proofs.CycleFaces.{counts, degrees-or-zero, onto-cycle, sum_of}, proofs.Forms.{AreTerms, HasDegreeBelow, IsCochain, IsMayFamily, IsPrime, SurjectionTerm, operation_of, value_over, word_sum}, proofs.Staircase.{AlikeOn, degree-copies, steps-alike}, proofs.WordBoundary.{letters-copies, letters-normalized, some}, proofs.WordCochains.{coboundary-cochain, degree-sum, degrees-letters, over-equal, over-sum}, proofs.WordLemmas.step-sum, specs.Names.{cycle_less_one_power, opposite_sum, orbit_sum, staircase_sum, sum_above, sum_to, sum_value, turned_sum, word_cochains, HaveLength, IsOrbitTable, choice, contraction, copies, letter_degree, staircase, step, turn_back, word_degree}}
+use Rattle.steenrod_law.{proofs.AdditiveMaps.adds-zero, proofs.CycleFaces.{counts, degrees-or-zero, onto-cycle, sum_of}, proofs.Forms.{AreTerms, HasDegreeBelow, IsCochain, IsMayFamily, IsPrime, SurjectionTerm, operation_of, value_over, word_sum}, proofs.Staircase.{AlikeOn, degree-copies, steps-alike}, proofs.WordBoundary.{letters-copies, letters-normalized, some}, proofs.WordCochains.{coboundary-cochain, degree-sum, degrees-letters, over-equal, over-sum}, proofs.WordLemmas.step-sum, specs.Names.{applied, cycle_less_one_power, orbit_sum, staircase_sum, sum_above, sum_to, sum_value, word_cochains, HaveLength, IsOrbitTable, choice, contraction, copies, letter_degree, staircase, step, turn_back, word_degree}}
 use Rattle.surjection_law.{proofs.Caesuras.caesura_law, specs.Names.{caesura_count, IsOnto}}
-use Rattle.table_reduction_law.specs.Names.{cycle}
+use Rattle.table_reduction_law.specs.Names.{cycle, turned_values}
 
 -- the places of faces, counted
 
@@ -103,29 +103,19 @@ module _ (p m : ℕ) (deg : Bool → ℕ) (x : List SurjectionTerm) (k : AreTerm
 
 -- T keeps the degree
 
-pub of-append : (p m : ℕ) (x y : List SurjectionTerm) → AreTerms p m x → AreTerms p m y → AreTerms p m (x ++ y)
-of-append p m [] y k j = j
-of-append p m (t ∷ x) y k j = (k.0, k.1, of-append p m x y k.2 j)
-
-of-turned : (p m : ℕ) (x : List SurjectionTerm) → 1 ≤ p → AreTerms p m x → AreTerms p m (turned_sum p x)
-of-turned p m [] le k = tt
-of-turned p m (t ∷ x) le k =
+of-difference : (p m : ℕ) (x : List SurjectionTerm) → 1 ≤ p → AreTerms p m x → AreTerms p m (applied (difference (turned_values p)) x)
+of-difference p m [] le k = tt
+of-difference p m (t ∷ x) le k =
     let o = onto-cycle p t.0 le k.0 in
     let a = caesura_law.places p t.0 k.0 in
     let b = caesura_law.places p (map (cycle p) t.0) o in
     let c = length-map t.0 (cycle p) in
     let e = k.1 in
-    (o, omega arith, of-turned p m x le k.2)
-
-of-opposite : (p m : ℕ) (x : List SurjectionTerm) → AreTerms p m x → AreTerms p m (opposite_sum x)
-of-opposite p m [] k = tt
-of-opposite p m (t ∷ x) k = (k.0, k.1, of-opposite p m x k.2)
+    (o, omega arith, (k.0, k.1, of-difference p m x le k.2))
 
 pub of-power : (p m k : ℕ) (x : List SurjectionTerm) → 1 ≤ p → AreTerms p m x → AreTerms p m (cycle_less_one_power p k x)
 of-power p m zero x le o = o
-of-power p m (suc k) x le o =
-    let r = of-power p m k x le o in
-    of-append p m (turned_sum p (cycle_less_one_power p k x)) (opposite_sum (cycle_less_one_power p k x)) (of-turned p m (cycle_less_one_power p k x) le r) (of-opposite p m (cycle_less_one_power p k x) r)
+of-power p m (suc k) x le o = of-difference p m (cycle_less_one_power p k x) le (of-power p m k x le o)
 
 pub of-upper : (p d : ℕ) (x : ℕ → List SurjectionTerm) → 1 ≤ p → IsMayFamily p x → AreTerms p (suc d) (sum_above p d x)
 of-upper p d x le may = go (d % 2)

@@ -1,10 +1,11 @@
 -- Cochains with whole values on the simplices that a test K tells, and classes of them: forms for proofs.
-use Rattle.std.proofs.Common.{Bool, ◌≡◌, ℕ, zero, suc, ◌+◌, ◌%◌, ◌<◌, ◌≤◌, ◌⊎◌, List, [], ◌∷◌, map, length, ℤ, pos, ◌+ℤ◌, ◌*ℤ◌, neg_ℤ}
+use Rattle.std.proofs.Common.{Bool, ◌≡◌, ℕ, suc, ◌+◌, ◌%◌, ◌<◌, ◌≤◌, ◌⊎◌, List, [], ◌∷◌, length, ℤ, pos, ◌*ℤ◌}
 use Rattle.interval_cut_law.specs.Names.{operation_value}
-use Rattle.signed_sum.specs.Names.{cycle, turned, IsNormalized, total, value_at}
+use Rattle.signed_sum.specs.Names.{IsNormalized, difference, power_sum, total, value_at}
 use Rattle.simplicial_law.specs.Names.{CongruentInt, HasDegree, integral_coboundary}
 use Rattle.steenrod_law.specs.Names.{sum_value, copies}
 use Rattle.surjection_law.specs.Names.{caesura_count, surjection_boundary, IsOnto}
+use Rattle.table_reduction_law.specs.Names.{turned_values}
 
 abbrev pub SurjectionTerm : Type 0
 SurjectionTerm = List ℕ × ℤ
@@ -32,20 +33,12 @@ AreTerms p d (t ∷ x) = IsOnto p t.0 × (caesura_count t.0 ≡ d) × AreTerms p
 abbrev pub boundary_over : List SurjectionTerm → (List ℕ → ℤ) → ℤ
 boundary_over x h = value_at (λ u. value_at h (surjection_boundary u)) x
 
--- h at the turned list less h, and the sum of h over the first k turns
-abbrev pub turn_less : ℕ → (List ℕ → ℤ) → List ℕ → ℤ
-turn_less p h u = h (map (cycle p) u) +ℤ neg_ℤ (h u)
-
-abbrev pub turned_total : ℕ → ℕ → (List ℕ → ℤ) → List ℕ → ℤ
-turned_total p zero h u = pos 0
-turned_total p (suc k) h u = turned_total p k h u +ℤ h (turned p k u)
-
 -- sums of each degree with the relations of the May elements
 pub record IsMayFamily (p : ℕ) (x : ℕ → List SurjectionTerm) : Type 0 where
   pub terms : (d : ℕ) → AreTerms p d (x d)
   pub first : (h : List ℕ → ℤ) → boundary_over (x 0) h ≡ pos 0
-  pub even : (d : ℕ) → d % 2 ≡ 0 → (h : List ℕ → ℤ) → boundary_over (x (suc d)) h ≡ value_over (x d) (turn_less p h)
-  pub odd : (d : ℕ) → d % 2 ≡ 1 → (h : List ℕ → ℤ) → boundary_over (x (suc d)) h ≡ value_over (x d) (turned_total p p h)
+  pub even : (d : ℕ) → d % 2 ≡ 0 → (h : List ℕ → ℤ) → boundary_over (x (suc d)) h ≡ value_over (x d) (λ u. value_at h (difference (turned_values p) u))
+  pub odd : (d : ℕ) → d % 2 ≡ 1 → (h : List ℕ → ℤ) → boundary_over (x (suc d)) h ≡ value_over (x d) (λ u. value_at h (power_sum (turned_values p) p u))
 
 -- a cochain of degree q is 0 on lists of another length and on degenerate lists
 pub record IsCochain (q : ℕ) (a : List ℕ → ℤ) : Type 0 where

@@ -1,10 +1,11 @@
 -- The boundary law and the relations, on the values of May elements on words.
-use Rattle.std.proofs.Common.{◌≡◌, ℕ, zero, suc, ◌+◌, ◌%◌, ◌≤◌, true, false, Bool, List, [], ◌∷◌, length, refl, sym, ◌∙◌, ap, arith, ℤ, pos, ◌+ℤ◌, neg_ℤ}
+use Rattle.std.proofs.Common.{◌≡◌, ℕ, zero, suc, ◌+◌, ◌%◌, ◌≤◌, true, false, Bool, List, [], ◌∷◌, length, refl, sym, ◌∙◌, ap, arith, ℤ, pos, ◌+ℤ◌, ◌-ℤ◌}
 use Rattle.interval_cut_law.{proofs.BoundaryLaws.cochain_boundary_law, specs.Names.{AreNormalized, one_coboundary, operation_value}}
-use Rattle.signed_sum.specs.Names.{signed, IsNormalized, value_at}
-use Rattle.simplicial_law.{proofs.Names.{CongruentInt_of, CongruentInt_trans}, specs.Names.{CongruentInt, HaveDegrees, integral_coboundary}}
-use Rattle.steenrod_law.{proofs.AdditiveMaps.{adds-coboundary, adds-over, adds-signed}, proofs.Forms.{AreTerms, IsCochain, IsMayFamily, SurjectionTerm, boundary_over, turn_less, turned_total, value_over}, proofs.WordCochains.{over-equal, over-same, over-sum, word-cycle, word-turn_sum}, proofs.WordLemmas.{minus-sum, norm-sum}, specs.Names.{sum_value, word_cochains, choice, copies, norm, step, turn_back_less_one}}
+use Rattle.signed_sum.specs.Names.{signed, IsNormalized, difference, power_sum, value_at}
+use Rattle.simplicial_law.{proofs.Names.{CongruentInt_of, CongruentInt_trans}, specs.Names.{CongruentInt, HasDegree, HaveDegrees, integral_coboundary}}
+use Rattle.steenrod_law.{proofs.AdditiveMaps.{adds-coboundary, adds-over, adds-signed}, proofs.Forms.{AreTerms, IsCochain, IsMayFamily, SurjectionTerm, boundary_over, value_over}, proofs.WordCochains.{over-equal, over-same, over-sum, word-cycle, word-turn_sum}, proofs.WordLemmas.{minus-sum, norm-sum}, specs.Names.{sum_value, word_cochains, choice, copies, norm, step, turn_back_less_one}}
 use Rattle.surjection_law.specs.Names.{surjection_boundary, IsOnto}
+use Rattle.table_reduction_law.{proofs.Permutations.turned-less, specs.Names.turned_values}
 
 pub some : (p : ℕ) (u : List ℕ) → 1 ≤ p → IsOnto p u → 1 ≤ length u
 some zero u le onto = absurd (omega (arith, le))
@@ -26,6 +27,15 @@ sum-law p m x qs cs s k n d le hs =
     ∙ ap (λ z. boundary_over x (λ u. operation_value p u cs s) +ℤ z)
     (adds-signed (value_over x) (over-sum x) m (λ u. integral_coboundary (λ t. operation_value p u cs t) s) ∙ ap (signed m) (adds-coboundary (value_over x) (over-sum x) (λ u t. operation_value p u cs t) s))
 
+-- T on a sum is T on the words
+pub sum-turned : (p : ℕ) (deg : Bool → ℕ) (a b : List ℕ → ℤ) → HasDegree (deg false) a → HasDegree (deg true) b → (s : List ℕ) → 1 ≤ p → (m : ℕ) (y : List SurjectionTerm) → AreTerms p m y → (w : List Bool) → length w ≡ p →
+    value_over y (λ u. value_at (λ v. operation_value p v (word_cochains a b w) s) (difference (turned_values p) u)) ≡ turn_back_less_one deg (λ v. sum_value p y (word_cochains a b v) s) w
+sum-turned p deg a b da db s le m y k w e =
+    let h : List ℕ → ℤ = λ u. operation_value p u (word_cochains a b w) s in
+    over-equal p m y (λ u. value_at h (difference (turned_values p) u)) (λ u. turn_back_less_one deg (λ v. operation_value p u (word_cochains a b v) s) w) k
+    (λ u o c. turned-less p h u ∙ ap (λ z. z -ℤ h u) (word-cycle p deg a b da db s le u w o e))
+    ∙ sym (adds-over (λ f. turn_back_less_one deg f w) (λ f1 f2. minus-sum deg f1 f2 w) y (λ u v. operation_value p u (word_cochains a b v) s))
+
 module _ (p : ℕ) (deg : Bool → ℕ) (a b : List ℕ → ℤ) (ca : IsCochain (deg false) a) (cb : IsCochain (deg true) b) (s : List ℕ) (pos_p : 1 ≤ p) (hs : 1 ≤ length s) (x : ℕ → List SurjectionTerm) (may : IsMayFamily p x) where
   -- the boundary of x_(m+1) is a step of the words
   pub relation : (m : ℕ) (w : List Bool) → length w ≡ p → CongruentInt p (boundary_over (x (suc m)) (λ u. operation_value p u (word_cochains a b w) s)) (step deg p (suc m) (λ v. sum_value p (x m) (word_cochains a b v) s) w)
@@ -34,21 +44,14 @@ module _ (p : ℕ) (deg : Bool → ℕ) (a b : List ℕ → ℤ) (ca : IsCochain
       go : (c k : ℕ) → m % 2 ≡ c → c + k ≡ 1 → CongruentInt p (boundary_over (x (suc m)) (λ u. operation_value p u (word_cochains a b w) s)) (choice k (norm deg p (λ v. sum_value p (x m) (word_cochains a b v) s) w) (turn_back_less_one deg (λ v. sum_value p (x m) (word_cochains a b v) s) w))
       go zero zero q r = absurd (omega (arith, r))
       go (suc c) (suc k) q r = absurd (omega (arith, r))
-      go zero (suc k) q r =
-          let h : List ℕ → ℤ = λ u. operation_value p u (word_cochains a b w) s in
-          let g : List ℕ → ℤ = λ u. turn_back_less_one deg (λ v. operation_value p u (word_cochains a b v) s) w in
-          CongruentInt_trans
-          (CongruentInt_of (may.even m q h))
-          (CongruentInt_trans
-          (over-same p m (x m) (turn_less p h) g (may.terms m) (λ u o y. CongruentInt_of (ap (λ z. z +ℤ neg_ℤ (h u)) (word-cycle p deg a b ca.degree cb.degree s pos_p u w o e))))
-          (CongruentInt_of (sym (adds-over (λ f. turn_back_less_one deg f w) (λ f1 f2. minus-sum deg f1 f2 w) (x m) (λ u v. operation_value p u (word_cochains a b v) s)))))
+      go zero (suc k) q r = CongruentInt_of (may.even m q (λ u. operation_value p u (word_cochains a b w) s) ∙ sum-turned p deg a b ca.degree cb.degree s pos_p m (x m) (may.terms m) w e)
       go (suc c) zero q r =
           let h : List ℕ → ℤ = λ u. operation_value p u (word_cochains a b w) s in
           let g : List ℕ → ℤ = λ u. norm deg p (λ v. operation_value p u (word_cochains a b v) s) w in
           CongruentInt_trans
           (CongruentInt_of (may.odd m (omega arith) h))
           (CongruentInt_trans
-          (over-same p m (x m) (turned_total p p h) g (may.terms m) (λ u o y. word-turn_sum p deg a b ca.degree cb.degree s pos_p p u o w e))
+          (over-same p m (x m) (λ u. value_at h (power_sum (turned_values p) p u)) g (may.terms m) (λ u o y. word-turn_sum p deg a b ca.degree cb.degree s pos_p p u o w e))
           (CongruentInt_of (sym (adds-over (λ f. norm deg p f w) (λ f1 f2. norm-sum deg p f1 f2 w) (x m) (λ u v. operation_value p u (word_cochains a b v) s)))))
 
   pub relation-first : (w : List Bool) → length w ≡ p → CongruentInt p (boundary_over (x 0) (λ u. operation_value p u (word_cochains a b w) s)) (pos 0)

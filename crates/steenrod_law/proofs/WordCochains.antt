@@ -1,11 +1,11 @@
 -- Words of cochains.
 use Rattle.std.proofs.{Common.{◌≡◌, ℕ, zero, suc, ◌+◌, ◌*◌, ◌≤◌, true, false, Bool, cond, List, [], ◌∷◌, ◌++◌, map, length, refl, sym, ◌∙◌, ap, arith, subst, ℤ, pos, ◌+ℤ◌, ◌*ℤ◌, pred}, Math.IntN.{zero-*ℤ, *ℤ-zero}, lemmas.Int.ints, lemmas.Bool.or_left, lemmas.List.map-append}
 use Rattle.interval_cut_law.{proofs.BoundaryLaws.{degeneracy_law, product_normalized}, specs.Names.{one_coboundary, operation_value, value_product}}
-use Rattle.signed_sum.{proofs.Names.{without_one-without_one, mul-add, mul_comm, one-mul, signed-zero, bound-false, bound-true}, specs.Names.{is_degenerate, unless_empty, signed, without_one}}
-use Rattle.simplicial_law.{proofs.Names.{CongruentInt-signed, CongruentInt-sum, CongruentInt-times, CongruentInt_of, CongruentInt_refl, CongruentInt_trans}, specs.Names.{CongruentInt, HasDegree, HaveDegrees, integral_coboundary, tensor_boundary}}
-use Rattle.steenrod_law.{proofs.CycleFaces.{onto-cycle, sum_of, value-cycle}, proofs.Forms.{AreTerms, IsCochain, SurjectionTerm, turned_total, value_over}, proofs.Staircase.{Alike, back-alike}, specs.Names.{word_cochains, letter_degree, norm, turn_back, turn_back_power, boundary_value, word_degree}}
+use Rattle.signed_sum.{proofs.Names.{without_one-without_one, mul-add, mul_comm, one-mul, signed-zero, bound-false, bound-true}, specs.Names.{is_degenerate, power_sum, unless_empty, signed, value_at, without_one}}
+use Rattle.simplicial_law.{proofs.Names.{CongruentInt-signed, CongruentInt-sum, CongruentInt-times, CongruentInt_from, CongruentInt_of, CongruentInt_refl, CongruentInt_trans}, specs.Names.{CongruentInt, HasDegree, HaveDegrees, integral_coboundary, tensor_boundary}}
+use Rattle.steenrod_law.{proofs.CycleFaces.{sum_of, value-cycle}, proofs.Forms.{AreTerms, IsCochain, SurjectionTerm, value_over}, proofs.Staircase.{Alike, back-alike}, specs.Names.{word_cochains, letter_degree, norm, turn_back, turn_back_power, boundary_value, word_degree}}
 use Rattle.surjection_law.specs.Names.{caesura_count, IsOnto}
-use Rattle.table_reduction_law.specs.Names.{cycle, turned}
+use Rattle.table_reduction_law.{proofs.Permutations.{onto-turned, turned-at}, specs.Names.{cycle, turned, turned_values}}
 
 -- the coboundary twice
 
@@ -73,22 +73,19 @@ module _ (p : ℕ) (deg : Bool → ℕ) (a b : List ℕ → ℤ) (da : HasDegree
       (λ o. value-cycle (length w) (deg l) u s (map deg w) (cond l b a) (word_cochains a b w) o (letter-degree deg a b da db l) (degrees-letters deg a b da db w)) onto
       ∙ (let q = sym (map-append (λ m. cond m b a) w (l ∷ [])) in λ i. signed (deg l * degree-sum deg w i) (operation_value p u (q i) s))
 
-  turns-onto : (k : ℕ) (u : List ℕ) → IsOnto p u → IsOnto p (turned p k u)
-  turns-onto zero u o = o
-  turns-onto (suc k) u o = onto-cycle p (turned p k u) pos_p (turns-onto k u o)
-
   pub word-turns : (k : ℕ) (u : List ℕ) → IsOnto p u → Alike p p (λ w. operation_value p (turned p k u) (word_cochains a b w) s) (turn_back_power deg k (λ w. operation_value p u (word_cochains a b w) s))
   word-turns zero u o w e = CongruentInt_refl (operation_value p u (word_cochains a b w) s)
   word-turns (suc k) u o w e =
       CongruentInt_trans
-      (CongruentInt_of (word-cycle (turned p k u) w (turns-onto k u o) e))
+      (CongruentInt_of (word-cycle (turned p k u) w (onto-turned p k u o) e))
       (back-alike p deg p (λ v. operation_value p (turned p k u) (word_cochains a b v) s) (turn_back_power deg k (λ v. operation_value p u (word_cochains a b v) s)) (word-turns k u o) w e)
 
-  pub word-turn_sum : (k : ℕ) (u : List ℕ) → IsOnto p u → (w : List Bool) → length w ≡ p → CongruentInt p (turned_total p k (λ v. operation_value p v (word_cochains a b w) s) u) (norm deg k (λ v. operation_value p u (word_cochains a b v) s) w)
+  pub word-turn_sum : (k : ℕ) (u : List ℕ) → IsOnto p u → (w : List Bool) → length w ≡ p → CongruentInt p (value_at (λ v. operation_value p v (word_cochains a b w) s) (power_sum (turned_values p) k u)) (norm deg k (λ v. operation_value p u (word_cochains a b v) s) w)
   word-turn_sum zero u o w e = CongruentInt_refl (pos 0)
   word-turn_sum (suc k) u o w e =
-      CongruentInt-sum
-      (word-turn_sum k u o w e) (word-turns k u o w e)
+      CongruentInt_from
+      (CongruentInt-sum (word-turn_sum k u o w e) (CongruentInt_trans (CongruentInt_of (turned-at p k (λ v. operation_value p v (word_cochains a b w) s) u)) (word-turns k u o w e)))
+      (omega (arith, ints))
 
 -- sums of surjections
 

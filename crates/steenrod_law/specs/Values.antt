@@ -1,9 +1,9 @@
 -- Values of sums of surjections on cochains with whole values, and the primitives of the laws.
-use Rattle.std.specs.Prelude.{ℕ, ◌-◌, ◌%◌, Bool, cond, List, ◌++◌, map, ℤ, neg_ℤ, ◌+ℤ◌, zero, suc}
-use Rattle.signed_sum.specs.Names.{signed, total, value_at}
+use Rattle.std.specs.Prelude.{ℕ, ◌-◌, ◌%◌, Bool, cond, List, flat_map, map, ℤ, ◌+ℤ◌, ◌*ℤ◌, zero, suc}
+use Rattle.signed_sum.specs.Names.{difference, signed, total, value_at}
 use Rattle.simplicial_law.specs.Names.{integral_coboundary}
 use Rattle.interval_cut_law.specs.Names.{operation_value}
-use Rattle.table_reduction_law.specs.Names.{cycle}
+use Rattle.table_reduction_law.specs.Names.{turned_values}
 use Rattle.steenrod_law.specs.Words.{choice, staircase}
 
 -- the value of the sum x of surjections of arity p on the cochains `cs`
@@ -14,18 +14,14 @@ sum_value p x cs s = value_at (λ u. operation_value p u cs s) x
 abbrev pub word_cochains : (List ℕ → ℤ) → (List ℕ → ℤ) → List Bool → List (List ℕ → ℤ)
 word_cochains a b w = map (λ l. cond l b a) w
 
--- the terms turned by the cycle
-abbrev pub turned_sum : ℕ → List (List ℕ × ℤ) → List (List ℕ × ℤ)
-turned_sum p x = map (λ t. (map (cycle p) t.0, t.1)) x
+-- what f makes of the terms of a sum, each times its coefficient
+abbrev pub applied : {X : Type 0} → (X → List (X × ℤ)) → List (X × ℤ) → List (X × ℤ)
+applied f x = flat_map (λ t. map (λ s. (s.0, t.1 *ℤ s.1)) (f t.0)) x
 
--- the terms with the opposite coefficients
-abbrev pub opposite_sum : List (List ℕ × ℤ) → List (List ℕ × ℤ)
-opposite_sum x = map (λ t. (t.0, neg_ℤ t.1)) x
-
--- T^k x, where T is the cycle less the identity
+-- T^k x, where T is the turn less the identity
 abbrev pub cycle_less_one_power : ℕ → ℕ → List (List ℕ × ℤ) → List (List ℕ × ℤ)
 cycle_less_one_power p zero x = x
-cycle_less_one_power p (suc k) x = turned_sum p (cycle_less_one_power p k x) ++ opposite_sum (cycle_less_one_power p k x)
+cycle_less_one_power p (suc k) x = applied (difference (turned_values p)) (cycle_less_one_power p k x)
 
 -- the sum that the primitive of additivity is made with, where x gives a sum for each degree: that of
 -- degree d + 1 for odd d, and T^(p-2) of it for even d

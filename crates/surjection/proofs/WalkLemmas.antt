@@ -3,7 +3,8 @@ use Rattle.std.{proofs.Common.{◌≡◌, ℕ, zero, suc, ◌+◌, ◌-◌, ◌�
 use Rattle.signed_sum.{specs.Names.{is_degenerate, occurs, is_zero, normalized, value_at, weight_of, without_each}, proofs.Names.{fun_ext, restricted-gone, restricted-there, value_at-nonzero_terms, weighted_sum-cons, weighted_sum-nil, occurs-01}, proofs.SumLemmas.weighted_sum}
 use Rattle.surjection_law.{specs.Names.{no_sign, place_signs_from, surjection_boundary, with_sign, IsSurjection, arity}, proofs.BoundaryPlaces.{with_sign-other, with_sign-same}, proofs.SurjectionTerms.{EachTerm, EachTerm-face, IsFace, IsSurjection-face}}
 use Rattle.operad_law.{specs.FormalSums.{IsSameSum, plus_term}, proofs.WordLemmas.drop_rest, proofs.PlusTerm.{value_at-plus_term, weight_of-plus_term}, proofs.ListOrder.equal_numbers}
-use Rattle.surjection.specs.Names.{comes_again, InRange, in_range, AddsList}
+use Rattle.table_reduction_law.proofs.Permutations.{onto-within, within-at}
+use Rattle.surjection.specs.Names.{comes_again, AddsList}
 
 -- the lists without each place of xs, behind pre
 abbrev pub rest_lists : List ℕ → List ℕ → List (List ℕ)
@@ -158,25 +159,15 @@ AddsList-term w s old d m = record {
   grows = omega (arith, weight_of-plus_term (slice_cmp nat_cmp) old w s);
 }
 
-range-at : (n : ℕ) (u : List ℕ) (i : ℕ) → InRange n u → i < length u → get_or u i 0 ≤ n
-range-at n [] i r h = absurd (omega arith)
-range-at n (x ∷ u) zero r h = r.1
-range-at n (x ∷ u) (suc i) r h = range-at n u i r.2 (omega arith)
+pub value_within : (u : List ℕ) (i : ℕ) → IsSurjection u → i < length u → (1 ≤ get_or u i 0) × (get_or u i 0 ≤ arity u)
+value_within u i s h = within-at (arity u) u i 0 (onto-within (arity u) u s.onto) h
 
 pub value_below : (u : List ℕ) (i : ℕ) → IsSurjection u → i < length u → get_or u i 0 < 33
-value_below u i s h = omega (arith, range-at (arity u) u i (in_range u s) h, s.narrow)
+value_below u i s h = let b = value_within u i s h in omega (arith, b.1, s.narrow)
 
 -- a face that the walk meets is a surjection, if it is not degenerate
 pub face_is : (u : List ℕ) (i : ℕ) → IsSurjection u → IsFace no_sign u (remove u i) → is_degenerate (remove u i) ≡ false → IsSurjection (remove u i)
 face_is u i s f p = IsSurjection-face u (remove u i) s f p
-
-pub value_within : (u : List ℕ) (i : ℕ) → IsSurjection u → i < length u → (1 ≤ get_or u i 0) × (get_or u i 0 ≤ arity u)
-value_within u i s h = go (arity u) u i (in_range u s) h
-  where
-    go : (n : ℕ) (u : List ℕ) (i : ℕ) → InRange n u → i < length u → (1 ≤ get_or u i 0) × (get_or u i 0 ≤ n)
-    go n [] i r h = absurd (omega arith)
-    go n (x ∷ u) zero r h = (r.0, r.1)
-    go n (x ∷ u) (suc i) r h = go n u i r.2 (omega arith)
 
 -- what the test of the rest says
 rest_is : (u : List ℕ) (i x : ℕ) → occurs x (take (length u - (i + 1)) (drop (i + 1) u)) ≡ occurs x (drop (suc i) u)

@@ -3,10 +3,9 @@
 use Rattle.std.{proofs.Common.{◌≡◌, ℕ, ◌+◌, ◌-◌, ◌<◌, ◌≤◌, cond, List, [], ◌∷◌, ◌++◌, length, map, refl, sym, ap, ◌∙◌, inl, inr, arith, subst}, specs.Prelude.{ℤ, pos}, proofs.lemmas.List.length-map}
 use Rattle.signed_sum.{specs.Names.{is_degenerate, numbers_from, occurs, entry_at, normalized, value_at, weight_of}, proofs.Names.{occurs-cons, occurs-mid, occurs-tail, range-in, range-out}}
 use Rattle.surjection_law.{specs.Names.{surjection_boundary, IsOnto, IsRelabelling, IsSurjection, arity, surjection_degree}, proofs.BoundaryPlaces.{value_at-surjection_boundary_places, without_place-cong}, proofs.SurjectionTerms.{arity-positive, narrow}}
-use Rattle.table_reduction_law.proofs.{FormalSums.is_degenerate-map, Permutations.{map-within, onto-moved, place, relabels}}
+use Rattle.table_reduction_law.proofs.{FormalSums.is_degenerate-map, Permutations.{Within, onto-moved, onto-within, place, relabels}}
 use Rattle.composition_law.proofs.Renaming.{Back, boundary-moved}
-use Rattle.operad_law.{specs.Permutations.{IsPerm, composed, identity}, proofs.PermLemmas.{entry-identity, entry-map, perm-onto}}
-use Rattle.surjection.specs.Action.{permuted}
+use Rattle.operad_law.{specs.Permutations.{IsPerm, composed, identity}, proofs.PermLemmas.{entry-identity, entry-map, permutation_of}}
 
 -- each entry is from 1 to n
 abbrev pub InRange : ℕ → List ℕ → Type 0
@@ -18,16 +17,16 @@ range-append n [] u a b = b
 range-append n (x ∷ p) u a b = (a.0, a.1, range-append n p u a.2 b)
 
 -- entries that are among those from 1 to n are in range
-pub among : (n : ℕ) (u : List ℕ) → ((v : ℕ) → occurs v u ≡ 1 → occurs v (numbers_from 1 n) ≡ 1) → InRange n u
+pub among : (n : ℕ) (u : List ℕ) → Within n u → InRange n u
 among n [] h = tt
 among n (x ∷ u) h =
     let b = range-out x 1 n (h x (occurs-mid x [] u)) in
     (b.0, omega (arith, b.1), among n u (λ v k. h v (occurs-tail v x u k)))
 
 pub in_range : (u : List ℕ) → IsSurjection u → InRange (arity u) u
-in_range u s = among (arity u) u (λ v o. sym (s.onto v) ∙ o)
+in_range u s = among (arity u) u (onto-within (arity u) u s.onto)
 
-pub in_numbers : (n : ℕ) (u : List ℕ) → InRange n u → (v : ℕ) → occurs v u ≡ 1 → occurs v (numbers_from 1 n) ≡ 1
+pub in_numbers : (n : ℕ) (u : List ℕ) → InRange n u → Within n u
 in_numbers n [] r v o = absurd (omega (arith, o))
 in_numbers n (x ∷ u) r v o = elim (occurs-cons v x u) [
   | inl e ↦ ap (λ w. occurs w (numbers_from 1 n)) e ∙ range-in x 1 n r.0 (omega (arith, r.1))
@@ -42,8 +41,8 @@ range-arity : (n : ℕ) (u : List ℕ) → InRange n u → arity u ≤ n
 range-arity n [] r = omega arith
 range-arity n (x ∷ u) r = omega (arith, r.1, range-arity n u r.2)
 
-pub arity-is : (n : ℕ) (u : List ℕ) → InRange n u → IsOnto n u → 1 ≤ n → arity u ≡ n
-arity-is n u r o h = omega (arith, range-arity n u r, occurs-arity n u (o n ∙ range-in n 1 n h (omega arith)))
+pub arity-is : (n : ℕ) (u : List ℕ) → IsOnto n u → 1 ≤ n → arity u ≡ n
+arity-is n u o h = omega (arith, range-arity n u (among n u (onto-within n u o)), occurs-arity n u (o n ∙ range-in n 1 n h (omega arith)))
 
 -- ---- maps of values that move 1 to n about
 module _ (t i : ℕ → ℕ) (n : ℕ) (m : IsRelabelling n t i) where
@@ -63,14 +62,14 @@ module _ (t i : ℕ → ℕ) (n : ℕ) (m : IsRelabelling n t i) where
       (λ w same. ap (λ b. cond b (pos 0) (phi (map t w))) (degenerate-map w (among n w (λ v o. in_numbers n u r v (sym (same v) ∙ o)))))
       ∙ sym (value_at-surjection_boundary_places (λ w. phi (map t w)) u)
 
-  pub arity-map : (u : List ℕ) → InRange n u → IsOnto n u → 1 ≤ n → arity (map t u) ≡ n
-  arity-map u r o h = arity-is n (map t u) (among n (map t u) (λ v k. map-within n t i v u m (in_numbers n u r) k)) (onto-moved n t i u m o) h
+  pub arity-map : (u : List ℕ) → IsOnto n u → 1 ≤ n → arity (map t u) ≡ n
+  arity-map u o h = arity-is n (map t u) (onto-moved n t i u m o) h
 
   pub IsSurjection-map : (u : List ℕ) → IsSurjection u → arity u ≡ n → IsSurjection (map t u)
   IsSurjection-map u s e =
       let r : InRange n u = subst (λ (k : ℕ). InRange k u) e (in_range u s) in
       let o : IsOnto n u = subst (λ (k : ℕ). IsOnto k u) e s.onto in
-      let a : arity (map t u) ≡ n = arity-map u r o (omega (arith, arity-positive u s)) in
+      let a : arity (map t u) ≡ n = arity-map u o (omega (arith, arity-positive u s)) in
       let l = length-map u t in
       record {
         some = omega (arith, s.some);
@@ -82,32 +81,32 @@ module _ (t i : ℕ → ℕ) (n : ℕ) (m : IsRelabelling n t i) where
 
 -- ---- permutations
 permutes : (tau u : List ℕ) → IsPerm tau → length tau ≡ arity u → IsRelabelling (arity u) (entry_at tau) (place tau)
-permutes tau u p l = relabels (arity u) tau (record { distinct = p.distinct; onto = λ v. perm-onto tau p v ∙ ap (λ r. occurs v (numbers_from 1 r)) l })
+permutes tau u p l = relabels (arity u) tau (permutation_of (arity u) tau p l)
 
-pub act_valid : (tau u : List ℕ) → IsSurjection u → IsPerm tau → length tau ≡ arity u → IsSurjection (permuted tau u)
+pub act_valid : (tau u : List ℕ) → IsSurjection u → IsPerm tau → length tau ≡ arity u → IsSurjection (composed tau u)
 act_valid tau u s p l = IsSurjection-map (entry_at tau) (place tau) (arity u) (permutes tau u p l) u s refl
 
-pub act_arity : (tau u : List ℕ) → IsSurjection u → IsPerm tau → length tau ≡ arity u → arity (permuted tau u) ≡ arity u
-act_arity tau u s p l = arity-map (entry_at tau) (place tau) (arity u) (permutes tau u p l) u (in_range u s) s.onto (arity-positive u s)
+pub act_arity : (tau u : List ℕ) → IsSurjection u → IsPerm tau → length tau ≡ arity u → arity (composed tau u) ≡ arity u
+act_arity tau u s p l = arity-map (entry_at tau) (place tau) (arity u) (permutes tau u p l) u s.onto (arity-positive u s)
 
-pub act_degree : (tau u : List ℕ) → IsSurjection u → IsPerm tau → length tau ≡ arity u → surjection_degree (permuted tau u) ≡ surjection_degree u
+pub act_degree : (tau u : List ℕ) → IsSurjection u → IsPerm tau → length tau ≡ arity u → surjection_degree (composed tau u) ≡ surjection_degree u
 act_degree tau u s p l = λ i. length-map u (entry_at tau) i - act_arity tau u s p l i
 
-identity-fixes : (n : ℕ) (u : List ℕ) → InRange n u → permuted (identity n) u ≡ u
+pub identity-fixes : (n : ℕ) (u : List ℕ) → InRange n u → composed (identity n) u ≡ u
 identity-fixes n [] r = refl
 identity-fixes n (x ∷ u) r = λ i. entry-identity n x r.0 r.1 i ∷ identity-fixes n u r.2 i
 
-pub act_identity : (u : List ℕ) → IsSurjection u → permuted (identity (arity u)) u ≡ u
+pub act_identity : (u : List ℕ) → IsSurjection u → composed (identity (arity u)) u ≡ u
 act_identity u s = identity-fixes (arity u) u (in_range u s)
 
-compose-entries : (sigma tau u : List ℕ) → InRange (length tau) u → permuted sigma (permuted tau u) ≡ permuted (composed sigma tau) u
-compose-entries sigma tau [] r = refl
-compose-entries sigma tau (x ∷ u) r = λ i. sym (entry-map (entry_at sigma) tau x r.0 r.1) i ∷ compose-entries sigma tau u r.2 i
+pub map-composed : (f : ℕ → ℕ) (tau u : List ℕ) → InRange (length tau) u → map f (composed tau u) ≡ composed (map f tau) u
+map-composed f tau [] r = refl
+map-composed f tau (x ∷ u) r = λ i. sym (entry-map f tau x r.0 r.1) i ∷ map-composed f tau u r.2 i
 
-pub act_composed : (sigma tau u : List ℕ) → IsSurjection u → IsPerm sigma → IsPerm tau → length sigma ≡ arity u → length tau ≡ arity u → permuted sigma (permuted tau u) ≡ permuted (composed sigma tau) u
-act_composed sigma tau u s p q k l = compose-entries sigma tau u (rw l (in_range u s))
+pub act_composed : (sigma tau u : List ℕ) → IsSurjection u → IsPerm sigma → IsPerm tau → length sigma ≡ arity u → length tau ≡ arity u → composed sigma (composed tau u) ≡ composed (composed sigma tau) u
+act_composed sigma tau u s p q k l = map-composed (entry_at sigma) tau u (rw l (in_range u s))
 
-pub boundary_act : (phi : List ℕ → ℤ) (tau u : List ℕ) → IsSurjection u → IsPerm tau → length tau ≡ arity u → value_at phi (surjection_boundary (permuted tau u)) ≡ value_at (λ w. phi (permuted tau w)) (surjection_boundary u)
+pub boundary_act : (phi : List ℕ → ℤ) (tau u : List ℕ) → IsSurjection u → IsPerm tau → length tau ≡ arity u → value_at phi (surjection_boundary (composed tau u)) ≡ value_at (λ w. phi (composed tau w)) (surjection_boundary u)
 boundary_act phi tau u s p l = boundary-map (entry_at tau) (place tau) (arity u) (permutes tau u p l) phi u (in_range u s)
 
 -- ---- bounds

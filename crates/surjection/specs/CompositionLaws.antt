@@ -1,9 +1,9 @@
 -- The laws of compositions of surjections, which the impl cites: the terms are surjections, their
 -- arity is the sum of the two less 1, and their degrees sum.
 use Rattle.std.{proofs.Common.{◌≡◌, ℕ, zero, suc, ◌+◌, ◌-◌, ◌<◌, ◌≤◌, ◌≢◌, ◌⊎◌, Bool, true, false, cond, eqb, List, [], ◌∷◌, ◌++◌, length, map, drop, refl, sym, ap, ◌∙◌, inl, inr, arith, subst, length-append}, specs.Prelude.{ℤ, ◌+ℤ◌, All, nat_lt}, proofs.lemmas.Bool.{cases_eq, eq-eqb, ne_eqb}, proofs.lemmas.Bool.Decides.nat_tests, proofs.lemmas.List.{length-map, length-drop}, proofs.lemmas.List.Elements.{All-cons, All-map, All-nil, All-weaker, All-head, All-tail}}
-use Rattle.signed_sum.{specs.Names.{is_degenerate, numbers_from, occurs, kept_terms, signed, value_at}, proofs.Names.{occurs-01, occurs-apart, occurs-cons, occurs-later, occurs-more, occurs-range, occurs-self, occurs-tail, range-in, range-out}}
+use Rattle.signed_sum.{specs.Names.{is_degenerate, numbers_from, occurs, kept_terms, signed, value_at}, proofs.Names.{All-kept_terms, occurs-01, occurs-apart, occurs-cons, occurs-later, occurs-more, occurs-range, occurs-self, occurs-tail, range-in, range-out}}
 use Rattle.surjection_law.{specs.Names.{caesura_count, arity, IsOnto, IsSurjection, multiplicity, surjection_degree, surjection_boundary}, proofs.Multiplicity.{multiplicity-other, multiplicity-same}, proofs.SurjectionTerms.{arity-le, arity-positive, multiplicity-at_least}, proofs.Caesuras.caesura_law}
-use Rattle.surjection.specs.ActionLaws.{InRange, among, arity-is, in_numbers, in_range, range-append}
+use Rattle.surjection.specs.ActionLaws.{InRange, arity-is, in_numbers, in_range, range-append}
 use Rattle.table_reduction_law.proofs.Permutations.{map-in}
 use Rattle.composition_law.{proofs.Surjections.{grown-high, grown-low, surjection_leibniz}, specs.Surjections.{IsWithinLimits, composition, cut_entries, cut_term, cuts_at, grown, lifted, numbered, piece, spliced, values_of, with_values, IsRising}, proofs.Cuts.{IsCutOf, each_cut, rising-bound}}
 
@@ -249,7 +249,7 @@ module _ {S : Type 0} (k : ℕ) (u v : List ℕ) (outer inner : List (ℕ × S))
   onto = onto-covered n term ranges covered
 
   arity-n : arity term ≡ n
-  arity-n = arity-is n term ranges onto (let av = arity-positive v c.inner in let au = arity-positive u c.outer in omega arith)
+  arity-n = arity-is n term onto (let av = arity-positive v c.inner in let au = arity-positive u c.outer in omega arith)
 
   pub arity-term : arity term + 1 ≡ arity u + arity v
   arity-term = let e = arity-n in let av = arity-positive v c.inner in omega (arith, e, av)
@@ -272,15 +272,6 @@ module _ {S : Type 0} (k : ℕ) (u v : List ℕ) (outer inner : List (ℕ × S))
 
 -- ---- the laws
 
-All-kept : {X : Type 0} (gone : X → Bool) (P : X → Type 0) (ts : List (X × ℤ)) → All (λ t. gone t.0 ≡ false → P t.0) ts → All (λ t. P t.0) (kept_terms gone ts)
-All-kept gone P [] a = All-nil (λ t. P t.0)
-All-kept gone P (t ∷ ts) a =
-    let rest = All-kept gone P ts (All-tail (λ t. gone t.0 ≡ false → P t.0) t ts a) in
-    (elim (gone t.0) as (λ b. (b ≡ false → P t.0) → All (λ t. P t.0) (cond b (kept_terms gone ts) (t ∷ kept_terms gone ts))) [
-      | true ↦ λ h. rest
-      | false ↦ λ h. All-cons (λ t. P t.0) t (kept_terms gone ts) (h refl) rest
-    ]) (All-head (λ t. gone t.0 ≡ false → P t.0) t ts a)
-
 module _ (k : ℕ) (u v : List ℕ) (c : AreComposed k u v) where
   abbrev outer : List (ℕ × List ℕ)
   outer = with_values (grown k (arity v)) (numbered 0 u)
@@ -300,7 +291,7 @@ module _ (k : ℕ) (u v : List ℕ) (c : AreComposed k u v) where
   pub each_term : (P : List ℕ → Type 0) → ((cut : List ℕ) → IsRising 0 cut (length v - 1) → length cut + 1 ≡ multiplicity k u → is_degenerate (values_of (cut_entries k u v cut)) ≡ false → P (values_of (cut_entries k u v cut))) → All (λ t. P t.0) (composition k u v)
   each_term P h =
       let m = occurs-k in
-      All-kept is_degenerate P (map (cut_term k u v) (cuts_at k u v))
+      All-kept_terms is_degenerate P (map (cut_term k u v) (cuts_at k u v))
       (All-map (λ t. is_degenerate t.0 ≡ false → P t.0) (cut_term k u v) (cuts_at k u v)
       (All-weaker (IsCutOf 0 (length v - 1) (multiplicity k u - 1)) (λ p. is_degenerate (cut_term k u v p).0 ≡ false → P (cut_term k u v p).0)
       (λ p q. h p q.0 (let w = q.1 in omega arith)) (cuts_at k u v) (each_cut (multiplicity k u - 1) (length v - 1) 0 (length v - 1) (omega arith))))

@@ -8,10 +8,11 @@ ghost use Rattle.operad_law.specs.FormalSums.{IsSameSum};
 ghost use Rattle.composition_law.specs.Surjections.{IsWithinLimits, composition, cut_count, grown, lifted, piece, spliced, values_of, with_values, IsRising};
 ghost use Rattle.surjection.specs.Names.{compose_arity as compose_arity_law, compose_degree as compose_degree_law, compose_valid as compose_valid_law, leibniz as leibniz_law, IsCutAt, IsReady, inner_after_mark, is_odd_order, marked, marked_term, odd_after_mark, terms_behind, AddsList, AddsTerms, Inner, Outer, Plain};
 
-use crate::surj::{Surj, add_list, greatest, stands_in};
+use crate::surj::{Surj, add_list, greatest};
 use counting::binomial_up_to;
 use operad_law::composing::{Composing, Leibniz};
 use operad_law::formal_sum::{FormalSum, MOST_WEIGHT, SumEnd};
+use operad_law::perm::stands_in;
 use smallvec::SmallVec;
 use std::alloc::{AllocError, Global};
 

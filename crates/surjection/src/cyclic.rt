@@ -1,8 +1,9 @@
 //! The turn of surjections: the cycle is applied to each value.
-ghost use Rattle.std.specs.Prelude.{◌≡◌, ◌<◌, IfOk, map};
+ghost use Rattle.std.specs.Prelude.{◌≡◌, ◌==◌, ◌<◌, IfOk, map};
 ghost use Rattle.signed_sum.specs.Names.{cycle};
 ghost use Rattle.surjection_law.specs.Names.{IsSurjection, arity};
-ghost use Rattle.surjection.specs.Names.{turned_values, has_arity, boundary_fits as boundary_fits_law, boundary_turn as boundary_turn_law, turn_degree as turn_degree_law, turn_fits as turn_fits_law, turn_sign as turn_sign_law, turn_valid as turn_valid_law, turned_round as turned_round_law};
+ghost use Rattle.table_reduction_law.specs.Names.{turned_values};
+ghost use Rattle.surjection.specs.Names.{boundary_fits as boundary_fits_law, boundary_turn as boundary_turn_law, turn_degree as turn_degree_law, turn_fits as turn_fits_law, turn_sign as turn_sign_law, turn_valid as turn_valid_law, turned_round as turned_round_law};
 
 use crate::surj::Surj;
 use operad_law::cyclic::CyclicModel;
@@ -10,7 +11,7 @@ use smallvec::SmallVec;
 use std::alloc::{AllocError, Global};
 
 impl<const P: u32> CyclicModel<P> for Surj {
-    ghost fits = { has_arity P };
+    ghost fits = { λ u. arity u == P };
 
     ghost turn = { turned_values P };
 

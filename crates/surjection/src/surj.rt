@@ -1,12 +1,13 @@
 //! Generators of the surjection operad.
-ghost use Rattle.std.{specs.Prelude.{◌≡◌, ◌↔◌, ℕ, ◌≤◌, ◌<◌, ◌^◌, ◌==◌, length, nat_abs, false, None, IfOk, IfSome, IsErrOf, IsOkUnless, IsTrue, OnOk, remove}, proofs.Common.rules, specs.Cmp.partial_order_from_own_ties, specs.Cmp.Rules.comparing, specs.Cmp.Lexicographic.slice_cmp, specs.Ordering.{nat_cmp, eq_by_cmp, as_partial_cmp}};
-ghost use Rattle.signed_sum.specs.Names.{is_degenerate, occurs, entry_at, is_zero, weight_of};
+ghost use Rattle.std.{specs.Prelude.{◌≡◌, ◌↔◌, ℕ, ◌≤◌, ◌<◌, ◌^◌, length, nat_abs, false, None, IfOk, IfSome, IsErrOf, IsOkUnless, IsTrue, OnOk, remove}, proofs.Common.rules, specs.Cmp.partial_order_from_own_ties, specs.Cmp.Rules.comparing, specs.Cmp.Lexicographic.slice_cmp, specs.Ordering.{nat_cmp, eq_by_cmp, as_partial_cmp}};
+ghost use Rattle.signed_sum.specs.Names.{is_degenerate, entry_at, is_zero, weight_of};
 ghost use Rattle.surjection_law.{specs.Names.{surjection_boundary, IsSurjection, arity, surjection_degree}, proofs.BoundaryTwice.surjection_boundary-surjection_boundary, proofs.SurjectionTerms.{degree_falls, narrow, no_boundary as no_boundary_law, valid}};
 ghost use Rattle.operad_law.{specs.FormalSums.IsSameSum, proofs.ListOrder.equal_numbers};
 ghost use Rattle.surjection.specs.Names.{comes_again, boundary_weight as boundary_weight_law, narrow_degree as narrow_degree_law, equal_neighbours_from, gap_of, surjection_fault, AddsList};
 
 use operad_law::basis::{Narrow, SignedBasis};
 use operad_law::formal_sum::FormalSum;
+use operad_law::perm::stands_in;
 use smallvec::SmallVec;
 use std::alloc::{AllocError, Global};
 use std::cmp::Ordering;
@@ -203,13 +204,6 @@ impl Narrow for Surj {
     ghost narrow_boundary = { narrow };
 
     ghost narrow_degree = { narrow_degree_law };
-}
-
-// Whether a value is in a list.
-pub(crate) fn stands_in(values: &[u8], value: u8) -> bool
-    ensures { result ≡ (occurs value values.now == 1) }
-{
-    values.contains(&value)
 }
 
 // The greatest value.

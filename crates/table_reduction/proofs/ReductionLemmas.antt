@@ -4,7 +4,7 @@ use Rattle.barratt_eccles.specs.Generators.{IsGenerator}
 use Rattle.table_reduction_law.{specs.Names.{tuple_arity, tuple_degree, binomial, reduced_lists, table_reduction, unused, IsPermutationOf, IsTuple, permuted_tuple, tuple_boundary}, proofs.FormalSums.{reduction_action_law, reduction_boundary_law, value_at-table_reduction}, proofs.ReducedLists.reduced_lists-onto, proofs.ReductionBoundary.reduced-walked, proofs.ReductionWalks.walk, proofs.RowCounts.reduced_lists-length, proofs.UnusedEntries.unused-none}
 use Rattle.operad_law.specs.FormalSums.{IsSameSum}
 use Rattle.signed_sum.{proofs.Names.{numbers_from-least, occurs-01, range-in}, specs.Names.{IsDistinct, is_degenerate, less, numbers_from, occurs, entry_at, normalized, total, value_at}}
-use Rattle.surjection.{proofs.RefusalLemmas.degenerate-is, specs.Names.{among, arity-is, equal_neighbours_from, gap_fault, gap_of, neighbours_fault, surjection_fault}, specs.declared.surj.NotASurjection.TheVariants.{Empty, TooLong}}
+use Rattle.surjection.{proofs.RefusalLemmas.degenerate-is, specs.Names.{arity-is, equal_neighbours_from, gap_fault, gap_of, neighbours_fault, surjection_fault}, specs.declared.surj.NotASurjection.TheVariants.{Empty, TooLong}}
 use Rattle.surjection_law.specs.Names.{surjection_boundary, IsOnto, arity}
 use Rattle.table_reduction.{proofs.WalkLemmas.needed-ahead, specs.Walks.{AddsLists, needed, weight_needed}}
 
@@ -23,7 +23,7 @@ not_some (Some x) e = absurd (cc)
 
 pub faultless : (r : ℕ) (u : List ℕ) → 1 ≤ r → r ≤ 32 → 1 ≤ length u → length u ≤ 255 → IsOnto r u → is_degenerate u ≡ false → surjection_fault u ≡ None
 faultless r u one narrow some short onto plain =
-    let top : arity u ≡ r = arity-is r u (among r u (λ v o. sym (onto v) ∙ o)) onto one in
+    let top : arity u ≡ r = arity-is r u onto one in
     let a : (length u == 0) ≡ false = ne_eqb (length u) 0 (λ e. omega (arith, e, some)) in
     let b = le-ltb 255 (length u) short in
     let c : nat_lt 32 (arity u) ≡ false = le-ltb 32 (arity u) (omega (arith, top)) in

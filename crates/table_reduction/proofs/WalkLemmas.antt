@@ -84,7 +84,7 @@ plain-more x (y ∷ z ∷ u) d l =
     or-split true b e = absurd (cc)
     or-split false b e = (refl, e)
 
-walk-nothing : (later : List (List ℕ)) (xs used : List ℕ) (h : List ℕ → ℤ) → ((u : List ℕ) → h u ≡ pos 0) → walk later xs used h ≡ pos 0
+pub walk-nothing : (later : List (List ℕ)) (xs used : List ℕ) (h : List ℕ → ℤ) → ((u : List ℕ) → h u ≡ pos 0) → walk later xs used h ≡ pos 0
 walk-nothing later xs used h z = ap (walk later xs used) (fun_ext z) ∙ walk-zero later xs used
 
 -- where nothing goes on with the next entry

@@ -1,10 +1,10 @@
 //! The walk over the lists that come from a tuple.
-ghost use Rattle.std.specs.Prelude.{◌≡◌, ◌==◌, ◌≤◌, ◌+◌, ◌^◌, ◌∷◌, [], false, All, OnOk};
+ghost use Rattle.std.specs.Prelude.{◌≡◌, ◌≤◌, ◌+◌, ◌^◌, ◌∷◌, [], false, All, OnOk};
 ghost use Rattle.signed_sum.specs.Names.{IsDistinct, is_degenerate, occurs, weight_of};
 ghost use Rattle.table_reduction.specs.Walks.{AddsLists, is_last, needed};
 
 use operad_law::formal_sum::{FormalSum, SumEnd};
-use operad_law::perm::Perm;
+use operad_law::perm::{Perm, stands_in};
 use std::alloc::{AllocError, Global};
 use surjection::surj::{NotASurjection, Surj};
 
@@ -59,7 +59,7 @@ impl Walk {
         let Some((value, rest)) = left.split_first() else {
             return self.end_row(alloc, later);
         };
-        if contains(self.used.as_slice(), *value) {
+        if stands_in(self.used.as_slice(), *value) {
             return self.add_from(alloc, rest, later);
         }
         if ends_with(self.values.as_slice(), *value) {
@@ -123,13 +123,6 @@ impl Walk {
             Err(SumEnd::TooLarge) => unreachable!(),
         }
     }
-}
-
-/// Whether a value is in a list.
-pub fn contains(values: &[u8], value: u8) -> bool
-    ensures { result ≡ (occurs value values.now == 1) }
-{
-    values.contains(&value)
 }
 
 /// Whether a value is the last of a list.

@@ -1,5 +1,5 @@
 -- The tuples and the terms of a May element, and their number.
-use Rattle.signed_sum.{proofs.Names.length-numbers_from, specs.Names.{is_degenerate, numbers_from, kept_terms, unit_terms}}
+use Rattle.signed_sum.{proofs.Names.{All-kept_terms, length-numbers_from}, specs.Names.{is_degenerate, numbers_from, unit_terms}}
 use Rattle.std.proofs.{Common.{◌≡◌, ℕ, zero, suc, ◌+◌, ◌-◌, ◌*◌, ◌^◌, ◌≤◌, false, List, [], ◌∷◌, ◌++◌, refl, sym, ◌∙◌, ap, arith, map, subst, inl, inr, ℤ, pos, length-append, All, flat_map, length}, Math.Nat.{pow-succ', pow-zero}, lemmas.Bool.cases_Bool, lemmas.List.length-map, lemmas.List.Elements.{All-append, All-cons, All-head, All-map, All-nil, All-tail, All-weaker}}
 use Rattle.surjection_law.specs.Names.{IsOnto}
 use Rattle.table_reduction_law.{proofs.MayBoundary.{lead-tuple, tuple-append}, proofs.PowerPairs.power-perm, proofs.ReducedLists.reduced_lists-onto, proofs.RowCounts.reduced_lists-length, specs.Names.{binomial, CandidateCountLaw, MayTermsLaw, ReducedListsLaw, cycle_power, pair_count, leading_entries, may_candidates, may_element, may_tuples, power_pairs, reduced_lists, IsTuple}}
@@ -45,23 +45,16 @@ one-tuple p d (w ∷ ws) le k e =
     let q : length ws ≡ d = omega (arith, e) in
     subst (λ (n : ℕ). All (λ u. IsOnto p u × (length u ≡ p + n)) (reduced_lists (w ∷ ws))) q (reduced_lists-onto p w ws le k)
 
-kept-all : (P : List ℕ → Type 0) (us : List (List ℕ)) → All P us → All (λ (t : List ℕ × ℤ). P t.0 × (is_degenerate t.0 ≡ false)) (kept_terms is_degenerate (unit_terms us))
-kept-all P [] h = All-nil (λ (t : List ℕ × ℤ). P t.0 × (is_degenerate t.0 ≡ false))
-kept-all P (u ∷ us) h =
-    let ih = kept-all P us (All-tail P u us h) in
-    elim (cases_Bool (is_degenerate u)) [
-      | inl d ↦ rw d ih
-      | inr d ↦ rw d (All-cons (λ (t : List ℕ × ℤ). P t.0 × (is_degenerate t.0 ≡ false)) (u, pos 1) (kept_terms is_degenerate (unit_terms us)) (All-head P u us h, d) ih)
-    ]
-
 pub may_terms_law : MayTermsLaw
 may_terms_law = record {
   tuples = may_tuples-all;
-  terms = λ p d le.
-      All-weaker (λ (t : List ℕ × ℤ). IsTerm p d t.0 × (is_degenerate t.0 ≡ false)) (λ (t : List ℕ × ℤ). IsOnto p t.0 × (length t.0 ≡ p + d) × (is_degenerate t.0 ≡ false))
-      (λ t h. (h.0.0, h.0.1, h.1)) (may_element p d)
-      (kept-all (IsTerm p d) (may_candidates p d)
-      (All-flat_map (IsTerm p d) (λ w. IsTuple p w × (length w ≡ d + 1)) reduced_lists (may_tuples p d) (λ w k. one-tuple p d w le k.0 k.1) (may_tuples-all p d)));
+  terms = λ p d le. (
+      let P : List ℕ → Type 0 = λ u. IsOnto p u × (length u ≡ p + d) × (is_degenerate u ≡ false) in
+      let Q : List ℕ → Type 0 = λ u. is_degenerate u ≡ false → P u in
+      All-kept_terms is_degenerate P (unit_terms (may_candidates p d))
+      (All-map (λ (t : List ℕ × ℤ). Q t.0) (λ u. (u, pos 1)) (may_candidates p d)
+      (All-flat_map Q (λ w. IsTuple p w × (length w ≡ d + 1)) reduced_lists (may_tuples p d)
+      (λ w k. All-weaker (IsTerm p d) Q (λ u h plain. (h.0, h.1, plain)) (reduced_lists w) (one-tuple p d w le k.0 k.1)) (may_tuples-all p d))));
 }
 
 -- counting

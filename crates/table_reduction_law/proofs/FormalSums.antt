@@ -1,8 +1,8 @@
 -- The laws on formal sums, from the laws on sums tested by functions.
-use Rattle.std.proofs.{Common.{◌≡◌, ℕ, zero, suc, ◌+◌, ◌≤◌, Bool, cond, ◌==◌, ◌&&◌, ◌||◌, List, [], ◌∷◌, ◌++◌, map, refl, sym, ◌∙◌, ap, arith, inl, inr, ℤ, pos, ◌+ℤ◌, neg_ℤ, flat_map}, lemmas.Int.ints, lemmas.Bool.cases_Bool, lemmas.Bool.Decides.nat_tests}
-use Rattle.signed_sum.{proofs.Names.{without_one_terms, without_one-without_one, occurs-self, occurs-tail, fun_ext, restricted-gone, restricted-there, total-append, total-map, value_at-kept_terms, value_at-unit_terms}, specs.Names.{is_degenerate, is_same_list, numbers_from, occurs, unless_empty, IsNormalized, alternating_terms, kept_terms, normalized, restricted, total, unit_terms, value_at, without_each, without_one}}
+use Rattle.std.proofs.{Common.{◌≡◌, ℕ, zero, suc, ◌+◌, ◌≤◌, Bool, cond, ◌==◌, ◌&&◌, ◌||◌, List, [], ◌∷◌, ◌++◌, map, refl, sym, ◌∙◌, ap, arith, inl, inr, ℤ, pos, ◌+ℤ◌, ◌-ℤ◌, flat_map}, lemmas.Int.ints, lemmas.Bool.cases_Bool, lemmas.Bool.Decides.nat_tests}
+use Rattle.signed_sum.{proofs.Names.{without_one_terms, without_one-without_one, at_turn, occurs-self, occurs-tail, fun_ext, restricted-gone, restricted-there, total-append, total-map, value_at-kept_terms, value_at-nothing, value_at-sub, value_at-sum, value_at-unit_terms}, specs.Names.{is_degenerate, is_same_list, numbers_from, occurs, unless_empty, IsNormalized, alternating_terms, kept_terms, normalized, power_sum, restricted, total, unit_terms, value_at, without_each, without_one}}
 use Rattle.surjection_law.{proofs.BoundaryPlaces.normalized-boundary, specs.Names.{surjection_boundary, without_place, IsOnto, IsRelabelling}}
-use Rattle.table_reduction_law.{proofs.DegenerateTuples.reduced-degenerate, proofs.MayBoundary.{boundary, even-lists, may-cong, odd-lists}, proofs.Permutations.{Within, map-within, moves-cycle, perm-within, place, reduced-moved, relabels, tuple-moved, uncycle, within-tail}, proofs.PowerPairs.{may_sum, may_tuple_sum, pair_sum, sum_below}, proofs.ReductionBoundary.{boundary-cong, chain-law, face_sum, reduced-walked, reduction_sum, tuple_good, walked}, proofs.ReductionWalks.walk-cong, proofs.TupleActions.{face_sum-degenerate, face_sum-map, vanishes}, specs.Names.{DegenerateTupleLaw, MayRelations, ReductionActionLaw, ReductionBoundaryLaw, TupleActionLaw, TupleBoundaryLaw, cycle, cycle_power, pair_count, leading_entries, may_candidates, may_element, may_tuples, power_pairs, turned, reduced_lists, table_reduction, IsTuple, entry_at, is_degenerate_tuple, is_zero_tuple, permuted_tuple, tuple_boundary}}
+use Rattle.table_reduction_law.{proofs.DegenerateTuples.reduced-degenerate, proofs.MayBoundary.{boundary, even-lists, may-cong, odd-lists}, proofs.Permutations.{Within, moves-cycle, onto-turned, onto-within, perm-within, place, reduced-moved, relabels, tuple-moved, turned-at, turned-less, uncycle, within-tail}, proofs.PowerPairs.{may_sum, may_tuple_sum, pair_sum, sum_below}, proofs.ReductionBoundary.{boundary-cong, chain-law, face_sum, reduced-walked, reduction_sum, tuple_good, walked}, proofs.ReductionWalks.walk-cong, proofs.TupleActions.{face_sum-degenerate, face_sum-map, vanishes}, specs.Names.{DegenerateTupleLaw, MayRelations, ReductionActionLaw, ReductionBoundaryLaw, TupleActionLaw, TupleBoundaryLaw, cycle, cycle_power, pair_count, leading_entries, may_candidates, may_element, may_tuples, power_pairs, turned, turned_values, reduced_lists, table_reduction, IsTuple, entry_at, is_degenerate_tuple, is_zero_tuple, permuted_tuple, tuple_boundary}}
 
 -- values of formal sums
 
@@ -30,7 +30,7 @@ pub sum_below-first : (n : ℕ) (f : ℕ → ℤ) → sum_below (suc n) f ≡ f 
 sum_below-first zero f = omega (arith, ints)
 sum_below-first (suc n) f = let a = sum_below-first n f in omega (arith, ints)
 
-pub total-numbers_from : (a n : ℕ) (f : ℕ → ℤ) → total f (numbers_from a n) ≡ sum_below n (λ e. f (a + e))
+total-numbers_from : (a n : ℕ) (f : ℕ → ℤ) → total f (numbers_from a n) ≡ sum_below n (λ e. f (a + e))
 total-numbers_from a zero f = refl
 total-numbers_from a (suc n) f =
     let e : (λ (e : ℕ). f (suc a + e)) ≡ (λ e. f (a + suc e)) = fun_ext (λ e. let q : suc a + e ≡ a + suc e = omega arith in ap f q) in
@@ -91,9 +91,6 @@ reduced-cong r w f g k t h = reduced-walked r w f k t ∙ go w t ∙ sym (reduce
 
 -- relabelled lists and tuples
 
-within : (r : ℕ) (u : List ℕ) → IsOnto r u → Within r u
-within r u o v h = sym (o v) ∙ h
-
 test-moved : (r : ℕ) (t i : ℕ → ℕ) (x y : ℕ) → IsRelabelling r t i → occurs x (numbers_from 1 r) ≡ 1 → occurs y (numbers_from 1 r) ≡ 1 → (t x == t y) ≡ (x == y)
 test-moved r t i x y m h k =
     let n : t x ≡ t y → x ≡ y = λ q. sym (m.there_back x h) ∙ ap i q ∙ m.there_back y k in grind (arith, nat_tests, n)
@@ -126,7 +123,7 @@ reduction_action_law r t w h n k l =
     value_at-table_reduction h (permuted_tuple t w)
     ∙ reduced-moved r (entry_at t) (place t) w (normalized h) m l
     ∙ reduced-cong r w (λ u. normalized h (map (entry_at t) u)) (normalized (λ u. h (map (entry_at t) u))) n l
-    (λ u o. normalized-map r (entry_at t) (place t) h u m (within r u o))
+    (λ u o. normalized-map r (entry_at t) (place t) h u m (onto-within r u o))
     ∙ sym (value_at-table_reduction (λ u. h (map (entry_at t) u)) w)
 
 -- tuples
@@ -162,18 +159,14 @@ tuple_action_law = record {
 may-lists : (p d : ℕ) (f g : List ℕ → ℤ) → 1 ≤ p → ((u : List ℕ) → IsOnto p u → f u ≡ g u) → may_sum p d f ≡ may_sum p d g
 may-lists p d f g k h = may-cong p d (λ w. reduction_sum w f) (λ w. reduction_sum w g) (λ w t. reduced-cong p w f g k t h)
 
-turned-within : (p e : ℕ) (u : List ℕ) → Within p u → Within p (turned p e u)
-turned-within p zero u k v h = k v h
-turned-within p (suc e) u k v h = map-within p (cycle p) (uncycle p) v (turned p e u) (moves-cycle p) (turned-within p e u k) h
-
-is_degenerate-turned : (p e : ℕ) (u : List ℕ) → Within p u → is_degenerate (turned p e u) ≡ is_degenerate u
-is_degenerate-turned p zero u k = refl
-is_degenerate-turned p (suc e) u k = is_degenerate-map p (cycle p) (uncycle p) (turned p e u) (moves-cycle p) (turned-within p e u k) ∙ is_degenerate-turned p e u k
+is_degenerate-turned : (p e : ℕ) (u : List ℕ) → IsOnto p u → is_degenerate (turned p e u) ≡ is_degenerate u
+is_degenerate-turned p zero u o = refl
+is_degenerate-turned p (suc e) u o = is_degenerate-map p (cycle p) (uncycle p) (turned p e u) (moves-cycle p) (onto-within p (turned p e u) (onto-turned p e u o)) ∙ is_degenerate-turned p e u o
 
 turned-lists : (p d e : ℕ) (h : List ℕ → ℤ) → 1 ≤ p → may_sum p d (λ u. normalized h (turned p e u)) ≡ value_at (λ u. h (turned p e u)) (may_element p d)
 turned-lists p d e h k =
     may-lists p d (λ u. normalized h (turned p e u)) (normalized (λ u. h (turned p e u))) k
-    (λ u o. ap (λ b. cond b (pos 0) (h (turned p e u))) (is_degenerate-turned p e u (within p u o)))
+    (λ u o. ap (λ b. cond b (pos 0) (h (turned p e u))) (is_degenerate-turned p e u o))
     ∙ sym (value_at-may_element p d (λ u. h (turned p e u)))
 
 boundary-lists : (p d : ℕ) (h : List ℕ → ℤ) → value_at (λ u. value_at h (surjection_boundary u)) (may_element p d) ≡ may_sum p d (λ u. without_place [] u (normalized h))
@@ -182,6 +175,14 @@ boundary-lists p d h = value_at-may_element p d (λ u. value_at h (surjection_bo
 plus-one : (p d : ℕ) (f : List ℕ → ℤ) → value_at f (may_element p (d + 1)) ≡ value_at f (may_element p (suc d))
 plus-one p d f = let e : d + 1 ≡ suc d = omega arith in ap (λ j. value_at f (may_element p j)) e
 
+turned-total : (p n : ℕ) (h : List ℕ → ℤ) (x : List (List ℕ × ℤ)) → sum_below n (λ e. value_at (λ u. h (turned p e u)) x) ≡ value_at (λ u. value_at h (power_sum (turned_values p) n u)) x
+turned-total p zero h x = sym (value_at-nothing x)
+turned-total p (suc n) h x =
+    let a = turned-total p n h x in
+    let b = value_at-sum (at_turn (turned_values p) n h) (λ u. value_at h (power_sum (turned_values p) n u)) x in
+    let c = ap (λ f. value_at f x) (fun_ext (turned-at p n h)) in
+    omega (arith, ints)
+
 pub may_relations : MayRelations
 may_relations = record {
   bottom = λ p h k. boundary-lists p 0 h ∙ boundary p 0 (normalized h) k;
@@ -189,12 +190,12 @@ may_relations = record {
       plus-one p d (λ u. value_at h (surjection_boundary u))
       ∙ boundary-lists p (suc d) h
       ∙ even-lists p d (normalized h) k q
-      ∙ (λ i. turned-lists p d 1 h k i +ℤ neg_ℤ (sym (value_at-may_element p d h) i));
+      ∙ (λ i. turned-lists p d 1 h k i -ℤ sym (value_at-may_element p d h) i)
+      ∙ sym (ap (λ f. value_at f (may_element p d)) (fun_ext (turned-less p h)) ∙ value_at-sub (λ u. h (map (cycle p) u)) h (may_element p d));
   odd = λ p d h k q.
       plus-one p d (λ u. value_at h (surjection_boundary u))
       ∙ boundary-lists p (suc d) h
       ∙ odd-lists p d (normalized h) k q
       ∙ ap (sum_below p) (fun_ext (λ e. turned-lists p d e h k))
-      ∙ sym (total-numbers_from 0 p (λ e. value_at (λ u. h (turned p e u)) (may_element p d))
-      ∙ ap (sum_below p) (fun_ext (λ e. let q : 0 + e ≡ e = omega arith in ap (λ j. value_at (λ u. h (turned p j u)) (may_element p d)) q)));
+      ∙ turned-total p p h (may_element p d);
 }

@@ -1,8 +1,8 @@
--- Permutations as maps of values, and table reduction of a moved tuple.
-use Rattle.std.proofs.{Common.{◌≡◌, ℕ, zero, suc, ◌+◌, ◌<◌, ◌≤◌, cond, List, [], ◌∷◌, ◌++◌, map, refl, sym, ◌∙◌, ap, arith, ◌==◌, inl, inr, eq-eqb, ne_eqb, take, ℤ, length, pred}, lemmas.Bool.Decides.{eqb_tells, nat_tests}, lemmas.List.{length-map, map-append, take-map}}
-use Rattle.signed_sum.{proofs.Names.{range-in, range-out, occurs-01, occurs-apart, occurs-self, occurs-tail, total-map}, specs.Names.{IsDistinct, numbers_from, occurs, total}}
+-- Permutations as maps of values, turns by the cycle, and table reduction of a moved tuple.
+use Rattle.std.proofs.{Common.{◌≡◌, ℕ, zero, suc, ◌+◌, ◌<◌, ◌≤◌, cond, List, [], ◌∷◌, ◌++◌, map, refl, sym, ◌∙◌, ap, arith, ◌==◌, inl, inr, eq-eqb, ne_eqb, get_or, take, ℤ, pos, ◌-ℤ◌, ◌*ℤ◌, length, pred}, lemmas.Int.ints, lemmas.Bool.Decides.{eqb_tells, nat_tests}, lemmas.List.{length-map, map-append, take-map}}
+use Rattle.signed_sum.{proofs.Names.{at_turn, one-mul, range-in, range-out, occurs-01, occurs-apart, occurs-self, occurs-tail, total-map}, specs.Names.{IsDistinct, after_turns, difference, numbers_from, occurs, total, value_at}}
 use Rattle.surjection_law.specs.Names.{IsOnto, IsRelabelling}
-use Rattle.table_reduction_law.{proofs.ReductionBoundary.{permutation-length, reduction_sum}, proofs.UnusedEntries.{unused-in, unused-out}, specs.Names.{cycle, cons_if_zero, row_lengths, rows, unused, IsPermutationOf, IsTuple, entry_at}}
+use Rattle.table_reduction_law.{proofs.ReductionBoundary.{permutation-length, reduction_sum}, proofs.UnusedEntries.{unused-in, unused-out}, specs.Names.{cycle, cons_if_zero, row_lengths, rows, turned, turned_values, unused, IsPermutationOf, IsTuple, entry_at}}
 
 -- a list of values as a map
 
@@ -26,16 +26,16 @@ at-place (y ∷ t) x h = elim (eqb_tells x y) [
     later zero k = absurd (omega (arith, k))
     later (suc n) k = refl
 
-at-has : (t : List ℕ) (v : ℕ) → v < length t → occurs (entry_at t (suc v)) t ≡ 1
-at-has [] v h = absurd (omega (arith, h))
-at-has (y ∷ t) zero h = occurs-self y t
-at-has (y ∷ t) (suc v) h = occurs-tail (entry_at t (suc v)) y t (at-has t v (omega (arith, h)))
+at-has : (t : List ℕ) (v d : ℕ) → v < length t → occurs (get_or t v d) t ≡ 1
+at-has [] v d h = absurd (omega (arith, h))
+at-has (y ∷ t) zero d h = occurs-self y t
+at-has (y ∷ t) (suc v) d h = occurs-tail (get_or t v d) y t (at-has t v d (omega (arith, h)))
 
 place-at : (t : List ℕ) (v : ℕ) → IsDistinct t → v < length t → place t (entry_at t (suc v)) ≡ suc v
 place-at [] v d h = absurd (omega (arith, h))
 place-at (y ∷ t) zero d h = rw (eq-eqb y y refl) refl
 place-at (y ∷ t) (suc v) d h =
-    let m : occurs (entry_at t (suc v)) t ≡ 1 = at-has t v (omega (arith, h)) in
+    let m : occurs (entry_at t (suc v)) t ≡ 1 = at-has t v 0 (omega (arith, h)) in
     rw (ne_eqb (entry_at t (suc v)) y (λ e. omega (arith, d.0, m, ap (λ j. occurs j t) e))) (ap suc (place-at t v d.1 (omega (arith, h))))
 
 pub relabels : (r : ℕ) (t : List ℕ) → IsPermutationOf r t → IsRelabelling r (entry_at t) (place t)
@@ -46,7 +46,7 @@ relabels r t k = record { there = go; back = home; there_back = round; back_ther
 
     one : (v : ℕ) → (1 ≤ v) × (v < 1 + r) → occurs (entry_at t v) t ≡ 1
     one zero h = absurd (omega (arith, h.0))
-    one (suc v) h = at-has t v (omega (arith, h.1, c))
+    one (suc v) h = at-has t v 0 (omega (arith, h.1, c))
 
     go : (v : ℕ) → occurs v (numbers_from 1 r) ≡ 1 → occurs (entry_at t v) (numbers_from 1 r) ≡ 1
     go v h = sym (k.onto (entry_at t v)) ∙ one v (range-out v 1 r h)
@@ -62,6 +62,12 @@ relabels r t k = record { there = go; back = home; there_back = round; back_ther
     round v h = two v (range-out v 1 r h)
 
 -- the cycle
+
+pub cycle-last : (p : ℕ) → cycle p p ≡ 1
+cycle-last p = rw (eq-eqb p p refl) refl
+
+pub cycle-other : (p v : ℕ) → (v ≡ p → ⊥) → cycle p v ≡ suc v
+cycle-other p v n = rw (ne_eqb v p n) refl
 
 abbrev pub uncycle : ℕ → ℕ → ℕ
 uncycle p v = cond (v == 1) p (pred v)
@@ -83,6 +89,18 @@ moves-cycle p = record { there = λ v h. go v (range-out v 1 p h); back = λ v h
     about zero h = absurd (omega (arith, h.0))
     about (suc v) h = let b = h.1 in grind (arith, nat_tests)
 
+-- turns
+
+pub after-turned : (p n : ℕ) (u : List ℕ) → after_turns (turned_values p) n u ≡ (turned p n u, pos 1)
+after-turned p zero u = refl
+after-turned p (suc n) u = λ i. (map (cycle p) (after-turned p n u i).0, (after-turned p n u i).1 *ℤ pos 1)
+
+pub turned-at : (p n : ℕ) (h : List ℕ → ℤ) (u : List ℕ) → at_turn (turned_values p) n h u ≡ h (turned p n u)
+turned-at p n h u = ap (λ (q : List ℕ × ℤ). q.1 *ℤ h q.0) (after-turned p n u) ∙ one-mul (h (turned p n u))
+
+pub turned-less : (p : ℕ) (h : List ℕ → ℤ) (u : List ℕ) → value_at h (difference (turned_values p) u) ≡ h (map (cycle p) u) -ℤ h u
+turned-less p h u = omega (arith, ints)
+
 -- moved lists
 
 -- all values are among 1 to r
@@ -92,8 +110,14 @@ Within r w = (v : ℕ) → occurs v w ≡ 1 → occurs v (numbers_from 1 r) ≡ 
 pub within-tail : (r x : ℕ) (w : List ℕ) → Within r (x ∷ w) → Within r w
 within-tail r x w k v h = k v (occurs-tail v x w h)
 
+pub within-at : (r : ℕ) (w : List ℕ) (k d : ℕ) → Within r w → k < length w → (1 ≤ get_or w k d) × (get_or w k d ≤ r)
+within-at r w k d h l = let b = range-out (get_or w k d) 1 r (h (get_or w k d) (at-has w k d l)) in (b.0, omega (arith, b.1))
+
+pub onto-within : (r : ℕ) (w : List ℕ) → IsOnto r w → Within r w
+onto-within r w o v h = sym (o v) ∙ h
+
 pub perm-within : (r : ℕ) (w : List ℕ) → IsPermutationOf r w → Within r w
-perm-within r w k v h = sym (k.onto v) ∙ h
+perm-within r w k = onto-within r w k.onto
 
 pub map-in : (t : ℕ → ℕ) (x : ℕ) (w : List ℕ) → occurs x w ≡ 1 → occurs (t x) (map t w) ≡ 1
 map-in t x [] h = absurd (omega (arith, h))
@@ -115,9 +139,13 @@ map-distinct r t i (y ∷ w) m k d = (map-has r t i y w m (k y (occurs-self y w)
 
 pub onto-moved : (r : ℕ) (t i : ℕ → ℕ) (w : List ℕ) → IsRelabelling r t i → IsOnto r w → IsOnto r (map t w)
 onto-moved r t i w m o v = elim (occurs-01 v (numbers_from 1 r)) [
-  | inl z ↦ elim (occurs-01 v (map t w)) [ inl q ↦ q ∙ sym z | inr q ↦ absurd (let b = map-within r t i v w m (λ x h. sym (o x) ∙ h) q in omega (arith, b, z)) ]
+  | inl z ↦ elim (occurs-01 v (map t w)) [ inl q ↦ q ∙ sym z | inr q ↦ absurd (let b = map-within r t i v w m (onto-within r w o) q in omega (arith, b, z)) ]
   | inr z ↦ ap (λ j. occurs j (map t w)) (sym (m.back_there v z)) ∙ map-in t (i v) w (o (i v) ∙ m.back v z) ∙ sym z
 ]
+
+pub onto-turned : (p n : ℕ) (u : List ℕ) → IsOnto p u → IsOnto p (turned p n u)
+onto-turned p zero u o = o
+onto-turned p (suc n) u o = onto-moved p (cycle p) (uncycle p) (turned p n u) (moves-cycle p) (onto-turned p n u o)
 
 pub perm-moved : (r : ℕ) (t i : ℕ → ℕ) (w : List ℕ) → IsRelabelling r t i → IsPermutationOf r w → IsPermutationOf r (map t w)
 perm-moved r t i w m k = record { distinct = map-distinct r t i w m (perm-within r w k) k.distinct; onto = onto-moved r t i w m k.onto }

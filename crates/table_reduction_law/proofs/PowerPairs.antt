@@ -1,7 +1,7 @@
 -- May elements in tuples.
-use Rattle.std.proofs.{Common.{◌≡◌, ℕ, zero, suc, ◌+◌, ◌%◌, ◌≤◌, List, [], ◌∷◌, ◌++◌, map, refl, sym, ◌∙◌, ap, arith, append_assoc, append-nil, cond, eq-eqb, ne_eqb, ◌<◌, ℤ, pos, ◌+ℤ◌, neg_ℤ}, lemmas.Int.ints, lemmas.List.map-append}
+use Rattle.std.proofs.{Common.{◌≡◌, ℕ, zero, suc, ◌+◌, ◌%◌, ◌≤◌, List, [], ◌∷◌, ◌++◌, map, refl, sym, ◌∙◌, ap, arith, append_assoc, append-nil, ℤ, pos, ◌+ℤ◌, neg_ℤ}, lemmas.Int.ints, lemmas.List.map-append}
 use Rattle.signed_sum.{proofs.Names.numbers_from-distinct, specs.Names.{numbers_from, unless_empty, without_one}}
-use Rattle.table_reduction_law.{proofs.Permutations.{moves-cycle, perm-moved}, proofs.ReductionBoundary.{face_sum, reduction_sum}, specs.Names.{cycle, cycle_power, pair_count, leading_entries, IsPermutationOf, IsTuple}}
+use Rattle.table_reduction_law.{proofs.Permutations.{cycle-last, cycle-other, moves-cycle, perm-moved}, proofs.ReductionBoundary.{face_sum, reduction_sum}, specs.Names.{cycle, cycle_power, pair_count, leading_entries, IsPermutationOf, IsTuple}}
 
 -- the sum of f below n
 abbrev pub sum_below : ℕ → (ℕ → ℤ) → ℤ
@@ -31,16 +31,13 @@ may_sum p d h = may_tuple_sum p d (λ w. reduction_sum w h)
 
 -- powers of the cycle
 
-cycle-below : (p v : ℕ) → v < p → cycle p v ≡ suc v
-cycle-below p v h = ap (λ b. cond b 1 (suc v)) (ne_eqb v p (λ e. omega (arith, e, h)))
-
 turn-range : (p a m : ℕ) → a + m ≤ p → map (cycle p) (numbers_from a m) ≡ numbers_from (suc a) m
 turn-range p a zero h = refl
-turn-range p a (suc m) h = λ i. cycle-below p a (omega (arith, h)) i ∷ turn-range p (suc a) m (omega (arith, h)) i
+turn-range p a (suc m) h = λ i. cycle-other p a (λ e. omega (arith, e, h)) i ∷ turn-range p (suc a) m (omega (arith, h)) i
 
 turn-last : (p a m : ℕ) → a + m ≡ p → map (cycle p) (numbers_from a (suc m)) ≡ numbers_from (suc a) m ++ (1 ∷ [])
-turn-last p a zero h = let e : a ≡ p = omega (arith, h) in ap (λ b. cond b 1 (suc a) ∷ []) (eq-eqb a p e)
-turn-last p a (suc m) h = λ i. cycle-below p a (omega (arith, h)) i ∷ turn-last p (suc a) m (omega (arith, h)) i
+turn-last p a zero h = let e : a ≡ p = omega (arith, h) in ap (λ v. v ∷ []) (ap (cycle p) e ∙ cycle-last p)
+turn-last p a (suc m) h = λ i. cycle-other p a (λ e. omega (arith, e, h)) i ∷ turn-last p (suc a) m (omega (arith, h)) i
 
 power-form : (p e m : ℕ) → e + m ≡ p → cycle_power p e ≡ numbers_from (suc e) m ++ numbers_from 1 e
 power-form p zero m h = let e : m ≡ p = omega (arith, h) in ap (λ j. numbers_from 1 j) (sym e) ∙ sym (append-nil (numbers_from 1 m))

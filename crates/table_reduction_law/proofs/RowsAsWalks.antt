@@ -6,7 +6,7 @@ use Rattle.table_reduction_law.{proofs.ReductionWalks.{Good, good-distinct, good
 
 -- lists of the same values have the same length
 
-count-remove : (x : ℕ) (w : List ℕ) → IsDistinct w → occurs x w ≡ 1 → length w ≡ suc (length (unused (x ∷ []) w))
+pub count-remove : (x : ℕ) (w : List ℕ) → IsDistinct w → occurs x w ≡ 1 → length w ≡ suc (length (unused (x ∷ []) w))
 count-remove x [] d h = absurd (omega (arith, h))
 count-remove x (y ∷ w) d h = elim (ℕ_discrete y x) [
   | yes e ↦

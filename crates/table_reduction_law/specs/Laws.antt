@@ -1,9 +1,9 @@
 -- The laws of tuples, of table reduction and of May elements. Formal sums are tested by functions: two
 -- are equal where each function has the same value at both.
-use Rattle.std.specs.Prelude.{◌≡◌, ℕ, ◌+◌, ◌≤◌, ◌%◌, false, cond, sum, List, [], ◌∷◌, All, length, map, ℤ, pos, negsuc, ◌-ℤ◌, IsTrue}
-use Rattle.signed_sum.specs.Names.{is_degenerate, is_same_list, numbers_from, total, value_at}
+use Rattle.std.specs.Prelude.{◌≡◌, ℕ, ◌+◌, ◌≤◌, ◌%◌, false, cond, sum, List, [], ◌∷◌, All, length, map, ℤ, pos, negsuc, IsTrue}
+use Rattle.signed_sum.specs.Names.{difference, is_degenerate, is_same_list, power_sum, total, value_at}
 use Rattle.surjection_law.specs.Names.{surjection_boundary, IsOnto}
-use Rattle.table_reduction_law.specs.{Tuples.{IsPermutationOf, IsTuple, entry_at, is_degenerate_tuple, permuted_tuple, tuple_boundary}, Reduction.{reduced_lists, row_lengths, table_reduction}, MayElements.{cycle, may_candidates, may_element, may_tuples, turned}, Counts.{ArePositive, binomial, candidate_count, in_turn}}
+use Rattle.table_reduction_law.specs.{Tuples.{IsPermutationOf, IsTuple, entry_at, is_degenerate_tuple, permuted_tuple, tuple_boundary}, Reduction.{reduced_lists, row_lengths, table_reduction}, MayElements.{may_candidates, may_element, may_tuples, turned_values}, Counts.{ArePositive, binomial, candidate_count, in_turn}}
 
 -- The boundary of the boundary of a tuple is zero.
 abbrev pub TupleBoundaryLaw : Type 0
@@ -55,18 +55,18 @@ pub record MayTermsLaw : Type 0 where
   pub terms : (p d : ℕ) → 1 ≤ p →
       All (λ t. IsOnto p t.0 × (length t.0 ≡ p + d) × (is_degenerate t.0 ≡ false)) (may_element p d)
 
--- The relations of the May elements. With T the cycle less the identity and N the sum of the powers
--- of the cycle, the boundary of the element of degree d + 1 is T of the element of degree d where d is even,
+-- The relations of the May elements. With T the turn less the identity and N the sum of the powers
+-- of the turn, the boundary of the element of degree d + 1 is T of the element of degree d where d is even,
 -- and N of it where d is odd. The boundary of the element of degree 0 is zero.
 pub record MayRelations : Type 0 where
   pub bottom : (p : ℕ) (h : List ℕ → ℤ) → 1 ≤ p →
       value_at (λ u. value_at h (surjection_boundary u)) (may_element p 0) ≡ pos 0
   pub even : (p d : ℕ) (h : List ℕ → ℤ) → 1 ≤ p → d % 2 ≡ 0 →
       value_at (λ u. value_at h (surjection_boundary u)) (may_element p (d + 1))
-      ≡ value_at (λ u. h (map (cycle p) u)) (may_element p d) -ℤ value_at h (may_element p d)
+      ≡ value_at (λ u. value_at h (difference (turned_values p) u)) (may_element p d)
   pub odd : (p d : ℕ) (h : List ℕ → ℤ) → 1 ≤ p → d % 2 ≡ 1 →
       value_at (λ u. value_at h (surjection_boundary u)) (may_element p (d + 1))
-      ≡ total (λ e. value_at (λ u. h (turned p e u)) (may_element p d)) (numbers_from 0 p)
+      ≡ value_at (λ u. value_at h (power_sum (turned_values p) p u)) (may_element p d)
 
 -- The number of lists from which a May element is made.
 abbrev pub CandidateCountLaw : Type 0

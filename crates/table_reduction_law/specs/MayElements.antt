@@ -1,8 +1,12 @@
 -- May elements.
-use Rattle.std.specs.Prelude.{ℕ, List, [], ◌∷◌, ◌++◌, flat_map, map, zero, suc, ℤ}
+use Rattle.std.specs.Prelude.{ℕ, List, [], ◌∷◌, ◌++◌, flat_map, map, zero, suc, ℤ, pos}
 use Rattle.signed_sum.specs.Names.{is_degenerate, numbers_from, kept_terms, unit_terms}
 pub use Rattle.signed_sum.specs.Permutations.{cycle, cycle_power, turned}
 use Rattle.table_reduction_law.specs.Reduction.{reduced_lists}
+
+-- the turn of a list of values: the cycle is applied to each; the sign is 1
+abbrev pub turned_values : ℕ → List ℕ → List ℕ × ℤ
+turned_values p u = (map (cycle p) u, pos 1)
 
 -- all lists of k pairs of a power and the next power, with exponents from 0 to p - 1
 abbrev pub power_pairs : ℕ → ℕ → List (List (List ℕ))

@@ -10,14 +10,14 @@ add_from-returns-then-ends_with-clause-sum t c =
     let x = c.in-Some.value.now in
     subst (λ (left : List ℕ). AddsLists c.args.later.now left used values c.args.self.now.sum c.args.self.now.sum) (sym c.in-Some.ensures.cases.0)
     (adds-pruned c.args.later.now x c.in-Some.rest.now used values c.args.self.now.sum
-    (occurs-no x used (ap (λ u. occurs x u == 1) (sym c.as_slice.ensures.value) ∙ sym c.contains.ensures ∙ c.if-contains.false))
+    (occurs-no x used (ap (λ u. occurs x u == 1) (sym c.as_slice.ensures.value) ∙ sym c.stands_in.ensures ∙ c.if-stands_in.false))
     (ap (is_last x) (sym c.as_slice-2.ensures.value) ∙ sym c.ends_with.ensures ∙ c.if-ends_with.true))
 
 pub add_from-add_value-requires : goal.add_from-add_value-requires
 add_from-add_value-requires t c =
     let x = c.in-Some.value.now in
     let e : c.args.left.now ≡ x ∷ c.in-Some.rest.now = c.in-Some.ensures.cases.0 in
-    let free = occurs-no x c.args.self.now.used.items (ap (λ u. occurs x u == 1) (sym c.as_slice.ensures.value) ∙ sym c.contains.ensures ∙ c.if-contains.false) in
+    let free = occurs-no x c.args.self.now.used.items (ap (λ u. occurs x u == 1) (sym c.as_slice.ensures.value) ∙ sym c.stands_in.ensures ∙ c.if-stands_in.false) in
     let apart = ap (is_last x) (sym c.as_slice-2.ensures.value) ∙ sym c.ends_with.ensures ∙ c.if-ends_with.false in
     let room = subst (λ (left : List ℕ). weight_of c.args.self.now.sum + needed c.args.later.now left c.args.self.now.used.items c.args.self.now.values.items ≤ 10 ^ 18) e c.requires.room in
     (omega (arith, ap length e), (subst IsDistinct e c.requires.row, (c.requires.rows, (free, (apart, (c.requires.plain, room))))))
