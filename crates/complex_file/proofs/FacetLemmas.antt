@@ -1,42 +1,10 @@
 -- The facets of a complex, one behind the other.
-use Rattle.std.{proofs.Common.{◌≡◌, ◌∙◌, ◌+◌, ◌<◌, ◌≤◌, ◌*◌, ◌-◌, ◌^◌, ◌&&◌, List, [], ◌∷◌, ◌++◌, ℕ, suc, Bool, true, false, cond, refl, sym, ap, subst, arith, length, drop, get_or, add-one, append-nil, not, nat_lt, option_map, append_assoc, drop-cons, lit<, Ok, Err, Some, None, nat_le, fold, is_none, leb-true, le-leb, ltb-false, ne_eqb}, specs.declared.option.Option.Option, specs.List.list_all, specs.List.Sorted.IsStrictlySortedBy, specs.Ordering.{nat_cmp, match_ordering}, specs.declared.cmp.Ordering.Ordering, specs.declared.cmp.Ordering.TheVariants.{Less, Equal, Greater}, specs.BTreeSet.insert_key, proofs.lemmas.Cmp.nat_cmp_total, proofs.lemmas.List.Folds.list_all-append, proofs.lemmas.Bool.{and_from, and_parts}, proofs.lemmas.Bool.Decides.nat_tests, proofs.Math.Nat.{mul-le-mul_right, pow-le-pow_right, pow-suc}}
-use Rattle.simplicial_law.proofs.Names.{sorted_inserted}
-use Rattle.complex_file.{specs.Names.{BlockFault, InputKind, LineFault, Fails, is_digit, is_not_empty, number_after, numbers, with_number, ascending, complex_fault, facet_fault, first_facet_fault, has_repeat, is_ascending, is_complex, is_facet, or_later, with_facet}, specs.Text.number, proofs.RepeatLemmas.{nothing_sorted, repeat_by_length, sorted_vertices}, proofs.Steps.{later_fault, later_none, fault_free, fault_found, none_from}}
-use Rattle.complex_file.specs.declared.fault.LineFault.TheVariants as fault
+use Rattle.std.{proofs.Common.{◌≡◌, ◌∙◌, ◌+◌, ◌<◌, ◌≤◌, ◌*◌, ◌-◌, ◌^◌, ◌&&◌, List, [], ◌∷◌, ◌++◌, ℕ, suc, Bool, true, false, cond, refl, sym, ap, subst, arith, length, append-nil, not, nat_lt, option_map, append_assoc, lit<, Ok, Some, None, nat_le, fold, is_none, leb-true, le-leb, ltb-false, ne_eqb}, specs.declared.option.Option.Option, specs.List.list_all, specs.List.Sorted.IsStrictlySortedBy, specs.Ordering.{nat_cmp, match_ordering}, specs.declared.cmp.Ordering.Ordering, specs.declared.cmp.Ordering.TheVariants.{Less, Equal, Greater}, specs.BTreeSet.insert_key, proofs.lemmas.List.Folds.list_all-append, proofs.lemmas.Bool.{and_from, and_parts}, proofs.lemmas.Bool.Decides.nat_tests, proofs.Math.Nat.{mul-le-mul_right, pow-le-pow_right, pow-suc}}
+use Rattle.complex_file.{specs.Names.{BlockFault, InputKind, is_digit, is_not_empty, number_after, numbers, with_number, ascending, complex_fault, facet_fault, first_facet_fault, has_repeat, is_ascending, is_complex, is_facet, or_later, with_facet}, specs.Text.number, proofs.RepeatLemmas.{nothing_sorted, repeat_by_length, sorted_vertices}, proofs.Steps.{later_none, fault_free, none_from}}
 
 -- numbers in front of others
 abbrev pub with_front : List ℕ → Option (List ℕ) → Option (List ℕ)
 with_front front = option_map (λ ns. front ++ ns)
-
--- ---- the first fault
-
--- the facet at a place is at fault
-pub fault_here : (facets before : List (List ℕ)) (at : ℕ) (f : List ℕ) (k : InputKind) → at < length facets → f ≡ get_or facets at f → with_facet before f ≡ Err k
-    → first_facet_fault before at (drop at facets) ≡ Some (record { kind = k; at = at })
-fault_here facets before at f k below is h =
-    rw (drop-cons facets at f below, ← is) (later_fault (facet_fault before f) k at (first_facet_fault (before ++ f ∷ []) (at + 1) (drop (suc at) facets)) (fault_found (facet_fault before f) (before ++ f ∷ []) k h))
-
--- the same, as the loop over the facets has it
-pub fault_at : (items facets before : List (List ℕ)) (at : ℕ) (f vs copy : List ℕ) (e : LineFault) (k : InputKind) → items ≡ facets → at < length items → f ≡ get_or items at f
-    → vs ≡ f → copy ≡ vs → Fails e (with_facet before copy) → e ≡ fault.Kind k → complex_fault items ≡ first_facet_fault before at (drop at items)
-    → Some (record { kind = k; at = at }) ≡ complex_fault facets
-fault_at items facets before at f vs copy e k same below is seen copied fails kind so_far =
-    let given : Fails (fault.Kind k) (with_facet before copy) = subst (λ (d : LineFault). Fails d (with_facet before copy)) kind fails in
-    let here : with_facet before f ≡ Err k = subst (λ (g : List ℕ). with_facet before g ≡ Err k) (copied ∙ seen) given in
-    sym (fault_here items before at f k below is here) ∙ sym so_far ∙ ap complex_fault same
-
--- it is not
-pub fault_later : (facets before more : List (List ℕ)) (at : ℕ) (f : List ℕ) → at < length facets → f ≡ get_or facets at f → with_facet before f ≡ Ok more
-    → first_facet_fault before at (drop at facets) ≡ first_facet_fault more (at + 1) (drop (at + 1) facets)
-fault_later facets before more at f below is h =
-    let free = fault_free (facet_fault before f) (before ++ f ∷ []) more h in
-    rw (drop-cons facets at f below, ← is, ← free.second, add-one) (later_none (facet_fault before f) at (first_facet_fault (before ++ f ∷ []) (suc at) (drop (suc at) facets)) free.first)
-
-pub fault_not_yet : (items before more : List (List ℕ)) (at : ℕ) (f vs copy : List ℕ) → at < length items → f ≡ get_or items at f
-    → vs ≡ f → copy ≡ vs → with_facet before copy ≡ Ok more → complex_fault items ≡ first_facet_fault before at (drop at items)
-    → complex_fault items ≡ first_facet_fault more (at + 1) (drop (at + 1) items)
-fault_not_yet items before more at f vs copy below is seen copied added so_far =
-    so_far ∙ fault_later items before more at f below is (subst (λ (g : List ℕ). with_facet before g ≡ Ok more) (copied ∙ seen) added)
 
 -- ---- a facet more
 

@@ -1,6 +1,6 @@
 -- Where the first fault of a text stands.
-use Rattle.std.{proofs.Common.{◌≡◌, ◌∙◌, ◌+◌, ◌<◌, ◌⊎◌, inl, inr, List, [], ◌∷◌, ◌++◌, ℕ, Bool, true, false, cond, refl, sym, ap, subst, arith, length, nat_lt, Ok, Err, Result, Some, None, count_by, ltb-true}, specs.Result.result_err}
-use Rattle.complex_file.{specs.Names.{InputKind, TooLong, Unfinished, is_line_end, lines, Fault, Place, Spelled, at_end, at_line, at_start, between, in_complex, in_map, at_prime, lines_spell, place_after, ◌>>=◌, IsLong, IsOnLine, IsUnfinished, ReadsTo}, specs.Input.{after_line, input_of}, specs.FaultTable.fault_at, proofs.FaultTable.line_table}
+use Rattle.std.{proofs.Common.{◌≡◌, ◌∙◌, ◌+◌, ◌⊎◌, inl, inr, List, [], ◌∷◌, ℕ, Bool, true, false, cond, refl, sym, ap, subst, arith, length, nat_lt, Ok, Err, Result, count_by, ltb-true}, specs.Result.result_err}
+use Rattle.complex_file.{specs.Names.{InputKind, TooLong, Unfinished, is_line_end, lines, Fault, Place, Spelled, at_end, at_line, at_start, between, lines_spell, place_after, ◌>>=◌, IsLong, IsOnLine, IsUnfinished, ReadsTo}, specs.Input.{after_line, input_of}, proofs.FaultTable.line_table}
 
 -- what reading lines gives: a fault on one of them, or the place that they lead to
 abbrev Reads : ℕ → Place → List (List ℕ) → Result Place Fault → Type 0

@@ -1,7 +1,7 @@
 -- The vertices of complexes, and where a map sends them.
 use Rattle.std.{proofs.Common.{◌≡◌, ◌∙◌, ◌+◌, ◌<◌, ◌≤◌, ◌&&◌, ◌||◌, not, List, [], ◌∷◌, ◌++◌, ℕ, suc, Bool, true, false, cond, refl, sym, ap, subst, arith, length, map, drop, get_or, add-one, drop-cons, append-nil, append_assoc, nat_eq, Ok, Err, Some, None, nat_le, is_some, unwrap_or, leb-true, le-leb}, specs.declared.option.Option.Option, specs.List.list_all, specs.Map.lookup, proofs.lemmas.List.{drop_all, map-append}, proofs.lemmas.List.Folds.list_all-append, proofs.lemmas.Bool.{and_from, and_parts, lt-leb}}
 use Rattle.simplicial_law.specs.Names.{subsets}
-use Rattle.complex_file.{specs.Names.{Sent, LineFault, InputKind, VertexSentTwice, VertexUnknown, Fails, sends_in, end_fault, first_send_fault, image, is_sent, is_vertex, keeps_edge, map_fault, send_fault, with_send}, proofs.Steps.{fault_free, fault_found, later_fault, later_none}}
+use Rattle.complex_file.{specs.Names.{BlockFault, Sent, LineFault, InputKind, VertexSentTwice, VertexUnknown, Fails, sends_in, end_fault, first_send_fault, image, is_sent, is_vertex, keeps_edge, send_fault, with_send}, proofs.Steps.{fault_free, fault_found, later_fault, later_none}}
 use Rattle.complex_file.specs.declared.fault.LineFault.TheVariants as fault
 
 -- ---- sends
@@ -119,19 +119,19 @@ map_free from to before at (s ∷ ss) h e =
     ∙ map_free from to (before ++ s ∷ []) (at + 1) ss h.1 (ap (end_fault from to) (append_assoc before (s ∷ []) ss) ∙ e)
 
 -- the send at a place is at fault
-pub send_at : (from to : List (List ℕ)) (items before : List Sent) (at : ℕ) (d : Sent) (e : LineFault) (k : InputKind) → at < length items
-    → Fails e (with_send from to before (get_or items at d)) → e ≡ fault.Kind k → map_fault from to items ≡ first_send_fault from to before at (drop at items)
-    → Some (record { kind = k; at = at }) ≡ map_fault from to items
-send_at from to items before at d e k below fails kind so_far =
+pub send_at : (from to : List (List ℕ)) (items before : List Sent) (at : ℕ) (d : Sent) (e : LineFault) (k : InputKind) (whole : Option BlockFault) → at < length items
+    → Fails e (with_send from to before (get_or items at d)) → e ≡ fault.Kind k → whole ≡ first_send_fault from to before at (drop at items)
+    → Some (record { kind = k; at = at }) ≡ whole
+send_at from to items before at d e k whole below fails kind so_far =
     let s : Sent = get_or items at d in
     let given : with_send from to before s ≡ Err k = subst (λ (f : LineFault). Fails f (with_send from to before s)) kind fails in
     sym (so_far ∙ rw (drop-cons items at d below) (later_fault (send_fault from to before s) k at (first_send_fault from to (before ++ s ∷ []) (at + 1) (drop (suc at) items)) (fault_found (send_fault from to before s) (before ++ s ∷ []) k given)))
 
 -- it is not
-pub send_not_yet : (from to : List (List ℕ)) (items before more : List Sent) (at : ℕ) (d : Sent) → at < length items
-    → with_send from to before (get_or items at d) ≡ Ok more → map_fault from to items ≡ first_send_fault from to before at (drop at items)
-    → map_fault from to items ≡ first_send_fault from to more (at + 1) (drop (at + 1) items)
-send_not_yet from to items before more at d below h so_far =
+pub send_not_yet : (from to : List (List ℕ)) (items before more : List Sent) (at : ℕ) (d : Sent) (whole : Option BlockFault) → at < length items
+    → with_send from to before (get_or items at d) ≡ Ok more → whole ≡ first_send_fault from to before at (drop at items)
+    → whole ≡ first_send_fault from to more (at + 1) (drop (at + 1) items)
+send_not_yet from to items before more at d whole below h so_far =
     let s : Sent = get_or items at d in
     let free = fault_free (send_fault from to before s) (before ++ s ∷ []) more h in
     so_far ∙ rw (drop-cons items at d below, ← free.second, add-one) (later_none (send_fault from to before s) at (first_send_fault from to (before ++ s ∷ []) (suc at) (drop (suc at) items)) free.first)

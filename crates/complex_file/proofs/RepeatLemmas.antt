@@ -1,5 +1,5 @@
 -- Vertices of which some stands twice are more than those in ascending order.
-use Rattle.std.{proofs.Common.{◌≡◌, ◌∙◌, ◌<◌, ◌≤◌, ◌||◌, List, [], ◌∷◌, ℕ, suc, Bool, true, false, refl, sym, ap, subst, arith, length, nat_lt, nat_eq, fold, lt-ltb, ltb-false}, specs.Cmp.nat_eq_equiv, specs.List.IsDistinct, specs.List.Sorted.IsStrictlySortedBy, specs.Ordering.{eq_by_cmp, nat_cmp, match_ordering}, specs.Set.distinct_count, specs.declared.cmp.Ordering.Ordering, specs.declared.cmp.Ordering.TheVariants.{Less, Equal, Greater}, specs.BTreeSet.insert_key, proofs.lemmas.Cmp.nat_cmp_total, proofs.lemmas.Bool.Decides.nat_tests, proofs.lemmas.Map.Keys.IsDistinct-from_sorted, proofs.lemmas.Map.Made.{distinct_count-le, length-from_keys}}
+use Rattle.std.{proofs.Common.{◌≡◌, ◌∙◌, ◌≤◌, ◌||◌, List, [], ◌∷◌, ℕ, suc, Bool, true, false, refl, ap, subst, arith, length, nat_lt, nat_eq, fold, lt-ltb, ltb-false}, specs.Cmp.nat_eq_equiv, specs.List.IsDistinct, specs.List.Sorted.IsStrictlySortedBy, specs.Ordering.{eq_by_cmp, nat_cmp, match_ordering}, specs.Set.distinct_count, specs.declared.cmp.Ordering.Ordering, specs.declared.cmp.Ordering.TheVariants.{Less, Equal, Greater}, specs.BTreeSet.insert_key, proofs.lemmas.Cmp.nat_cmp_total, proofs.lemmas.Bool.Decides.nat_tests, proofs.lemmas.Map.Keys.IsDistinct-from_sorted, proofs.lemmas.Map.Made.{distinct_count-le, length-from_keys}}
 use Rattle.simplicial_law.proofs.Names.{sorted_inserted}
 use Rattle.complex_file.specs.Names.{ascending, has_repeat, has_vertex}
 

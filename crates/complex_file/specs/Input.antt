@@ -43,9 +43,13 @@ abbrev pub with_facets : Spelled → ComplexBlock → Result (List (List ℕ)) I
 with_facets s c (Ok facets) = Ok (in_complex s (record { name = c.name; facets = facets }))
 with_facets s c (Err kind) = Err kind
 
+-- the facets with the one that the numbers of a line give
+abbrev pub with_vertices : List (List ℕ) → Option (List ℕ) → Result (List (List ℕ)) InputKind
+with_vertices before vertices = facet_of vertices >>= with_facet before
+
 -- `facet V ..` adds a facet, in ascending order
 abbrev pub after_facet : Spelled → ComplexBlock → Option (List ℕ) → Step
-after_facet s c vertices = with_facets s c (facet_of vertices >>= with_facet c.facets)
+after_facet s c vertices = with_facets s c (with_vertices c.facets vertices)
 
 -- `end` of a complex adds it to the job
 abbrev pub with_complex : Spelled → ComplexBlock → Spelled

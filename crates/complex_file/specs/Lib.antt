@@ -6,6 +6,7 @@ pub mod Jobs
 pub mod Input
 pub mod FaultTable
 pub mod Kinds
+pub mod Open
 pub mod Sends
 pub mod Reading
 pub mod Views

@@ -3,6 +3,7 @@ pub use Rattle.complex_file.specs.declared.block.ComplexBlock.{ComplexBlock}
 pub use Rattle.complex_file.specs.declared.block.MapBlock.{MapBlock}
 pub use Rattle.complex_file.specs.declared.block.Sent.{Sent}
 pub use Rattle.complex_file.specs.declared.fault.BlockFault.{BlockFault}
+pub use Rattle.complex_file.specs.declared.fault.JobRefused.TheVariants.{OutOfMemory}
 pub use Rattle.complex_file.specs.declared.fault.LineFault.{LineFault}
 pub use Rattle.complex_file.specs.declared.fault.LineFault.TheVariants.{Memory}
 pub use Rattle.complex_file.specs.declared.kind.InputKind.{InputKind}
@@ -12,7 +13,7 @@ pub use Rattle.complex_file.specs.Lines.{Line, begins_with_hash, complex_line, e
 pub use Rattle.complex_file.specs.Complexes.{ascending, complex_fault, facet_fault, facet_of, first_facet_fault, has_repeat, has_vertex, is_ascending, is_complex, is_facet, or_later, unless, with_facet}
 pub use Rattle.complex_file.specs.Maps.{end_fault, first_send_fault, image, image_of_facet, is_sent, is_vertex, keeps_edge, keeps_order, keeps_simplices, map_fault, send_fault, sends_each, with_send}
 pub use Rattle.complex_file.specs.Jobs.{are_distinct, block_names, facets_at, has_name, is_map, place_of_name}
-pub use Rattle.complex_file.specs.Input.{Fault, Place, Spelled, Step, after, after_complex, after_facet, after_map, after_map_end, after_prime, after_send, after_words, at_end, at_line, at_prime, at_start, begun_map, between, in_complex, in_map, lines_spell, place_after, with_complex, with_facets, with_map, with_sends, ◌>>=◌}
+pub use Rattle.complex_file.specs.Input.{Fault, Place, Spelled, Step, after, after_complex, after_facet, after_map, after_map_end, after_prime, after_send, after_words, at_end, at_line, at_prime, at_start, begun_map, between, in_complex, in_map, lines_spell, place_after, with_complex, with_facets, with_map, with_sends, with_vertices, ◌>>=◌}
 pub use Rattle.complex_file.specs.FaultTable.{IsLong, IsOnLine, IsUnfinished, ReadsTo, first_kind, tried}
 pub use Rattle.complex_file.specs.Kinds.{kind_number}
 pub use Rattle.complex_file.specs.Sends.{sends_in}

@@ -1,4 +1,4 @@
-ghost use Rattle.std.specs.Prelude.{◌≡◌, IfOk};
+ghost use Rattle.std.specs.Prelude.{◌≡◌, [], IfOk};
 
 use comch_io::Listed;
 use simplex_set::Complex;
@@ -20,6 +20,15 @@ impl Model for Name {
 }
 
 impl Name {
+    // No name.
+    pub(crate) fn empty(alloc: Global) -> Name
+        ensures { result ≡ [] }
+    {
+        Name {
+            bytes: Vec::new(alloc),
+        }
+    }
+
     /// The name with these bytes, whatever they are.
     pub fn new(alloc: Global, bytes: &[u8]) -> Result<Name, AllocError>
         ensures { IfOk result (λ n. n ≡ bytes.now) }
@@ -39,7 +48,7 @@ impl Name {
 
 /// A complex, given by its facets in the order of the file. Its simplices, the non-empty subsets of the facets, are kept
 /// with them.
-#[derive(Debug, Drop)]
+#[derive(Drop)]
 pub struct ComplexBlock {
     pub name: Name,
     pub facets: Complex,
@@ -53,7 +62,7 @@ pub struct Sent {
 }
 
 /// A map between two complexes of the job, which are given by their places, counted from 0.
-#[derive(Debug, Drop)]
+#[derive(Drop)]
 pub struct MapBlock {
     pub name: Name,
     pub from: u32,

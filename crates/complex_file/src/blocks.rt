@@ -26,12 +26,6 @@ impl Model for Blocks {
     ghost invariant = { λ b. length b.complexes ≤ 8 };
 }
 
-fn is_complex_name(complexes: &[ComplexBlock], name: &[u8]) -> bool
-    ensures { result ≡ list_any (λ c. bytes_eq name.now c.name) complexes.now }
-{
-    complexes.iter().any(|c| name == c.name.bytes())
-}
-
 fn is_map_name(maps: &[MapBlock], name: &[u8]) -> bool
     ensures { result ≡ list_any (λ m. bytes_eq name.now m.name) maps.now }
 {
@@ -61,7 +55,7 @@ impl Blocks {
     pub fn has_name(&self, name: &[u8]) -> bool
         ensures { result ≡ has_name (block_names self.now.complexes self.now.maps) name.now }
     {
-        is_complex_name(self.complexes.as_slice(), name) || is_map_name(self.maps.as_slice(), name)
+        self.place_of_name(name).is_some() || is_map_name(self.maps.as_slice(), name)
     }
 
     /// The place of the complex with this name.

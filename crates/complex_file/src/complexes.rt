@@ -1,11 +1,12 @@
 ghost use Rattle.std.specs.Prelude.{◌≡◌, IfOk, option_map};
-ghost use Rattle.complex_file.specs.Names.{ascending, complex_fault, facet_of, with_facet, Gives};
+ghost use Rattle.complex_file.specs.Names.{ascending, complex_fault, facet_of, first_facet_fault, with_facet, Gives};
 
 use crate::fault::LineFault;
 use crate::{BlockFault, ComplexBlock, InputKind};
 use simplex_set::{FacetRefused, OpenComplex, Simplex};
 use std::alloc::{AllocError, Global};
 use std::collections::BTreeSet;
+use std::mem;
 
 // The items of a set, in order.
 fn items_of(alloc: Global, set: &BTreeSet<u32>) -> Result<Vec<u32>, AllocError>
@@ -40,19 +41,19 @@ pub fn facet_of(alloc: Global, vertices: Option<Vec<u32>>) -> Result<Simplex, Li
     Ok(simplex)
 }
 
-/// The facets with one more, or its fault.
-pub fn with_facet(
-    alloc: Global,
-    complex: OpenComplex,
-    facet: Simplex,
-) -> Result<OpenComplex, LineFault>
-    ensures { Gives (λ c. c) result (with_facet complex facet) }
+/// Adds a facet, or gives its fault.
+pub fn add_facet(alloc: Global, complex: &mut OpenComplex, facet: Simplex) -> Result<(), LineFault>
+    ensures { Gives (λ _. complex.new) result (with_facet complex.old facet) }
 {
     if facet.vertices().len() > 16 {
         return Err(LineFault::Kind(InputKind::FacetTooWide));
     }
-    match complex.with_facet(alloc, facet, 100_000) {
-        Ok(more) => Ok(more),
+    let before = mem::replace(complex, OpenComplex::new(alloc));
+    match before.with_facet(alloc, facet, 100_000) {
+        Ok(more) => {
+            *complex = more;
+            Ok(())
+        }
         Err(FacetRefused::OutOfMemory) => Err(LineFault::Memory),
         Err(FacetRefused::TooManySimplices) => Err(LineFault::Kind(InputKind::TooManySimplices)),
     }
@@ -64,10 +65,21 @@ pub fn complex_fault(alloc: Global, block: &ComplexBlock) -> Result<Option<Block
     ensures { IfOk result (λ r. r ≡ complex_fault block.now.facets) }
 {
     let mut complex = OpenComplex::new(alloc);
-    for (at, facet) in block.facets.facets().iter().enumerate() {
+    first_fault(alloc, &mut complex, block.facets.facets())
+}
+
+// The first of the facets that is at fault behind those of the complex.
+fn first_fault(
+    alloc: Global,
+    complex: &mut OpenComplex,
+    facets: &[Simplex],
+) -> Result<Option<BlockFault>, AllocError>
+    ensures { IfOk result (λ r. r ≡ first_facet_fault complex.old 0 facets.now) }
+{
+    for (at, facet) in facets.iter().enumerate() {
         let copy = Simplex::new(alloc, facet.vertices())?;
-        match with_facet(alloc, complex, copy) {
-            Ok(more) => complex = more,
+        match add_facet(alloc, complex, copy) {
+            Ok(()) => {}
             Err(LineFault::Memory) => return Err(AllocError),
             Err(LineFault::Kind(kind)) => {
                 return Ok(Some(BlockFault {

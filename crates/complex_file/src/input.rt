@@ -1,11 +1,10 @@
 ghost use Rattle.std.specs.Prelude.{◌≡◌, ◌<◌, ◌≤◌, ◌^◌, ◌+◌, length};
-ghost use Rattle.complex_file.specs.{Input.{after_line, input_of}, Names.{after_words, at_end, at_line, at_start, lines_spell, place_after, Gives, GivesInput, content, place_seen, texts}};
+ghost use Rattle.complex_file.specs.{Input.{after_line, input_of}, Names.{after_words, at_end, at_line, at_start, place_after, Gives, GivesInput, content, place_seen, texts}};
 
 use crate::blocks::Blocks;
 use crate::fault::LineFault;
 use crate::line::{is_skipped, line_of};
-use crate::place::Place;
-use crate::step::after;
+use crate::place::{Place, Reader};
 use crate::text::{is_text, lines_of, words_of};
 use crate::{InputKind, Job, JobRefused};
 use std::alloc::Global;
@@ -13,97 +12,89 @@ use std::alloc::Global;
 /// The bytes that an input may have.
 const LIMIT: usize = 1_048_576;
 
-// What a line with these words makes of a place.
-fn after_words(alloc: Global, place: Place, words: &[&[u8]]) -> Result<Place, LineFault>
-    ensures { Gives place_seen result (after_words (place_seen place) (texts words.now)) }
-{
-    if is_skipped(words) {
-        return Ok(place);
+impl Reader {
+    // Reads a line with these words.
+    fn read_words(&mut self, alloc: Global, words: &[&[u8]]) -> Result<(), LineFault>
+        ensures { Gives (λ _. place_seen self.new) result (after_words (place_seen self.old) (texts words.now)) }
+    {
+        if is_skipped(words) {
+            return Ok(());
+        }
+        let line = line_of(alloc, words)?;
+        self.read(alloc, line)
     }
-    let line = line_of(alloc, words)?;
-    after(alloc, place, line)
-}
 
-// What a line makes of a place.
-#[tactic(auto, unfolding(crate::specs::Input::after_line))]
-fn after_line(alloc: Global, place: Place, line: &[u8]) -> Result<Place, LineFault>
-    ensures { Gives place_seen result (after_line (place_seen place) line.now) }
-{
-    if !is_text(line) {
-        return Err(LineFault::Kind(InputKind::NotText));
+    #[tactic(auto, unfolding(crate::specs::Input::after_line))]
+    fn read_line(&mut self, alloc: Global, line: &[u8]) -> Result<(), LineFault>
+        ensures { Gives (λ _. place_seen self.new) result (after_line (place_seen self.old) line.now) }
+    {
+        if !is_text(line) {
+            return Err(LineFault::Kind(InputKind::NotText));
+        }
+        let words = words_of(alloc, line)?;
+        self.read_words(alloc, &words)
     }
-    let words = words_of(alloc, line)?;
-    after_words(alloc, place, &words)
-}
 
-// The place behind all the lines.
-fn place_after(alloc: Global, lines: &[&[u8]]) -> Result<Place, JobRefused>
-    requires { length lines.now < 2 ^ 63 }
-    ensures { GivesInput place_seen result (place_after 1 at_start (texts lines.now)) }
-{
-    let mut place = Place::AtStart;
-    let mut number = 0u64;
-    for line in lines {
-        number += 1;
-        match after_line(alloc, place, line) {
-            Ok(next) => place = next,
-            Err(LineFault::Memory) => return Err(JobRefused::OutOfMemory),
-            Err(LineFault::Kind(kind)) => {
-                return Err(JobRefused::InputRefused { kind, line: number });
+    fn read_lines(&mut self, alloc: Global, lines: &[&[u8]]) -> Result<(), JobRefused>
+        requires { length lines.now < 2 ^ 63 }
+        ensures { GivesInput (λ _. place_seen self.new) result (place_after 1 (place_seen self.old) (texts lines.now)) }
+    {
+        let mut number = 0u64;
+        for line in lines {
+            number += 1;
+            match self.read_line(alloc, line) {
+                Ok(()) => {}
+                Err(LineFault::Memory) => return Err(JobRefused::OutOfMemory),
+                Err(LineFault::Kind(kind)) => {
+                    return Err(JobRefused::InputRefused { kind, line: number });
+                }
             }
         }
+        Ok(())
     }
-    Ok(place)
-}
 
-// The blocks, where the last one has its end.
-fn at_end(place: Place, line: u64) -> Result<Blocks, JobRefused>
-    ensures { GivesInput (λ b. b) result (at_line line (at_end (place_seen place))) }
-{
-    match place {
-        Place::Between(blocks) => Ok(blocks),
-        _ => Err(JobRefused::InputRefused {
-            kind: InputKind::Unfinished,
-            line,
-        }),
+    // The input may end between blocks alone.
+    fn check_end(&self, line: u64) -> Result<(), JobRefused>
+        ensures { GivesInput (λ _. self.now.blocks) result (at_line line (at_end (place_seen self.now))) }
+    {
+        match self.place {
+            Place::Between => Ok(()),
+            _ => Err(JobRefused::InputRefused {
+                kind: InputKind::Unfinished,
+                line,
+            }),
+        }
     }
-}
 
-// The blocks that the lines spell.
-fn read_lines(alloc: Global, bytes: &[u8]) -> Result<Blocks, JobRefused>
-    ensures { GivesInput (λ b. b) result (lines_spell bytes.now) }
-{
-    let lines = match lines_of(alloc, bytes) {
-        Ok(lines) => lines,
-        Err(_) => return Err(JobRefused::OutOfMemory),
-    };
-    let place = place_after(alloc, &lines)?;
-    at_end(place, lines.len() as u64)
-}
-
-// The blocks that the bytes spell.
-#[tactic(auto, unfolding(crate::specs::Input::input_of))]
-fn read_input(alloc: Global, bytes: &[u8]) -> Result<Blocks, JobRefused>
-    ensures { GivesInput (λ b. b) result (input_of bytes.now) }
-{
-    if bytes.len() > LIMIT {
-        return Err(JobRefused::InputRefused {
-            kind: InputKind::TooLong,
-            line: 0,
-        });
+    // Reads an input from its start to its end.
+    #[tactic(auto, unfolding(crate::specs::Input::input_of))]
+    fn read_input(&mut self, alloc: Global, bytes: &[u8]) -> Result<(), JobRefused>
+        requires { place_seen self.old ≡ at_start }
+        ensures { GivesInput (λ _. self.new.blocks) result (input_of bytes.now) }
+    {
+        if bytes.len() > LIMIT {
+            return Err(JobRefused::InputRefused {
+                kind: InputKind::TooLong,
+                line: 0,
+            });
+        }
+        let lines = lines_of(alloc, bytes)?;
+        self.read_lines(alloc, &lines)?;
+        self.check_end(lines.len() as u64)
     }
-    read_lines(alloc, bytes)
 }
 
 /// The job that the bytes spell, or the kind and the line of their first fault.
 pub fn read_job(alloc: Global, bytes: &[u8]) -> Result<Job, JobRefused>
     ensures { GivesInput content result (input_of bytes.now) }
 {
+    let mut reader = Reader::new(alloc);
+    reader.read_input(alloc, bytes)?;
     let Blocks {
         prime,
         complexes,
         maps,
-    } = read_input(alloc, bytes)?;
+    } = reader.blocks;
     Ok(Job {
         prime,
         complexes,

@@ -6,7 +6,7 @@ use comch_io::Listed;
 
 /// What an input spells: a prime, and the complexes and the maps in the order of the file.
 /// Each job keeps that its prime is served and its blocks, written as lines of the input, have no fault.
-#[derive(Debug, Drop)]
+#[derive(Drop)]
 pub struct Job {
     pub prime: u32,
     pub complexes: Listed<ComplexBlock>,

@@ -1,9 +1,10 @@
 ghost use Rattle.std.specs.Prelude.{◌≡◌, IfOk};
-ghost use Rattle.complex_file.specs.Names.{map_fault};
+ghost use Rattle.complex_file.specs.Names.{first_send_fault, map_fault};
 
 use crate::fault::LineFault;
 use crate::sends::Sends;
-use crate::{BlockFault, ComplexBlock, MapBlock};
+use crate::{BlockFault, ComplexBlock, MapBlock, Sent};
+use simplex_set::Complex;
 use std::alloc::{AllocError, Global};
 
 /// The first send of the map of which a vertex is unknown, or whose vertex was sent before, with that kind and its place.
@@ -18,9 +19,28 @@ pub fn map_fault(
     ensures { IfOk result (λ r. r ≡ map_fault from.now.facets to.now.facets map.now.sends) }
 {
     let mut sends = Sends::new(alloc);
-    for (at, sent) in map.sends.as_slice().iter().enumerate() {
-        match sends.with_send(&from.facets, &to.facets, *sent) {
-            Ok(more) => sends = more,
+    first_fault(
+        alloc,
+        &mut sends,
+        map.sends.as_slice(),
+        &from.facets,
+        &to.facets,
+    )
+}
+
+// The first fault of a list of sends behind those before it, or else that of the end.
+fn first_fault(
+    alloc: Global,
+    sends: &mut Sends,
+    list: &[Sent],
+    from: &Complex,
+    to: &Complex,
+) -> Result<Option<BlockFault>, AllocError>
+    ensures { IfOk result (λ r. r ≡ first_send_fault from.now to.now sends.old 0 list.now) }
+{
+    for (at, sent) in list.iter().enumerate() {
+        match sends.add(from, to, *sent) {
+            Ok(()) => {}
             Err(LineFault::Memory) => return Err(AllocError),
             Err(LineFault::Kind(kind)) => {
                 return Ok(Some(BlockFault {
@@ -30,10 +50,10 @@ pub fn map_fault(
             }
         }
     }
-    match sends.end_fault(alloc, &from.facets, &to.facets)? {
+    match sends.end_fault(alloc, from, to)? {
         Some(kind) => Ok(Some(BlockFault {
             kind,
-            at: map.sends.len() as u64,
+            at: list.len() as u64,
         })),
         None => Ok(None),
     }

@@ -69,16 +69,15 @@ impl Sends {
         }
     }
 
-    /// The sends with one more, or its fault.
-    pub fn with_send(self, from: &Complex, to: &Complex, sent: Sent) -> Result<Sends, LineFault>
-        ensures { Gives (λ s. s) result (with_send from.now to.now self sent) }
+    /// Adds a send, or gives its fault.
+    pub fn add(&mut self, from: &Complex, to: &Complex, sent: Sent) -> Result<(), LineFault>
+        ensures { Gives (λ _. self.new) result (with_send from.now to.now self.old sent) }
     {
         if let Some(kind) = self.send_fault(from, to, sent) {
             return Err(LineFault::Kind(kind));
         }
-        let Sends { mut images } = self;
-        images.insert(sent.from, sent.to)?;
-        Ok(Sends { images })
+        self.images.insert(sent.from, sent.to)?;
+        Ok(())
     }
 
     // Each vertex of a facet is sent.

@@ -1,213 +1,158 @@
-ghost use Rattle.std.specs.Prelude.{◌≡◌, ◌<◌, false, length, IfOk, Ok, Some, option_map};
-ghost use Rattle.complex_file.specs.Names.{after, after_complex, after_facet, after_map, after_map_end, after_prime, after_send, at_prime, at_start, begun_map, between, in_complex, in_map, with_complex, block_names, facets_at, has_name, end_fault, Gives, complex_seen, line_seen, map_seen, place_seen};
+ghost use Rattle.std.specs.Prelude.{◌≡◌, Ok, option_map};
+ghost use Rattle.complex_file.specs.Names.{Gives, after, after_complex, after_map, after_map_end, after_prime, at_start, between, complex_seen, line_seen, map_seen, place_seen, with_complex, with_vertices};
+ghost use Rattle.complex_file.specs.declared.place.Place.TheVariants.{InComplex, InMap};
 
 use crate::blocks::Blocks;
-use crate::complexes::{facet_of, with_facet};
+use crate::complexes::{add_facet, facet_of};
 use crate::fault::LineFault;
 use crate::line::Line;
-use crate::place::{BegunComplex, BegunMap, Place};
+use crate::place::{Place, Reader};
 use crate::sends::Sends;
-use crate::{ComplexBlock, InputKind, MapBlock, Name, Sent};
+use crate::{ComplexBlock, InputKind, MapBlock, Name};
 use simplex_set::OpenComplex;
-use std::alloc::{AllocError, Global};
+use std::alloc::Global;
+use std::mem;
 
-fn after_prime(alloc: Global, number: Option<u32>) -> Result<Place, LineFault>
-    ensures { Gives place_seen result (after_prime number) }
-{
-    match number {
-        None => Err(LineFault::Kind(InputKind::BadNumber)),
-        Some(prime) if fp_field::served(prime) => Ok(Place::Between(Blocks::new(alloc, prime))),
-        Some(_) => Err(LineFault::Kind(InputKind::OtherPrime)),
-    }
-}
-
-fn after_complex(alloc: Global, blocks: Blocks, name: &[u8]) -> Result<Place, LineFault>
-    ensures { Gives place_seen result (after_complex blocks name.now) }
-{
-    if blocks.complexes.len() >= 8 {
-        return Err(LineFault::Kind(InputKind::TooManyBlocks));
-    }
-    if blocks.has_name(name) {
-        return Err(LineFault::Kind(InputKind::RepeatedName));
-    }
-    Ok(Place::InComplex(BegunComplex {
-        blocks,
-        name: Name::new(alloc, name)?,
-        complex: OpenComplex::new(alloc),
-    }))
-}
-
-fn after_facet(
+// Adds the facet with these vertices, or gives the fault of its line.
+fn read_facet(
     alloc: Global,
-    begun: BegunComplex,
+    complex: &mut OpenComplex,
     vertices: Option<Vec<u32>>,
-) -> Result<Place, LineFault>
-    ensures { Gives place_seen result (after_facet begun.blocks (complex_seen begun) (option_map (λ v. v.items) vertices)) }
+) -> Result<(), LineFault>
+    ensures { Gives (λ _. complex.new) result (with_vertices complex.old (option_map (λ v. v.items) vertices)) }
 {
     let facet = facet_of(alloc, vertices)?;
-    let BegunComplex {
-        blocks,
-        name,
-        complex,
-    } = begun;
-    Ok(Place::InComplex(BegunComplex {
-        blocks,
-        name,
-        complex: with_facet(alloc, complex, facet)?,
-    }))
+    add_facet(alloc, complex, facet)
 }
 
-// The complex ends.
-fn after_complex_end(alloc: Global, begun: BegunComplex) -> Result<Place, LineFault>
-    ensures { Gives place_seen result (Ok (between (with_complex begun.blocks (complex_seen begun)))) }
-{
-    let BegunComplex {
-        mut blocks,
-        name,
-        complex,
-    } = begun;
-    let facets = complex.into_complex(alloc)?;
-    blocks.add_complex(ComplexBlock { name, facets })?;
-    Ok(Place::Between(blocks))
-}
+impl Reader {
+    /// Nothing is read yet.
+    pub fn new(alloc: Global) -> Reader
+        ensures { place_seen result ≡ at_start }
+    {
+        Reader {
+            place: Place::AtStart,
+            blocks: Blocks::new(alloc, 0),
+            name: Name::empty(alloc),
+            complex: OpenComplex::new(alloc),
+            sends: Sends::new(alloc),
+        }
+    }
 
-fn after_map(
-    alloc: Global,
-    blocks: Blocks,
-    name: &[u8],
-    from: &[u8],
-    to: &[u8],
-) -> Result<Place, LineFault>
-    ensures { Gives place_seen result (after_map blocks name.now from.now to.now) }
-{
-    if blocks.maps.len() >= 8 {
-        return Err(LineFault::Kind(InputKind::TooManyBlocks));
+    fn read_prime(&mut self, alloc: Global, number: Option<u32>) -> Result<(), LineFault>
+        ensures { Gives (λ _. place_seen self.new) result (after_prime number) }
+    {
+        match number {
+            None => Err(LineFault::Kind(InputKind::BadNumber)),
+            Some(prime) if fp_field::served(prime) => {
+                self.place = Place::Between;
+                self.blocks = Blocks::new(alloc, prime);
+                Ok(())
+            }
+            Some(_) => Err(LineFault::Kind(InputKind::OtherPrime)),
+        }
     }
-    if blocks.has_name(name) {
-        return Err(LineFault::Kind(InputKind::RepeatedName));
+
+    fn open_complex(&mut self, alloc: Global, name: &[u8]) -> Result<(), LineFault>
+        ensures { Gives (λ _. place_seen self.new) result (after_complex self.old.blocks name.now) }
+    {
+        if self.blocks.complexes.len() >= 8 {
+            return Err(LineFault::Kind(InputKind::TooManyBlocks));
+        }
+        if self.blocks.has_name(name) {
+            return Err(LineFault::Kind(InputKind::RepeatedName));
+        }
+        self.name = Name::new(alloc, name)?;
+        self.complex = OpenComplex::new(alloc);
+        self.place = Place::InComplex;
+        Ok(())
     }
-    match (blocks.place_of_name(from), blocks.place_of_name(to)) {
-        (Some(from), Some(to)) => Ok(Place::InMap(BegunMap {
-            blocks,
-            name: Name::new(alloc, name)?,
+
+    fn end_complex(&mut self, alloc: Global) -> Result<(), LineFault>
+        requires { self.old.place ≡ InComplex }
+        ensures { Gives (λ _. place_seen self.new) result (Ok (between (with_complex self.old.blocks (complex_seen self.old)))) }
+    {
+        self.place = Place::Between;
+        let complex = mem::replace(&mut self.complex, OpenComplex::new(alloc));
+        let facets = complex.into_complex(alloc)?;
+        let name = mem::replace(&mut self.name, Name::empty(alloc));
+        self.blocks.add_complex(ComplexBlock { name, facets })?;
+        Ok(())
+    }
+
+    fn open_map(
+        &mut self,
+        alloc: Global,
+        name: &[u8],
+        from: &[u8],
+        to: &[u8],
+    ) -> Result<(), LineFault>
+        ensures { Gives (λ _. place_seen self.new) result (after_map self.old.blocks name.now from.now to.now) }
+    {
+        if self.blocks.maps.len() >= 8 {
+            return Err(LineFault::Kind(InputKind::TooManyBlocks));
+        }
+        if self.blocks.has_name(name) {
+            return Err(LineFault::Kind(InputKind::RepeatedName));
+        }
+        let (Some(from), Some(to)) = (
+            self.blocks.place_of_name(from),
+            self.blocks.place_of_name(to),
+        ) else {
+            return Err(LineFault::Kind(InputKind::UnknownName));
+        };
+        self.name = Name::new(alloc, name)?;
+        self.sends = Sends::new(alloc);
+        self.place = Place::InMap { from, to };
+        Ok(())
+    }
+
+    fn end_map(&mut self, alloc: Global, from: u32, to: u32) -> Result<(), LineFault>
+        requires { self.old.place ≡ InMap from to }
+        ensures { Gives (λ _. place_seen self.new) result (after_map_end self.old.blocks (map_seen from to self.old)) }
+    {
+        let source = self.blocks.complex_at(from);
+        let target = self.blocks.complex_at(to);
+        if let Some(kind) = self.sends.end_fault(alloc, source, target)? {
+            return Err(LineFault::Kind(kind));
+        }
+        self.place = Place::Between;
+        let sends = self.sends.listed(alloc)?;
+        let name = mem::replace(&mut self.name, Name::empty(alloc));
+        self.blocks.add_map(MapBlock {
+            name,
             from,
             to,
-            sends: Sends::new(alloc),
-        })),
-        _ => Err(LineFault::Kind(InputKind::UnknownName)),
+            sends,
+        })?;
+        Ok(())
     }
-}
 
-fn after_send(begun: BegunMap, sent: Sent) -> Result<Place, LineFault>
-    ensures { Gives place_seen result (after_send begun.blocks (map_seen begun) (Some sent)) }
-{
-    let BegunMap {
-        blocks,
-        name,
-        from,
-        to,
-        sends,
-    } = begun;
-    let sends = sends.with_send(blocks.complex_at(from), blocks.complex_at(to), sent)?;
-    Ok(Place::InMap(BegunMap {
-        blocks,
-        name,
-        from,
-        to,
-        sends,
-    }))
-}
-
-// The fault of the map's end.
-fn map_end_fault(alloc: Global, begun: &BegunMap) -> Result<Option<InputKind>, AllocError>
-    ensures { IfOk result (λ r. r ≡ end_fault (facets_at begun.now.blocks.complexes begun.now.from) (facets_at begun.now.blocks.complexes begun.now.to) begun.now.sends) }
-{
-    let from = begun.blocks.complex_at(begun.from);
-    let to = begun.blocks.complex_at(begun.to);
-    begun.sends.end_fault(alloc, from, to)
-}
-
-fn after_map_end(alloc: Global, begun: BegunMap) -> Result<Place, LineFault>
-    ensures { Gives place_seen result (after_map_end begun.blocks (map_seen begun)) }
-{
-    if let Some(kind) = map_end_fault(alloc, &begun)? {
-        return Err(LineFault::Kind(kind));
-    }
-    let BegunMap {
-        mut blocks,
-        name,
-        from,
-        to,
-        sends,
-    } = begun;
-    let sends = sends.listed(alloc)?;
-    blocks.add_map(MapBlock {
-        name,
-        from,
-        to,
-        sends,
-    })?;
-    Ok(Place::Between(blocks))
-}
-
-fn from_start(line: Line<'_>) -> Result<Place, LineFault>
-    ensures { Gives place_seen result (after at_start (line_seen line.entry)) }
-{
-    match line {
-        Line::Heading => Ok(Place::AtPrime),
-        _ => Err(LineFault::Kind(InputKind::BadLine)),
-    }
-}
-
-fn from_heading(alloc: Global, line: Line<'_>) -> Result<Place, LineFault>
-    ensures { Gives place_seen result (after at_prime (line_seen line.entry)) }
-{
-    match line {
-        Line::Prime(number) => after_prime(alloc, number),
-        _ => Err(LineFault::Kind(InputKind::BadLine)),
-    }
-}
-
-fn from_block(alloc: Global, blocks: Blocks, line: Line<'_>) -> Result<Place, LineFault>
-    ensures { Gives place_seen result (after (between blocks) (line_seen line.entry)) }
-{
-    match line {
-        Line::Complex(name) => after_complex(alloc, blocks, name),
-        Line::Map(name, from, to) => after_map(alloc, blocks, name, from, to),
-        _ => Err(LineFault::Kind(InputKind::BadLine)),
-    }
-}
-
-fn from_facet(alloc: Global, begun: BegunComplex, line: Line<'_>) -> Result<Place, LineFault>
-    ensures { Gives place_seen result (after (in_complex begun.blocks (complex_seen begun)) (line_seen line.entry)) }
-{
-    match line {
-        Line::Facet(vertices) => after_facet(alloc, begun, vertices),
-        Line::End => after_complex_end(alloc, begun),
-        _ => Err(LineFault::Kind(InputKind::BadLine)),
-    }
-}
-
-fn from_send(alloc: Global, begun: BegunMap, line: Line<'_>) -> Result<Place, LineFault>
-    ensures { Gives place_seen result (after (in_map begun.blocks (map_seen begun)) (line_seen line.entry)) }
-{
-    match line {
-        Line::Send(Some(sent)) => after_send(begun, sent),
-        Line::Send(None) => Err(LineFault::Kind(InputKind::BadNumber)),
-        Line::End => after_map_end(alloc, begun),
-        _ => Err(LineFault::Kind(InputKind::BadLine)),
-    }
-}
-
-/// What a line makes of a place, or the kind of its fault.
-pub fn after(alloc: Global, place: Place, line: Line<'_>) -> Result<Place, LineFault>
-    ensures { Gives place_seen result (after (place_seen place) (line_seen line.entry)) }
-{
-    match place {
-        Place::AtStart => from_start(line),
-        Place::AtPrime => from_heading(alloc, line),
-        Place::Between(blocks) => from_block(alloc, blocks, line),
-        Place::InComplex(begun) => from_facet(alloc, begun, line),
-        Place::InMap(begun) => from_send(alloc, begun, line),
+    /// Reads a line, or gives the kind of its fault.
+    pub fn read(&mut self, alloc: Global, line: Line<'_>) -> Result<(), LineFault>
+        ensures { Gives (λ _. place_seen self.new) result (after (place_seen self.old) (line_seen line.entry)) }
+    {
+        match (self.place, line) {
+            (Place::AtStart, Line::Heading) => {
+                self.place = Place::AtPrime;
+                Ok(())
+            }
+            (Place::AtPrime, Line::Prime(number)) => self.read_prime(alloc, number),
+            (Place::Between, Line::Complex(name)) => self.open_complex(alloc, name),
+            (Place::Between, Line::Map(name, from, to)) => self.open_map(alloc, name, from, to),
+            (Place::InComplex, Line::Facet(vertices)) => read_facet(
+                alloc,
+                &mut self.complex,
+                vertices,
+            ),
+            (Place::InComplex, Line::End) => self.end_complex(alloc),
+            (Place::InMap { from, to }, Line::Send(Some(sent))) => {
+                let source = self.blocks.complex_at(from);
+                self.sends.add(source, self.blocks.complex_at(to), sent)
+            }
+            (Place::InMap { .. }, Line::Send(None)) => Err(LineFault::Kind(InputKind::BadNumber)),
+            (Place::InMap { from, to }, Line::End) => self.end_map(alloc, from, to),
+            _ => Err(LineFault::Kind(InputKind::BadLine)),
+        }
     }
 }
