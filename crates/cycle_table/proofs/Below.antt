@@ -6,6 +6,7 @@ pub use Rattle.row_reduce.proofs.SolvedLemmas.{number_among, some_or_none, store
 pub use Rattle.row_reduce.proofs.StoredLemmas.{some_is, some_none}
 pub use Rattle.row_reduce.specs.Names.{AreTriangular, StoredFits, combined, stored_place, stored_row}
 pub use Rattle.row_reduce.specs.declared.Stored.{Stored}
+pub use Rattle.sparse_rows.proofs.MergeLemmas.{put_sum}
 pub use Rattle.sparse_rows.proofs.RowLemmas.{sum_take}
 pub use Rattle.sparse_rows.specs.Rows.{IsRow, value_in}
 pub use Rattle.std.proofs.lemmas.Bool.{cases_eq}
