@@ -1,6 +1,6 @@
 -- One degree: the columns of the table of cycles are dual to the canonical relative classes.
-use Rattle.std.proofs.Common.{Option, None, Some, ◌≡◌, ℕ, zero, suc, ◌+◌, ◌<◌, ◌^◌, List, [], ◌∷◌, ◌++◌, take, map, length, get_or, arith, sym, ap, subst, ◌∙◌, inl, inr, ◌⊎◌, slice_get}
-use Rattle.cohomology.{proofs.Below.{AllZip, cases_eq, get_or_default, take_more, get_or_from_slice_get, slice_get_within, zero-mod, Congruent, IsField, Among, Each, unit_vector, paired, IsPivot, IsSubspace, LeadsAt, Congruent_add, Congruent_from, Congruent_mul, Congruent_of, Congruent_refl, Congruent_sym, Congruent_trans, cycle_bound, cycle_value, each_among, each_from_index, each_get_or, each_map, length_alike, zip_push, one-nonzero, unit_one, unit_other, found, Cochain, unit_cochain, cochain_at, lead_up, unit_away, unit_here, level, PlacedCochain, StoredFits, stored_place, AreTriangular, stored_row, Stored, some_or_none, stored_lead, some_none, AreCycles, AreFree, column, bound_down, bounds_by_place, relative_close, IsRelativeCoboundary, IsCanonicalRelativeClass, IsRelativeCoboundaryPivot, IsRelativeCocyclePivot}, specs.Names.{IsPairIndex, IsPairIndexOf, AreRelativeIn, IsPlaced, IsReachedIn, cochain_in, AreDualClasses, IsDualTable, IsLeadOf, at_places}, proofs.RowLemmas.{canonical_at, differ, pivot_of_class, some_at}}
+use Rattle.std.proofs.Common.{Option, None, Some, ◌≡◌, ℕ, zero, suc, ◌<◌, ◌^◌, List, [], ◌∷◌, map, length, get_or, arith, sym, ap, subst, ◌∙◌, inl, inr, ◌⊎◌, slice_get}
+use Rattle.cohomology.{proofs.Below.{AllZip, cases_eq, get_or_default, get_or_from_slice_get, slice_get_within, zero-mod, Congruent, IsField, Among, Each, unit_vector, paired, IsPivot, IsSubspace, LeadsAt, Congruent_add, Congruent_from, Congruent_mul, Congruent_of, Congruent_refl, Congruent_sym, Congruent_trans, cycle_bound, cycle_value, each_among, each_from_index, each_get_or, each_map, length_alike, one-nonzero, unit_one, unit_other, found, Cochain, unit_cochain, cochain_at, lead_up, unit_away, unit_here, level, PlacedCochain, StoredFits, stored_place, AreTriangular, stored_row, Stored, some_or_none, stored_lead, some_none, AreCycles, AreFree, column, bound_down, bounds_by_place, relative_close, IsRelativeCoboundary, IsCanonicalRelativeClass, IsRelativeCoboundaryPivot, IsRelativeCocyclePivot}, specs.Names.{IsPairIndex, IsPairIndexOf, AreRelativeIn, IsPlaced, IsReachedIn, cochain_in, AreDualClasses, IsDualTable, IsLeadOf, at_places}, proofs.RowLemmas.{canonical_at, differ, pivot_of_class, some_at}}
 
 module _ (facets parts : List (List ℕ)) (ls sls : List (List (List ℕ))) (is : IsPairIndexOf facets parts ls sls) (p : ℕ) (field : IsField p) (n : ℕ) where
   -- relative coboundaries by places

@@ -1,5 +1,5 @@
 -- The reduced echelon list of the coboundary rows is the canonical relative coboundaries one degree up, with their primitives.
-use Rattle.std.proofs.Common.{Bool, Option, ◌≡◌, ℕ, ◌+◌, ◌-◌, ◌<◌, ◌≤◌, ◌^◌, List, [], ◌∷◌, ◌++◌, map, length, get_or, arith, lit<, refl, sym, ap, ap₂, subst, ◌∙◌, inl, inr, Vec}
+use Rattle.std.proofs.Common.{Bool, Option, ◌≡◌, ℕ, ◌+◌, ◌-◌, ◌<◌, ◌≤◌, ◌^◌, List, [], ◌∷◌, ◌++◌, map, length, get_or, arith, lit<, sym, ap, subst, ◌∙◌, inl, inr, Vec}
 use Rattle.cohomology.{proofs.Below.{maps_alike, Global, AllZip, Congruent, IsField, Among, IsAscending, IsImage, IsLinear, IsCanonical, IsPivot, Walked, Congruent_sym, Congruent_trans, among_map, each_alike, each_among, each_itself, each_map, zip_push, one-nonzero, reduced_apart, reduced_one, found, image_pivot, AgreesOnSimplices, Cochain, cochain_of, cochain_at, terms_of, coboundary_same, pivot_down, IsBelow, IsRow, value_in, level, combined, IsMarkedIn, IsSolvedStored, IsEchelonRow, IsSolvedWhole, pivot_of, row_of, EchelonRow, Stored, absolute_law, canonical_bound, canonical_primitive, coboundary_down, coboundary_up, linear, relative_coboundaries, restricted, IsSubcomplex, IsCanonicalRelativeCoboundary, IsCanonicalRelativePrimitive, IsRelativeCoboundaryPivot, below_of_zero}, specs.Names.{Coboundary, IsPairIndex, IsPairIndexOf, IsPivotTable, IsPlaced, AreCoboundaries, AreFewCoboundaries, AreRelativeCoboundaries, CohomologyData, IsCoboundaryFrom, IsCohomologyOf, IsCohomologyOfPair, IsPlacedCoboundary, IsRelativeCoboundaryOf, bounds_in, coboundaries_in, pivot_in, AreRowsOf, TellCoboundaries}, proofs.DegreeLemmas.{by_place, rows_count, skipped_places}, proofs.LoopLemmas.{AreMade, absolute_classes, made_in, no_simplex}, proofs.RowLemmas.row_agrees, proofs.WalkLemmas.{ascending_few, no_bounds, pair_with_nothing, solved_here}}
 
 -- ---- cochains that agree

@@ -1,6 +1,6 @@
 -- One degree: the blanked rows are those of relative cochains, and what may be skipped.
 use Rattle.std.proofs.Common.{Bool, Option, None, ◌≡◌, ℕ, zero, suc, ◌+◌, ◌<◌, ◌⊎◌, inl, inr, true, false, cond, List, [], ◌∷◌, map, length, get_or, arith, refl, sym, ap, subst, ◌∙◌, ◌≢◌}
-use Rattle.cohomology.{proofs.Below.{cases_lt, get_or_past, get_or-map, zip_change, IsVectorRow, AllZip, length-map, cases_Bool, Congruent, IsField, Each, KernelVector, unit_vector, Walked, length_alike, zip_from_index, Congruent_of, Congruent_trans, each_among, each_map, one-nonzero, row_combination-row, unit_one, unit_other, IsCoboundaryRow, IsRowOf, terms_of, coboundary, unit_cochain, IsSimplex, get_or_default, simplex_at, IsBelow, IsRow, value_in, level, IsSolved, SkipsFit, combined, IsLeadIn, IsMarkedIn, covered_simplex, simplex_covered, bound_places, canonical_basis, IsOuterByPlace, cocycle_down, rows_by_place, relative_close, is_covered, IsCanonicalRelativeBasis, AreRelativeBoundPlaces, AreSkippedPlaces, IsRelativeCoboundaryRow, some_or_none, not_both, some_none}, specs.Names.{IsPairIndexOf, AreRowsOf}, proofs.PairLemmas.among_at}
+use Rattle.cohomology.{proofs.Below.{cases_lt, get_or_past, get_or-map, zip_change, IsVectorRow, AllZip, length-map, cases_Bool, Congruent, IsField, unit_vector, Walked, length_alike, zip_from_index, Congruent_of, Congruent_trans, each_among, each_map, one-nonzero, row_combination-row, unit_one, unit_other, IsCoboundaryRow, IsRowOf, terms_of, coboundary, unit_cochain, IsSimplex, get_or_default, simplex_at, value_in, level, IsSolved, SkipsFit, combined, IsLeadIn, IsMarkedIn, covered_simplex, simplex_covered, bound_places, canonical_basis, IsOuterByPlace, cocycle_down, rows_by_place, relative_close, is_covered, IsCanonicalRelativeBasis, AreRelativeBoundPlaces, AreSkippedPlaces, IsRelativeCoboundaryRow, some_or_none, not_both, some_none}, specs.Names.{IsPairIndexOf, AreRowsOf}, proofs.PairLemmas.among_at}
 
 -- a place where the list has another value than d is inside
 pub inside_of : {X : Type 0} (xs : List X) (d : X) (x : ℕ) → get_or xs x d ≢ d → x < length xs

@@ -1,6 +1,6 @@
 -- Tables that grow by one place.
-use Rattle.std.proofs.Common.{Bool, false, IsTrue, ◌≡◌, ℕ, zero, suc, ◌+◌, ◌-◌, ◌<◌, inl, inr, List, [], ◌∷◌, ◌++◌, length, get_or, refl, sym, ◌∙◌, ap, arith, subst, Option, None, Some, MatchOption, ◌↔◌}
-use Rattle.cohomology.{proofs.Below.{cases_lt, get_before, get_last, length_push, is_some, not_both, Among, level, IsMarkedIn}, specs.Names.AreBlanked}
+use Rattle.std.proofs.Common.{Bool, IsTrue, ◌≡◌, ℕ, zero, suc, ◌+◌, ◌-◌, ◌<◌, inl, inr, List, [], ◌∷◌, length, get_or, refl, arith, subst, Option, None, Some, MatchOption, ◌↔◌}
+use Rattle.cohomology.{proofs.Below.{is_some, not_both, Among, level, IsMarkedIn}}
 
 pub among_at : {X : Type 0} (x : X) (xs : List X) (k : ℕ) (d : X) → k < length xs → get_or xs k d ≡ x → Among x xs
 among_at x [] k d b e = absurd (omega arith)

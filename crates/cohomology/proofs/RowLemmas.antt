@@ -1,6 +1,6 @@
 -- The cochain of a row, and the least place of a class.
 use Rattle.std.proofs.Common.{◌≡◌, ℕ, zero, suc, ◌+◌, ◌*◌, ◌%◌, ◌<◌, ◌≤◌, ◌≢◌, List, [], ◌∷◌, length, get_or, arith, refl, sym, ap, ap₂, subst, ◌∙◌, inl, inr, mod-eq_of_lt, Some, slice_get}
-use Rattle.cohomology.{proofs.Below.{AllZip, cases_eq, cases_lt, get_or_default, get_or_from_slice_get, slice_get_read, slice_get_within, zero-mod, Congruent, IsField, ListsAll, unit_vector, paired, Congruent_of, Congruent_sym, Congruent_trans, each_from_index, each_get_or, each_map, one-nonzero, same_or_not, unit_one, unit_other, IsInOrder, IsSimplex, Precedes, AgreesOnSimplices, Cochain, pairing, unit_cochain, cochain_of, cochain_at, terms_of, value_by_place, lists_compare, lists_strict, agree_by_place, cochain_at-value, lead_up, simplex_at, unit_away, unit_here, IsBelow, IsFirst, IsRow, value_in, value_in-at, value_in-none, value_in-small, level, PlacedCochain, relative_cocycles, IsCanonicalRelativeClass, IsRelativeCocyclePivot}, specs.Names.{IsPairIndexOf, chains_at, cochain_in, IsLeadOf, at_places}}
+use Rattle.cohomology.{proofs.Below.{AllZip, cases_eq, cases_lt, get_or_default, get_or_from_slice_get, slice_get_read, slice_get_within, zero-mod, IsField, ListsAll, unit_vector, paired, Congruent_of, Congruent_sym, Congruent_trans, each_map, one-nonzero, same_or_not, unit_one, unit_other, IsInOrder, IsSimplex, Precedes, AgreesOnSimplices, Cochain, pairing, cochain_of, cochain_at, terms_of, value_by_place, lists_compare, lists_strict, agree_by_place, cochain_at-value, lead_up, IsBelow, IsFirst, IsRow, value_in, value_in-none, value_in-small, level, PlacedCochain, relative_cocycles, IsCanonicalRelativeClass, IsRelativeCocyclePivot}, specs.Names.{IsPairIndexOf, chains_at, cochain_in, IsLeadOf, at_places}}
 
 -- ---- lists
 

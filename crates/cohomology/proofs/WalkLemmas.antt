@@ -1,6 +1,6 @@
 -- The walk of one degree of a pair: its canonical classes, and what it tells of the coboundaries one degree up.
 use Rattle.std.proofs.Common.{Bool, Option, None, ◌≡◌, ℕ, ◌+◌, ◌<◌, ◌≤◌, ◌^◌, List, [], ◌∷◌, ◌++◌, map, length, get_or, arith, refl, sym, ap, subst, ◌∙◌, inl, inr}
-use Rattle.cohomology.{proofs.Below.{each_right, IsVectorRow, length-map, get_or_default, map-append, map-map, Congruent, IsField, Each, IsAscending, IsImage, KernelVector, kernel_place, copies, each_append, each_from_index, each_get_or, each_map, each_unmap, each_zip, length_alike, not_zero, length-copies, cochain_at, terms_of, IsBelow, IsRow, value_in, IsComplexIndex, IsIndexOf, level, IsSolvedStored, stored_row, AreRows, SkipsFit, combined, IsLeadIn, Stored, members, coboundary_up, forget_bound, no_bound_below, IsRelativeCoboundary, IsCanonicalRelativeBasis, IsRelativeCoboundaryPivot, nowhere, some_none}, specs.Names.{AreBlanked, IsPairIndex, IsPairIndexOf, AreRelativeIn, AreStoredBounds, IsPivotTable, IsReachedIn, AreRowsOf}, proofs.DegreeLemmas.{by_place, degree_basis, next_bounds, lead_or_not, marked_or_not, rows_count, skips_fit}}
+use Rattle.cohomology.{proofs.Below.{each_right, IsVectorRow, length-map, get_or_default, map-append, map-map, IsField, Each, IsAscending, IsImage, kernel_place, copies, each_append, each_from_index, each_get_or, each_map, each_unmap, each_zip, length_alike, not_zero, length-copies, cochain_at, terms_of, IsBelow, IsRow, IsComplexIndex, IsIndexOf, level, IsSolvedStored, stored_row, AreRows, SkipsFit, combined, IsLeadIn, Stored, members, coboundary_up, forget_bound, no_bound_below, IsRelativeCoboundary, IsCanonicalRelativeBasis, IsRelativeCoboundaryPivot, nowhere, some_none}, specs.Names.{AreBlanked, IsPairIndex, IsPairIndexOf, AreRelativeIn, AreStoredBounds, IsPivotTable, IsReachedIn, AreRowsOf}, proofs.DegreeLemmas.{by_place, degree_basis, next_bounds, lead_or_not, marked_or_not, rows_count, skips_fit}}
 use Rattle.complex_index.specs.declared.indexed.Cochain.{Cochain}
 
 -- one more cochain of the degree
@@ -39,32 +39,35 @@ blanked_below bound marks rows kept blank h =
 pub no_bounds : (facets parts : List (List ℕ)) (p : ℕ) (s : List ℕ) → IsRelativeCoboundaryPivot facets parts 0 p s → ⊥
 no_bounds facets parts p s h = not_zero p (h.vector s) h.lead.nonzero ((no_bound_below facets p h.vector (forget_bound facets parts 0 p h.vector h.member)).at s h.lead.on)
 
-pub nothing_reached : (p : ℕ) (full sub : List (List (List ℕ))) (pivots : List (Option ℕ)) (stored : List (Stored p)) → length (level full 0) < 2 ^ 32 → pivots ≡ copies (length (level full 0)) None → stored ≡ []
-    → IsReachedIn p full sub 0 pivots stored
-nothing_reached p full sub pivots stored few is_none e =
-    let whole : length pivots ≡ length (level full 0) = ap length is_none ∙ length-copies (length (level full 0)) None in
-    let none : (x : ℕ) → IsLeadIn pivots x → ⊥ = λ x h. h (ap (λ (ps : List (Option ℕ)). get_or ps x None) is_none ∙ nowhere (length (level full 0)) x) in
-    record {
-      table = record {
-        few = few;
-        whole = whole;
-        places = λ facets parts is. record {
-          inside = λ x h. absurd (none x h);
-          sound = λ x h. absurd (none x h);
-          whole = λ x b h. absurd (no_bounds facets parts p (get_or (level full 0) x []) h);
-          decide = lead_or_not pivots;
-        };
+module _ (p : ℕ) (full sub : List (List (List ℕ))) (pivots : List (Option ℕ)) (few : length (level full 0) < 2 ^ 32) (is_none : pivots ≡ copies (length (level full 0)) None) where
+  no_lead : (x : ℕ) → IsLeadIn pivots x → ⊥
+  no_lead x h = h (ap (λ (ps : List (Option ℕ)). get_or ps x None) is_none ∙ nowhere (length (level full 0)) x)
+
+  pub no_table : IsPivotTable p full sub 0 pivots
+  no_table = record {
+    few = few;
+    whole = ap length is_none ∙ length-copies (length (level full 0)) None;
+    places = λ facets parts is. record {
+      inside = λ x h. absurd (no_lead x h);
+      sound = λ x h. absurd (no_lead x h);
+      whole = λ x b h. absurd (no_bounds facets parts p (get_or (level full 0) x []) h);
+      decide = lead_or_not pivots;
+    };
+  }
+
+  pub nothing_reached : (stored : List (Stored p)) → stored ≡ [] → IsReachedIn p full sub 0 pivots stored
+  nothing_reached stored e = record {
+    table = no_table;
+    bounds = subst (λ (ss : List (Stored p)). AreStoredBounds p full sub 0 ss pivots) (sym e) (record {
+      triangular = record {
+        fits = tt;
+        owns = record { full = no_table.whole; some = λ y k q. absurd (no_lead y (λ z. some_none k (sym q ∙ z))); none = λ y b q m. m };
+        apart = tt;
+        older = record { each = λ k s b. absurd (omega arith) };
       };
-      bounds = subst (λ (ss : List (Stored p)). AreStoredBounds p full sub 0 ss pivots) (sym e) (record {
-        triangular = record {
-          fits = tt;
-          owns = record { full = whole; some = λ y k q. absurd (none y (λ z. some_none k (sym q ∙ z))); none = λ y b q m. m };
-          apart = tt;
-          older = record { each = λ k s b. absurd (omega arith) };
-        };
-        members = λ facets parts is. tt;
-      });
-    }
+      members = λ facets parts is. tt;
+    });
+  }
 
 -- the index of no simplices
 pub no_levels : (ls : List (List (List ℕ))) → IsIndexOf [] ls → ls ≡ []

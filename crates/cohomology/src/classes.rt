@@ -60,7 +60,7 @@ pub(crate) fn degree_at<const P: u32>(
     ensures next { IfOk result (λ s. IsReachedIn P full.now sub.now (degree + 1) s.1.pivots s.1.stored.items) }
     ensures coboundaries { IfOk result (λ s. TellCoboundaries P full.now sub.now degree s.1.stored.items s.1.pivots) }
 {
-    let (classes, next) = step_at(alloc, full, sub, degree, reached)?;
+    let (classes, next) = step_at(alloc, full, sub, degree, &reached.pivots)?;
     let places = leads_of(alloc, classes.as_slice())?;
     let table = cycles(
         alloc,

@@ -1,7 +1,8 @@
-ghost use Rattle.std.specs.Prelude.{◌≡◌, ℕ, ◌+◌, ◌<◌, ◌^◌, List, [], map, length, IfOk, IsTrue};
-ghost use Rattle.linear_law.specs.Names.{Each};
+ghost use Rattle.std.specs.Prelude.{◌≡◌, ℕ, ◌+◌, ◌<◌, ◌^◌, List, [], None, map, length, IfOk, IsTrue};
+ghost use Rattle.linear_law.specs.Names.{Each, copies};
 ghost use Rattle.fp_field.specs.Served.{served};
-ghost use Rattle.cohomology.specs.Names.{IsPairIndex, AreRelativeIn, IsPivotTable, IsReachedIn, AreRowsOf, TellCoboundaries};
+ghost use Rattle.complex_index.specs.Names.{IsComplexIndex, level};
+ghost use Rattle.cohomology.specs.Names.{IsPairIndex, AreCanonicalIn, AreRelativeIn, IsPivotTable, IsReachedIn, AreRowsOf, TellCoboundaries};
 
 use crate::pairs::{blanked, joined, marks};
 use complex_index::{Cochain, Indexed};
@@ -35,12 +36,20 @@ fn of_degree<const P: u32>(
     Ok(cochains)
 }
 
+/// The pivots of the coboundaries of degree 0: no place is one.
+pub fn no_pivots(alloc: Global, index: &Indexed) -> Result<Pivots, AllocError>
+    ensures none { IfOk result (λ t. t ≡ copies (length (level index.now 0)) None) }
+    ensures table { IfOk result (λ t. (p : ℕ) (sub : List (List (List ℕ))) → IsPivotTable p index.now sub 0 t) }
+{
+    Pivots::none(alloc, index.count(0) as usize)
+}
+
 /// What is known below degree 0: no place is a pivot.
 pub(crate) fn start<const P: u32>(alloc: Global, full: &Indexed) -> Result<Reached<P>, AllocError>
     ensures { IfOk result (λ r. (sub : List (List (List ℕ))) → IsReachedIn P full.now sub 0 r.pivots r.stored.items) }
 {
     Ok(Reached {
-        pivots: Pivots::none(alloc, full.count(0) as usize)?,
+        pivots: no_pivots(alloc, full)?,
         stored: Vec::new(alloc),
     })
 }
@@ -75,25 +84,45 @@ fn rows_at<const P: u32>(
     Ok((rows, skip))
 }
 
-/// The canonical classes of one degree, from what the walks below it tell, and what is then told of the next degree.
+/// The canonical classes of one degree, from the pivots of its coboundaries, and what is then told of the next degree.
 pub(crate) fn step_at<const P: u32>(
     alloc: Global,
     full: &Indexed,
     sub: &Indexed,
     degree: u32,
-    reached: &Reached<P>,
+    pivots: &Pivots,
 ) -> Result<(Vec<Cochain<P>>, Reached<P>), AllocError>
     requires prime { IsTrue (served P) }
     requires pair { IsPairIndex full.now sub.now }
     requires inside { degree + 1 < 2 ^ 32 }
-    requires reached { IsReachedIn P full.now sub.now degree reached.now.pivots reached.now.stored.items }
+    requires pivots { IsPivotTable P full.now sub.now degree pivots.now }
     ensures classes { IfOk result (λ s. AreRelativeIn P full.now sub.now degree s.0.items) }
     ensures next { IfOk result (λ s. IsReachedIn P full.now sub.now (degree + 1) s.1.pivots s.1.stored.items) }
     ensures coboundaries { IfOk result (λ s. TellCoboundaries P full.now sub.now degree s.1.stored.items s.1.pivots) }
 {
-    let (rows, skip) = rows_at(alloc, full, sub, degree, &reached.pivots)?;
+    let (rows, skip) = rows_at(alloc, full, sub, degree, pivots)?;
     let width = full.count(degree + 1) as usize;
     let (kernel, pivots, stored) = kernel_and_stored(alloc, rows.as_slice(), width, skip)?;
     let classes = of_degree(alloc, degree, kernel)?;
     Ok((classes, Reached { pivots, stored }))
+}
+
+/// The canonical classes of one degree of a complex, from the pivots of the coboundaries of this degree, and the pivots of
+/// those of the next. No cycles are made.
+pub fn classes_at<const P: u32>(
+    alloc: Global,
+    index: &Indexed,
+    degree: u32,
+    pivots: &Pivots,
+) -> Result<(Vec<Cochain<P>>, Pivots), AllocError>
+    requires prime { IsTrue (served P) }
+    requires complex { IsComplexIndex index.now }
+    requires inside { degree + 1 < 2 ^ 32 }
+    requires pivots { IsPivotTable P index.now [] degree pivots.now }
+    ensures classes { IfOk result (λ s. AreCanonicalIn P index.now degree s.0.items) }
+    ensures next { IfOk result (λ s. IsPivotTable P index.now [] (degree + 1) s.1) }
+{
+    let nothing = nothing(alloc)?;
+    let (classes, next) = step_at(alloc, index, &nothing, degree, pivots)?;
+    Ok((classes, next.pivots))
 }

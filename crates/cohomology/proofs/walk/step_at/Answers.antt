@@ -8,7 +8,7 @@ kernel_and_stored-requires g c =
     let width = c.count-width.result in
     let rows : List (List (ℕ × ℕ)) = c.in_ok-rows.rows.items in
     let skip = c.in_ok-rows.skip.items in
-    let given = walked_rows p (served_field p c.requires.prime) c.args.full.now c.args.sub.now c.requires.pair c.args.degree c.args.reached.now.pivots c.requires.reached.table rows skip c.in_ok-rows.ensures width c.count-width.ensures (search rules) in
+    let given = walked_rows p (served_field p c.requires.prime) c.args.full.now c.args.sub.now c.requires.pair c.args.degree c.args.pivots.now c.requires.pivots rows skip c.in_ok-rows.ensures width c.count-width.ensures (search rules) in
     (lit< tt, (lit< tt, (c.requires.prime, subst (λ (rs : List (List (ℕ × ℕ))). AreRows width rs × SkipsFit p width rs skip) (sym c.as_slice.ensures.value) given)))
 
 pub returns : goal.returns
@@ -17,8 +17,8 @@ returns g c =
     let field = served_field p c.requires.prime in
     let full = c.args.full.now in
     let sub = c.args.sub.now in
-    let pivots = c.args.reached.now.pivots in
-    let table = c.requires.reached.table in
+    let given = c.args.pivots.now in
+    let table = c.requires.pivots in
     let width = c.count-width.result in
     let rows : List (List (ℕ × ℕ)) = c.in_ok-rows.rows.items in
     let skip = c.in_ok-rows.skip.items in
@@ -27,8 +27,8 @@ returns g c =
     let stored = made.stored.items in
     let solved : IsSolvedStored p width rows skip kernel made.pivots stored = subst (λ (rs : List (List (ℕ × ℕ))). IsSolvedStored p width rs skip kernel made.pivots stored) c.as_slice.ensures.value made.ensures in
     record {
-      classes = solved_degree p field full sub c.requires.pair c.args.degree pivots table rows skip c.in_ok-rows.ensures width c.count-width.ensures kernel made.pivots stored solved
+      classes = solved_degree p field full sub c.requires.pair c.args.degree given table rows skip c.in_ok-rows.ensures width c.count-width.ensures kernel made.pivots stored solved
           c.in_ok-classes.classes.items c.in_ok-classes.ensures.rows c.in_ok-classes.ensures.degrees;
-      next = solved_next p field full sub c.requires.pair c.args.degree pivots table rows skip c.in_ok-rows.ensures width c.count-width.ensures kernel made.pivots stored solved (search rules);
-      coboundaries = solved_tells p field full sub c.requires.pair c.args.degree pivots table rows skip c.in_ok-rows.ensures width c.count-width.ensures kernel made.pivots stored solved;
+      next = solved_next p field full sub c.requires.pair c.args.degree given table rows skip c.in_ok-rows.ensures width c.count-width.ensures kernel made.pivots stored solved (search rules);
+      coboundaries = solved_tells p field full sub c.requires.pair c.args.degree given table rows skip c.in_ok-rows.ensures width c.count-width.ensures kernel made.pivots stored solved;
     }
