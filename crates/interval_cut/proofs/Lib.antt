@@ -10,3 +10,4 @@ pub mod LiveListLemmas
 pub mod LiveFaceLemmas
 pub mod LiveWalkLemmas
 pub mod LiveValueLemmas
+pub mod CrowdedLemmas

@@ -11,10 +11,10 @@ use Rattle.interval_cut.{specs.Names.{is_live_cut, IsBegun, IsDeadEnd, IsFitting
 times-cons : (v w : ℕ) (u : List ℕ) → times v (w ∷ u) ≡ cond (w == v) 1 0 + times v u
 times-cons v w u = sum_by-cons (λ x. cond (x == v) 1 0) w u
 
-times-here : (v w : ℕ) (u : List ℕ) → w ≡ v → times v (w ∷ u) ≡ suc (times v u)
+pub times-here : (v w : ℕ) (u : List ℕ) → w ≡ v → times v (w ∷ u) ≡ suc (times v u)
 times-here v w u e = let one : cond {A = ℕ} (w == v) 1 0 ≡ 1 = ap (λ t. cond {A = ℕ} t 1 0) (eq-eqb w v e) in omega (arith, times-cons v w u, one)
 
-times-other : (v w : ℕ) (u : List ℕ) → w ≢ v → times v (w ∷ u) ≡ times v u
+pub times-other : (v w : ℕ) (u : List ℕ) → w ≢ v → times v (w ∷ u) ≡ times v u
 times-other v w u n = let none : cond {A = ℕ} (w == v) 1 0 ≡ 0 = ap (λ t. cond {A = ℕ} t 1 0) (ne_eqb w v n) in omega (arith, times-cons v w u, none)
 
 times-none : (v : ℕ) (u : List ℕ) → times v u ≡ 0 → occurs v u ≡ 0
@@ -52,7 +52,7 @@ size-here v u a b p =
     ap length (face_here v v u a b p refl) ∙ length-append (numbers_from a (suc (b - a))) (cut_face v u b p) ∙ ap (λ n. n + length (cut_face v u b p)) (length-numbers_from a (suc (b - a)))
 
 -- each interval has a place
-size-least : (v : ℕ) (u : List ℕ) (a : ℕ) (p : List ℕ) → length p ≡ length u → times v u ≤ length (cut_face v u a p)
+pub size-least : (v : ℕ) (u : List ℕ) (a : ℕ) (p : List ℕ) → length p ≡ length u → times v u ≤ length (cut_face v u a p)
 size-least v [] a p l = omega arith
 size-least v (w ∷ u) a [] l = absurd (omega arith)
 size-least v (w ∷ u) a (b ∷ p) l = elim (cases_eq v w) [
@@ -111,7 +111,7 @@ live-all q (k ∷ ks) u p h =
     and_from (not (is_degenerate (cut_face k u 0 p)) && (length (cut_face k u 0 p) == suc q)) (is_live q (cut_faces ks u p)) (h k (occurs-mid k [] ks))
     (live-all q ks u p (λ j o. h j (occurs-later j (k ∷ []) ks o)))
 
-live-none : (q : ℕ) (ks u p : List ℕ) (v : ℕ) → occurs v ks ≡ 1 → (not (is_degenerate (cut_face v u 0 p)) && (length (cut_face v u 0 p) == suc q)) ≡ false → is_live q (cut_faces ks u p) ≡ false
+pub live-none : (q : ℕ) (ks u p : List ℕ) (v : ℕ) → occurs v ks ≡ 1 → (not (is_degenerate (cut_face v u 0 p)) && (length (cut_face v u 0 p) == suc q)) ≡ false → is_live q (cut_faces ks u p) ≡ false
 live-none q [] u p v o h = absurd (omega arith)
 live-none q (k ∷ ks) u p v o h = elim (occurs-cons v k ks) [
   | inl e ↦

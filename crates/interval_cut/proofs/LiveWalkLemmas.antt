@@ -44,7 +44,8 @@ module _ (q : ℕ) (u v : List ℕ) (top : ℕ) (s t : Stage) (inner old items n
 
 -- ---- the count
 
-among-length : (q : ℕ) (u : List ℕ) (ps : List (List ℕ)) → live_count_among q (arity u) u ps ≡ length (filter (is_live_cut q u) ps)
+-- how many of the cuts are live
+pub among-length : (q : ℕ) (u : List ℕ) (ps : List (List ℕ)) → live_count_among q (arity u) u ps ≡ length (filter (is_live_cut q u) ps)
 among-length q u [] = refl
 among-length q u (p ∷ ps) = go (is_live_cut q u p) (live_count_among q (arity u) u ps) (filter (is_live_cut q u) ps) (among-length q u ps)
   where

@@ -1,3 +1,4 @@
 pub mod PairLemmas
 pub mod ElementLemmas
+pub mod LiveLemmas
 pub mod StoredLemmas

@@ -3,10 +3,10 @@ use native.Mathlib.Decide.{ℕ_discrete}
 use Rattle.std.{proofs.Common.{◌≡◌, ◌≢◌, ◌⊎◌, ℕ, zero, suc, ◌+◌, ◌-◌, ◌*◌, ◌/◌, ◌<◌, ◌≤◌, ◌==◌, cond, true, false, List, [], ◌∷◌, ◌++◌, length, length-append, map, Option, None, Some, MatchOption, Bool, Ordering, Equal, eqb-true, refl, sym, ◌∙◌, ap, subst, inl, inr, arith, eq-eqb, ne_eqb, ℤ, pos, negsuc, ◌+ℤ◌, append-nil}, proofs.lemmas.Bool.{or_left, or_right}, proofs.lemmas.Int.ints, proofs.lemmas.List.map-append, proofs.lemmas.List.Sorted.sum_by-IsPermutation, proofs.lemmas.List.Sums.sum_by-cons, specs.List.Sorted.IsPermutation, specs.Borrow.Bor, specs.List.{IsFirstAndRest, sum_by}}
 use Rattle.surjection.specs.Names.{surjection_fault}
 use Rattle.operad_law.{proofs.PlusTerm.value_at-plus_term, specs.FormalSums.plus_term}
-use Rattle.signed_sum.{proofs.Names.{fun_ext, one-mul, occurs-01, occurs-mid, occurs-other, occurs-self, restricted-gone, restricted-there, total-append}, specs.Names.{IsDistinct, begins_with, cycle, cycle_power, is_degenerate, normalized, numbers_from, occurs, total, value_at}}
-use Rattle.table_reduction.{specs.Walks.{ahead, is_last}, proofs.ReductionLemmas.faultless, proofs.WalkLemmas.{adds-pruned, occurs-no, ahead-both, ahead-last, ahead-used, plain-more, walk-from_nothing}}
+use Rattle.signed_sum.{proofs.Names.{fun_ext, one-mul, occurs-01, occurs-mid, occurs-other, occurs-self, restricted-gone, restricted-there, total-append}, specs.Names.{IsDistinct, begins_with, cycle, cycle_power, is_degenerate, normalized, numbers_from, occurs, restricted, total, value_at}}
+use Rattle.table_reduction.{specs.Walks.{ahead, is_last}, proofs.ReductionLemmas.faultless, proofs.WalkLemmas.{adds-pruned, occurs-no, ahead-both, ahead-last, ahead-used, plain-more, walk-from_nothing, walk-nothing}}
 use Rattle.table_reduction_law.{proofs.MayBoundary.tuple-append, proofs.PowerPairs.{may_sum, pair_sum, pairs-cong, pairs-plus, power-perm, sum-cong, sum_below}, proofs.ReductionBoundary.{permutation-length, reduced-walked, reduction_sum}, proofs.ReductionWalks.walk, proofs.UnusedEntries.{unused-absent, unused-cons, unused-distinct, unused-none}, specs.Names.{IsPermutationOf, IsTuple, cons_if_zero, leading_entries, unused}}
-use Rattle.may_elements.{proofs.ElementLemmas.pair_count-half, specs.Pairs.{AddsBelow, AddsLists, IsAt, IsBegun}}
+use Rattle.may_elements.{proofs.ElementLemmas.pair_count-half, specs.Pairs.{AddsBelow, AddsLists, IsAt, IsBegun, unless_out}}
 
 -- ---- a row that the next one repeats
 degenerate-cons : (x : ℕ) (u : List ℕ) → is_degenerate u ≡ true → is_degenerate (x ∷ u) ≡ true
@@ -88,14 +88,14 @@ pairs-nothing p (suc k) = sum-cong p (λ e. pair_sum p k (λ t. pos 0)) (λ e. p
 pairs-gone : (p k : ℕ) (f : List (List ℕ) → ℤ) → ((t : List (List ℕ)) → f t ≡ pos 0) → pair_sum p k f ≡ pos 0
 pairs-gone p k f z = ap (pair_sum p k) (fun_ext z) ∙ pairs-nothing p k
 
-adds-none : (p k : ℕ) (later : List (List ℕ)) (left used values : List ℕ) (lists : List (List ℕ)) →
-    ((phi : List ℕ → ℤ) (t : List (List ℕ)) → ahead (later ++ t) left used values (normalized phi) ≡ pos 0) → AddsLists p k later left used values lists lists
-adds-none p k later left used values lists z = record { at = λ phi. omega (arith, ints, pairs-gone p k (λ t. ahead (later ++ t) left used values (normalized phi)) (z phi)) }
+adds-none : (out : List ℕ → Bool) (p k : ℕ) (later : List (List ℕ)) (left used values : List ℕ) (lists : List (List ℕ)) →
+    ((phi : List ℕ → ℤ) (t : List (List ℕ)) → ahead (later ++ t) left used values (normalized (restricted out phi)) ≡ pos 0) → AddsLists out p k later left used values lists lists
+adds-none out p k later left used values lists z = record { at = λ phi. omega (arith, ints, pairs-gone p k (λ t. ahead (later ++ t) left used values (normalized (restricted out phi))) (z phi)) }
 
-adds-same : (p k : ℕ) (later next : List (List ℕ)) (left rest used values written : List ℕ) (old new : List (List ℕ)) →
+adds-same : (out : List ℕ → Bool) (p k : ℕ) (later next : List (List ℕ)) (left rest used values written : List ℕ) (old new : List (List ℕ)) →
     ((phi : List ℕ → ℤ) (t : List (List ℕ)) → ahead (later ++ t) left used values (normalized phi) ≡ ahead (next ++ t) rest used written (normalized phi)) →
-    AddsLists p k next rest used written old new → AddsLists p k later left used values old new
-adds-same p k later next left rest used values written old new s a = record { at = λ phi. omega (arith, ints, a.at phi, ap (pair_sum p k) (fun_ext (s phi))) }
+    AddsLists out p k next rest used written old new → AddsLists out p k later left used values old new
+adds-same out p k later next left rest used values written old new s a = record { at = λ phi. omega (arith, ints, a.at phi, ap (pair_sum p k) (fun_ext (s (restricted out phi)))) }
 
 -- ---- the steps
 -- what the tests of the code find
@@ -115,47 +115,62 @@ no_entry (x ∷ left) None h n = absurd (omega arith)
 no_entry (x ∷ left) (Some p) h n = absurd (n p refl)
 
 -- a row is at its end, and pairs are missing
-pub adds-missing : (p k : ℕ) (used values : List ℕ) (lists : List (List ℕ)) → k ≢ 0 → AddsLists p k [] [] used values lists lists
-adds-missing p zero used values lists n = absurd (n refl)
-adds-missing p (suc k) used values lists n = record {
+pub adds-missing : (out : List ℕ → Bool) (p k : ℕ) (used values : List ℕ) (lists : List (List ℕ)) → k ≢ 0 → AddsLists out p k [] [] used values lists lists
+adds-missing out p zero used values lists n = absurd (n refl)
+adds-missing out p (suc k) used values lists n = record {
   at = λ phi.
       let z = sum-cong p (λ e. pair_sum p k (λ t. pos 0)) (λ e. pos 0) (λ e. pairs-nothing p k) ∙ sum-nothing p in
       omega (arith, ints, z);
 }
 
 -- the list that is written is complete
-pub adds-one : (p k : ℕ) (used values : List ℕ) (old new : List (List ℕ)) → k ≡ 0 → is_degenerate values ≡ false → new ≡ old ++ (values ∷ []) → AddsLists p k [] [] used values old new
-adds-one p k used values old new z d n = record {
+pub adds-one : (out : List ℕ → Bool) (p k : ℕ) (used values : List ℕ) (old new : List (List ℕ)) → k ≡ 0 → is_degenerate values ≡ false → new ≡ old ++ unless_out out values → AddsLists out p k [] [] used values old new
+adds-one out p k used values old new z d n = record {
   at = λ phi.
-      let b : normalized phi (values ++ []) ≡ phi values = ap (normalized phi) (append-nil values) ∙ restricted-there is_degenerate phi values d in
-      let c = ap (λ k. pair_sum p k (λ t. ahead t [] used values (normalized phi))) z in
-      omega (arith, ints, ap (total phi) n, total-append phi old (values ∷ []), b, c);
+      let h = restricted out phi in
+      let b : normalized h (values ++ []) ≡ h values = ap (normalized h) (append-nil values) ∙ restricted-there is_degenerate h values d in
+      let c = ap (λ k. pair_sum p k (λ t. ahead t [] used values (normalized h))) z in
+      omega (arith, ints, ap (total phi) n, total-append phi old (unless_out out values), one phi, b, c);
 }
+  where
+    one : (phi : List ℕ → ℤ) → total phi (unless_out out values) ≡ restricted out phi values
+    one phi = elim (out values) as (λ b. total phi (cond b [] (values ∷ [])) ≡ cond b (pos 0) (phi values)) [ true ↦ refl | false ↦ omega (arith, ints) ]
 
-pub adds-skipped : (p k x : ℕ) (left used values : List ℕ) (old new : List (List ℕ)) → occurs x used ≡ 1 → AddsLists p k [] left used values old new → AddsLists p k [] (x ∷ left) used values old new
-adds-skipped p k x left used values old new o a = adds-same p k [] [] (x ∷ left) left used values values old new (λ phi t. ahead-used t x left used values (normalized phi) o) a
+-- no list that begins so is wanted
+pub adds-out : (out : List ℕ → Bool) (p k : ℕ) (left used values : List ℕ) (lists : List (List ℕ)) → ((w : List ℕ) → out (values ++ w) ≡ true) → AddsLists out p k [] left used values lists lists
+adds-out out p k left used values lists o =
+    adds-none out p k [] left used values lists (λ phi t. walk-nothing t (unused used left) used (λ u. normalized (restricted out phi) (values ++ u))
+    (λ u. none (is_degenerate (values ++ u)) (restricted out phi (values ++ u)) (restricted-gone out phi (values ++ u) (o u))))
+  where
+    none : (b : Bool) (x : ℤ) → x ≡ pos 0 → cond b (pos 0) x ≡ pos 0
+    none true x e = refl
+    none false x e = e
 
-pub adds-pruned_here : (p k x : ℕ) (left used values : List ℕ) (lists : List (List ℕ)) → occurs x used ≡ 0 → is_last x values ≡ true → AddsLists p k [] (x ∷ left) used values lists lists
-adds-pruned_here p k x left used values lists o l =
-    adds-none p k [] (x ∷ left) used values lists (λ phi t. let a = (adds-pruned t x left used values [] o l).at phi in omega (arith, ints, a))
+pub adds-skipped : (out : List ℕ → Bool) (p k x : ℕ) (left used values : List ℕ) (old new : List (List ℕ)) → occurs x used ≡ 1 → AddsLists out p k [] left used values old new → AddsLists out p k [] (x ∷ left) used values old new
+adds-skipped out p k x left used values old new o a = adds-same out p k [] [] (x ∷ left) left used values values old new (λ phi t. ahead-used t x left used values (normalized phi) o) a
+
+pub adds-pruned_here : (out : List ℕ → Bool) (p k x : ℕ) (left used values : List ℕ) (lists : List (List ℕ)) → occurs x used ≡ 0 → is_last x values ≡ true → AddsLists out p k [] (x ∷ left) used values lists lists
+adds-pruned_here out p k x left used values lists o l =
+    adds-none out p k [] (x ∷ left) used values lists (λ phi t. let a = (adds-pruned t x left used values [] o l).at (restricted out phi) in omega (arith, ints, a))
 
 -- an entry of the last row
-pub adds-in_last : (p k x : ℕ) (left used values written : List ℕ) (old new : List (List ℕ)) → k ≡ 0 → written ≡ values ++ (x ∷ []) → occurs x used ≡ 0 →
-    AddsLists p k [] left used written old new → AddsLists p k [] (x ∷ left) used values old new
-adds-in_last p k x left used values written old new z w o b = record {
+pub adds-in_last : (out : List ℕ → Bool) (p k x : ℕ) (left used values written : List ℕ) (old new : List (List ℕ)) → k ≡ 0 → written ≡ values ++ (x ∷ []) → occurs x used ≡ 0 →
+    AddsLists out p k [] left used written old new → AddsLists out p k [] (x ∷ left) used values old new
+adds-in_last out p k x left used values written old new z w o b = record {
   at = λ phi.
-      let a : AddsLists p k [] left used (values ++ (x ∷ [])) old new = subst (λ (y : List ℕ). AddsLists p k [] left used y old new) w b in
-      let d = ap (λ k. pair_sum p k (λ t. ahead t (x ∷ left) used values (normalized phi))) z in
-      let c = ap (λ k. pair_sum p k (λ t. ahead t left used (values ++ (x ∷ [])) (normalized phi))) z in
-      omega (arith, ints, a.at phi, d, c, ahead-last x left used values (normalized phi) o);
+      let h = normalized (restricted out phi) in
+      let a : AddsLists out p k [] left used (values ++ (x ∷ [])) old new = subst (λ (y : List ℕ). AddsLists out p k [] left used y old new) w b in
+      let d = ap (λ k. pair_sum p k (λ t. ahead t (x ∷ left) used values h)) z in
+      let c = ap (λ k. pair_sum p k (λ t. ahead t left used (values ++ (x ∷ [])) h)) z in
+      omega (arith, ints, a.at phi, d, c, ahead-last x left used values h o);
 }
 
 -- an entry that ends its row, or is used
-adds-both : (p k x : ℕ) (left used values : List ℕ) (old middle new : List (List ℕ)) → occurs x used ≡ 0 → occurs x left ≡ 0 →
-    AddsBelow p k p used (values ++ (x ∷ [])) old middle → AddsLists p (suc k) [] left (used ++ (x ∷ [])) (values ++ (x ∷ [])) middle new → AddsLists p (suc k) [] (x ∷ left) used values old new
-adds-both p k x left used values old middle new o n a b = record {
+adds-both : (out : List ℕ → Bool) (p k x : ℕ) (left used values : List ℕ) (old middle new : List (List ℕ)) → occurs x used ≡ 0 → occurs x left ≡ 0 →
+    AddsBelow out p k p used (values ++ (x ∷ [])) old middle → AddsLists out p (suc k) [] left (used ++ (x ∷ [])) (values ++ (x ∷ [])) middle new → AddsLists out p (suc k) [] (x ∷ left) used values old new
+adds-both out p k x left used values old middle new o n a b = record {
   at = λ phi.
-      let h = normalized phi in
+      let h = normalized (restricted out phi) in
       let first : List (List ℕ) → ℤ = λ t. started t used (values ++ (x ∷ [])) h in
       let second : List (List ℕ) → ℤ = λ t. ahead t left (used ++ (x ∷ [])) (values ++ (x ∷ [])) h in
       let both : pair_sum p (suc k) (λ t. ahead t (x ∷ left) used values h) ≡ pair_sum p (suc k) (λ t. first t +ℤ second t) =
@@ -167,61 +182,61 @@ adds-both p k x left used values old middle new o n a b = record {
     started [] used values h = pos 0
     started (w ∷ ws) used values h = ahead ws w used values h
 
-pub adds-steps : (p k x : ℕ) (left used used_after used_now values values_now values_after : List ℕ) (old middle new : List (List ℕ)) → k ≢ 0 →
+pub adds-steps : (out : List ℕ → Bool) (p k x : ℕ) (left used used_after used_now values values_now values_after : List ℕ) (old middle new : List (List ℕ)) → k ≢ 0 →
     values_now ≡ values ++ (x ∷ []) → values_after ≡ values_now → used_after ≡ used → used_now ≡ used_after ++ (x ∷ []) → occurs x used ≡ 0 → occurs x left ≡ 0 →
-    AddsBelow p (k - 1) p used values_now old middle → AddsLists p k [] left used_now values_after middle new → AddsLists p k [] (x ∷ left) used values old new
-adds-steps p zero x left used used_after used_now values values_now values_after old middle new z n v u m o d a b = absurd (z refl)
-adds-steps p (suc k) x left used used_after used_now values values_now values_after old middle new z n v u m o d a b =
+    AddsBelow out p (k - 1) p used values_now old middle → AddsLists out p k [] left used_now values_after middle new → AddsLists out p k [] (x ∷ left) used values old new
+adds-steps out p zero x left used used_after used_now values values_now values_after old middle new z n v u m o d a b = absurd (z refl)
+adds-steps out p (suc k) x left used used_after used_now values values_now values_after old middle new z n v u m o d a b =
     let e : suc k - 1 ≡ k = omega arith in
-    let first : AddsBelow p k p used (values ++ (x ∷ [])) old middle =
-    subst (λ (y : List ℕ). AddsBelow p k p used y old middle) n (subst (λ (j : ℕ). AddsBelow p j p used values_now old middle) e a) in
-    let second : AddsLists p (suc k) [] left (used ++ (x ∷ [])) (values ++ (x ∷ [])) middle new =
-    subst (λ (y : List ℕ). AddsLists p (suc k) [] left y (values ++ (x ∷ [])) middle new) (m ∙ ap (λ y. y ++ (x ∷ [])) u)
-    (subst (λ (y : List ℕ). AddsLists p (suc k) [] left used_now y middle new) (v ∙ n) b) in
-    adds-both p k x left used values old middle new o d first second
+    let first : AddsBelow out p k p used (values ++ (x ∷ [])) old middle =
+    subst (λ (y : List ℕ). AddsBelow out p k p used y old middle) n (subst (λ (j : ℕ). AddsBelow out p j p used values_now old middle) e a) in
+    let second : AddsLists out p (suc k) [] left (used ++ (x ∷ [])) (values ++ (x ∷ [])) middle new =
+    subst (λ (y : List ℕ). AddsLists out p (suc k) [] left y (values ++ (x ∷ [])) middle new) (m ∙ ap (λ y. y ++ (x ∷ [])) u)
+    (subst (λ (y : List ℕ). AddsLists out p (suc k) [] left used_now y middle new) (v ∙ n) b) in
+    adds-both out p k x left used values old middle new o d first second
 
-pub below-none : (p k : ℕ) (used values : List ℕ) (lists : List (List ℕ)) → AddsBelow p k 0 used values lists lists
-below-none p k used values lists = record { at = λ phi. omega (arith, ints) }
+pub below-none : (out : List ℕ → Bool) (p k : ℕ) (used values : List ℕ) (lists : List (List ℕ)) → AddsBelow out p k 0 used values lists lists
+below-none out p k used values lists = record { at = λ phi. omega (arith, ints) }
 
-pub below-more : (p k n : ℕ) (used used_now values values_now : List ℕ) (old middle new : List (List ℕ)) → used_now ≡ used → values_now ≡ values → AddsBelow p k n used values old middle →
-    AddsLists p k (cycle_power p (suc n) ∷ []) (cycle_power p n) used_now values_now middle new → AddsBelow p k (n + 1) used values old new
-below-more p k n used used_now values values_now old middle new u v a b =
-    let more : AddsBelow p k (suc n) used values old new = record {
+pub below-more : (out : List ℕ → Bool) (p k n : ℕ) (used used_now values values_now : List ℕ) (old middle new : List (List ℕ)) → used_now ≡ used → values_now ≡ values → AddsBelow out p k n used values old middle →
+    AddsLists out p k (cycle_power p (suc n) ∷ []) (cycle_power p n) used_now values_now middle new → AddsBelow out p k (n + 1) used values old new
+below-more out p k n used used_now values values_now old middle new u v a b =
+    let more : AddsBelow out p k (suc n) used values old new = record {
       at = λ phi.
-          let here : pair_sum p k (λ t. ahead (cycle_power p (suc n) ∷ t) (cycle_power p n) used_now values_now (normalized phi))
-          ≡ pair_sum p k (λ t. ahead (cycle_power p (suc n) ∷ t) (cycle_power p n) used values (normalized phi)) =
-          λ i. pair_sum p k (λ t. ahead (cycle_power p (suc n) ∷ t) (cycle_power p n) (u i) (v i) (normalized phi)) in
+          let here : pair_sum p k (λ t. ahead (cycle_power p (suc n) ∷ t) (cycle_power p n) used_now values_now (normalized (restricted out phi)))
+          ≡ pair_sum p k (λ t. ahead (cycle_power p (suc n) ∷ t) (cycle_power p n) used values (normalized (restricted out phi))) =
+          λ i. pair_sum p k (λ t. ahead (cycle_power p (suc n) ∷ t) (cycle_power p n) (u i) (v i) (normalized (restricted out phi))) in
           omega (arith, ints, a.at phi, b.at phi, here);
     } in
     let next : suc n ≡ n + 1 = omega arith in
-    subst (λ (m : ℕ). AddsBelow p k m used values old new) next more
+    subst (λ (m : ℕ). AddsBelow out p k m used values old new) next more
 
-in_pair : (p k e : ℕ) (used values : List ℕ) (old new : List (List ℕ)) (t : Turned p e) →
-    AddsLists p k ((t.rest ++ (suc e ∷ [])) ∷ []) (suc e ∷ t.rest) used values old new → AddsLists p k (cycle_power p (suc e) ∷ []) (cycle_power p e) used values old new
-in_pair p k e used values old new t a =
-    subst (λ (u : List ℕ). AddsLists p k (u ∷ []) (cycle_power p e) used values old new) (sym t.next)
-    (subst (λ (r : List ℕ). AddsLists p k ((t.rest ++ (suc e ∷ [])) ∷ []) r used values old new) (sym t.here) a)
+in_pair : (out : List ℕ → Bool) (p k e : ℕ) (used values : List ℕ) (old new : List (List ℕ)) (t : Turned p e) →
+    AddsLists out p k ((t.rest ++ (suc e ∷ [])) ∷ []) (suc e ∷ t.rest) used values old new → AddsLists out p k (cycle_power p (suc e) ∷ []) (cycle_power p e) used values old new
+in_pair out p k e used values old new t a =
+    subst (λ (u : List ℕ). AddsLists out p k (u ∷ []) (cycle_power p e) used values old new) (sym t.next)
+    (subst (λ (r : List ℕ). AddsLists out p k ((t.rest ++ (suc e ∷ [])) ∷ []) r used values old new) (sym t.here) a)
 
 -- a pair whose first entry is used, or ends the list
-pub adds-no_pair : (p k e : ℕ) (used values : List ℕ) (lists : List (List ℕ)) → e < p → (occurs (suc e) used ≡ 1) ⊎ ((occurs (suc e) used ≡ 0) × (is_last (suc e) values ≡ true)) →
-    AddsLists p k (cycle_power p (suc e) ∷ []) (cycle_power p e) used values lists lists
-adds-no_pair p k e used values lists h c =
+pub adds-no_pair : (out : List ℕ → Bool) (p k e : ℕ) (used values : List ℕ) (lists : List (List ℕ)) → e < p → (occurs (suc e) used ≡ 1) ⊎ ((occurs (suc e) used ≡ 0) × (is_last (suc e) values ≡ true)) →
+    AddsLists out p k (cycle_power p (suc e) ∷ []) (cycle_power p e) used values lists lists
+adds-no_pair out p k e used values lists h c =
     let t = turned p e h in
     let next : List ℕ = t.rest ++ (suc e ∷ []) in
-    in_pair p k e used values lists lists t (adds-none p k (next ∷ []) (suc e ∷ t.rest) used values lists (λ phi ws. elim c [
-      | inl o ↦ pair-used (suc e) t.rest ws used values phi o (turned-distinct p e t)
-      | inr q ↦ pair-last (suc e) t.rest next ws used values phi q.0 q.1
+    in_pair out p k e used values lists lists t (adds-none out p k (next ∷ []) (suc e ∷ t.rest) used values lists (λ phi ws. elim c [
+      | inl o ↦ pair-used (suc e) t.rest ws used values (restricted out phi) o (turned-distinct p e t)
+      | inr q ↦ pair-last (suc e) t.rest next ws used values (restricted out phi) q.0 q.1
     ]))
 
-pub adds-pair : (p k e : ℕ) (row used values written : List ℕ) (old new : List (List ℕ)) → e < p → occurs (suc e) used ≡ 0 → row ≡ cycle_power p (suc e) → written ≡ values ++ (suc e ∷ []) →
-    AddsLists p k [] row used written old new → AddsLists p k (cycle_power p (suc e) ∷ []) (cycle_power p e) used values old new
-adds-pair p k e row used values written old new h o r w a =
+pub adds-pair : (out : List ℕ → Bool) (p k e : ℕ) (row used values written : List ℕ) (old new : List (List ℕ)) → e < p → occurs (suc e) used ≡ 0 → row ≡ cycle_power p (suc e) → written ≡ values ++ (suc e ∷ []) →
+    AddsLists out p k [] row used written old new → AddsLists out p k (cycle_power p (suc e) ∷ []) (cycle_power p e) used values old new
+adds-pair out p k e row used values written old new h o r w a =
     let t = turned p e h in
     let next : List ℕ = t.rest ++ (suc e ∷ []) in
-    let b : AddsLists p k [] next used (values ++ (suc e ∷ [])) old new =
-    subst (λ (u : List ℕ). AddsLists p k [] u used (values ++ (suc e ∷ [])) old new) (r ∙ t.next) (subst (λ (v : List ℕ). AddsLists p k [] row used v old new) w a) in
-    in_pair p k e used values old new t
-    (adds-same p k (next ∷ []) [] (suc e ∷ t.rest) next used values (values ++ (suc e ∷ [])) old new (λ phi ws. pair-written (suc e) t.rest ws used values phi o (turned-distinct p e t)) b)
+    let b : AddsLists out p k [] next used (values ++ (suc e ∷ [])) old new =
+    subst (λ (u : List ℕ). AddsLists out p k [] u used (values ++ (suc e ∷ [])) old new) (r ∙ t.next) (subst (λ (v : List ℕ). AddsLists out p k [] row used v old new) w a) in
+    in_pair out p k e used values old new t
+    (adds-same out p k (next ∷ []) [] (suc e ∷ t.rest) next used values (values ++ (suc e ∷ [])) old new (λ phi ws. pair-written (suc e) t.rest ws used values phi o (turned-distinct p e t)) b)
 
 -- ---- what is written
 behind : (v x : ℕ) (u w : List ℕ) → ((v ≡ x) × (occurs v (u ++ (x ∷ [])) ≡ 1) × (occurs v (x ∷ w) ≡ 1)) ⊎ ((occurs v (u ++ (x ∷ [])) ≡ occurs v u) × (occurs v (x ∷ w) ≡ occurs v w))
@@ -325,10 +340,10 @@ begun-none p k used values u v s = rw (u, v) record { plain = refl; inside = λ 
 pub at-first : (p k : ℕ) (row used values : List ℕ) → row ≡ cycle_power p 0 → used ≡ [] → values ≡ [] → suc k * suc p ≤ 255 → IsAt p k row used values
 at-first p k row used values r u v s = at-row p k 0 row used values r (begun-none p k used values u v (omega (arith, s))) (omega (arith, s, ap length v))
 
-pub adds-tuples : (p d : ℕ) (later : List (List ℕ)) (row used values : List ℕ) (old new : List (List ℕ)) → 1 ≤ p → IsTuple p later → leading_entries p d ≡ cycle_power p 0 ∷ later →
-    row ≡ cycle_power p 0 → used ≡ [] → values ≡ [] → AddsLists p (d / 2) later row used values old new → (phi : List ℕ → ℤ) → total phi new ≡ total phi old +ℤ may_sum p d (normalized phi)
-adds-tuples p d later row used values old new one i l r u v a phi =
-    let h = normalized phi in
+pub adds-tuples : (out : List ℕ → Bool) (p d : ℕ) (later : List (List ℕ)) (row used values : List ℕ) (old new : List (List ℕ)) → 1 ≤ p → IsTuple p later → leading_entries p d ≡ cycle_power p 0 ∷ later →
+    row ≡ cycle_power p 0 → used ≡ [] → values ≡ [] → AddsLists out p (d / 2) later row used values old new → (phi : List ℕ → ℤ) → total phi new ≡ total phi old +ℤ may_sum p d (normalized (restricted out phi))
+adds-tuples out p d later row used values old new one i l r u v a phi =
+    let h = normalized (restricted out phi) in
     let k : ℕ = d / 2 in
     let start : pair_sum p k (λ t. ahead (later ++ t) row used values h) ≡ pair_sum p k (λ t. ahead (later ++ t) (cycle_power p 0) [] [] h) =
     λ j. pair_sum p k (λ t. ahead (later ++ t) (r j) (u j) (v j) h) in

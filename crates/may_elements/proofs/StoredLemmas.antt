@@ -1,6 +1,6 @@
 -- Stored May elements, their boundary, and what they cost.
-use Rattle.std.proofs.{Common.{◌≡◌, ◌≢◌, ℕ, zero, suc, ◌+◌, ◌%◌, ◌==◌, ◌≤◌, cond, true, false, List, [], ◌∷◌, ◌++◌, refl, sym, ◌∙◌, ap, arith, eq-eqb, inl, inr, ℤ, None, Some, IsSome, is_some}, lemmas.Bool.Decides.eqb_tells}
-use Rattle.may_elements.specs.Stored.{AreMayElements, boundary_value, stored_at}
+use Rattle.std.proofs.{Common.{◌≡◌, ◌≢◌, ℕ, zero, suc, ◌+◌, ◌%◌, ◌==◌, ◌&&◌, ◌≤◌, ap₂, cond, true, false, List, [], ◌∷◌, ◌++◌, refl, sym, ◌∙◌, ap, arith, eq-eqb, inl, inr, ℤ, None, Some, IsSome, is_some}, lemmas.Bool.Decides.eqb_tells}
+use Rattle.may_elements.specs.{Live.live_part, Stored.{AreLiveParts, Parts, boundary_value, stored_at}}
 use Rattle.operad_law.specs.FormalSums.{IsSameSum}
 use Rattle.signed_sum.specs.Names.{value_at}
 use Rattle.surjection_law.specs.Names.{surjection_boundary}
@@ -19,16 +19,19 @@ relation p (suc d) s k a h =
       | inr e ↦ b ∙ c ∙ may_relations.odd p d h k (omega (arith, e.1)) ∙ rw e.0 refl
     ]
 
--- one entry more
-pub stored-more : (p d : ℕ) (e : List (List ℕ × ℤ)) (ts : List (ℕ × List (List ℕ × ℤ))) → AreMayElements p ts → IsSameSum e (may_element p d) → AreMayElements p (ts ++ ((d, e) ∷ []))
-stored-more p d e [] h a = (a, tt)
-stored-more p d e (t ∷ ts) h a = (h.0, stored-more p d e ts h.1 a)
+-- one part more
+pub stored-more : (p d q : ℕ) (e : List (List ℕ × ℤ)) (ts : Parts) → AreLiveParts p ts → IsSameSum e (live_part p d q) → AreLiveParts p (ts ++ (((d, q), e) ∷ []))
+stored-more p d q e [] h a = (a, tt)
+stored-more p d q e (t ∷ ts) h a = (h.0, stored-more p d q e ts h.1 a)
 
-pub stored-there : (d : ℕ) (e : List (List ℕ × ℤ)) (ts : List (ℕ × List (List ℕ × ℤ))) → IsSome (stored_at d (ts ++ ((d, e) ∷ [])))
-stored-there d e [] = ap (λ b. is_some (cond b (Some e) None)) (eq-eqb d d refl)
-stored-there d e (t ∷ ts) =
-    elim (t.0 == d) as (λ b. is_some (cond b (Some t.1) (stored_at d (ts ++ ((d, e) ∷ [])))) ≡ true) [ true ↦ refl | false ↦ stored-there d e ts ]
+pub stored-there : (d q : ℕ) (e : List (List ℕ × ℤ)) (ts : Parts) → IsSome (stored_at d q (ts ++ (((d, q), e) ∷ [])))
+stored-there d q e [] = ap₂ (λ x y. is_some (cond (x && y) (Some e) None)) (eq-eqb d d refl) (eq-eqb q q refl)
+stored-there d q e (t ∷ ts) =
+    elim (t.0.0 == d && t.0.1 == q) as (λ b. is_some (cond b (Some t.1) (stored_at d q (ts ++ (((d, q), e) ∷ [])))) ≡ true) [ true ↦ refl | false ↦ stored-there d q e ts ]
 
-pub stored-other : (k d : ℕ) (e : List (List ℕ × ℤ)) (ts : List (ℕ × List (List ℕ × ℤ))) → k ≢ d → stored_at k (ts ++ ((d, e) ∷ [])) ≡ stored_at k ts
-stored-other k d e [] n = elim (eqb_tells d k) [ inl q ↦ absurd (n (sym q.1)) | inr q ↦ ap (λ b. cond b (Some e) None) q.0 ]
-stored-other k d e (t ∷ ts) n = ap (λ o. cond (t.0 == k) (Some t.1) o) (stored-other k d e ts n)
+pub stored-other : (k r d q : ℕ) (e : List (List ℕ × ℤ)) (ts : Parts) → (k ≡ d → r ≢ q) → stored_at k r (ts ++ (((d, q), e) ∷ [])) ≡ stored_at k r ts
+stored-other k r d q e [] n = elim (eqb_tells d k) [
+  | inr a ↦ ap (λ b. cond (b && q == r) (Some e) None) a.0
+  | inl a ↦ elim (eqb_tells q r) [ inl b ↦ absurd (n (sym a.1) (sym b.1)) | inr b ↦ ap₂ (λ x y. cond (x && y) (Some e) None) a.0 b.0 ]
+]
+stored-other k r d q e (t ∷ ts) n = ap (λ o. cond (t.0.0 == k && t.0.1 == r) (Some t.1) o) (stored-other k r d q e ts n)

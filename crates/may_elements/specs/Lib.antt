@@ -1,3 +1,4 @@
 pub mod Counted
+pub mod Live
 pub mod Pairs
 pub mod Stored

@@ -1,29 +1,34 @@
 use crate::spelled::surjections;
-use may_elements::terms::Terms;
-use may_elements::{MayRefused, MayTable};
+use may_elements::MayTable;
 use std::test::Fail;
 
 #[test]
 fn the_element_of_degree_two_at_three(rt: HostRuntime) -> Result<(), Fail> {
     let alloc = rt.alloc();
     assert_eq!(rt; MayTable::<3>::candidates(2), 18);
-    let mut table = MayTable::<3>::new(alloc);
-    let mut few = Terms::new(17);
-    match table.grow_to(2, &mut few) {
-        Err(MayRefused::TooManyTerms(over)) => assert_eq!(rt; (over.count, over.limit), (18, 17)),
-        _ => panic!(rt; "the limit was passed"),
-    }
-    assert_eq!(rt; few.used(), 0);
-    let mut terms = Terms::new(18);
-    table.grow_to(2, &mut terms)?;
-    table.grow_to(2, &mut terms)?;
-    assert_eq!(rt; terms.used(), 18);
-    let element = table.element(2).ok_or("not stored")?;
+    let element = MayTable::<3>::build(alloc, 2)?;
     assert_eq!(rt;
-        surjections(alloc, element)?.as_str(),
+        surjections(alloc, &element)?.as_str(),
         "1 [1, 2, 3, 1, 2];1 [1, 2, 3, 2, 3];1 [1, 3, 1, 2, 3];"
     );
-    assert!(rt; table.element(3).is_none());
+    Ok(())
+}
+
+#[test]
+fn terms_with_live_cuts(rt: HostRuntime) -> Result<(), Fail> {
+    let alloc = rt.alloc();
+    let mut table = MayTable::<3>::new(alloc);
+    table.store(2, 2)?;
+    table.store(2, 2)?;
+    table.store(2, 1)?;
+    let wide = table.part(2, 2).ok_or("not stored")?;
+    assert_eq!(rt;
+        surjections(alloc, wide)?.as_str(),
+        "1 [1, 2, 3, 1, 2];1 [1, 2, 3, 2, 3];1 [1, 3, 1, 2, 3];"
+    );
+    let narrow = table.part(2, 1).ok_or("not stored")?;
+    assert_eq!(rt; surjections(alloc, narrow)?.as_str(), "1 [1, 2, 3, 1, 2];");
+    assert!(rt; table.part(2, 3).is_none());
     Ok(())
 }
 
