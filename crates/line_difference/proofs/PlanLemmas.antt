@@ -1,24 +1,12 @@
 -- The live products, blocks and lines of a complex, and what is stored for them.
-use Rattle.std.{proofs.Common.{◌≡◌, ◌∙◌, ℕ, ◌+◌, ◌<◌, ◌≤◌, ◌&&◌, inl, inr, Bool, true, List, [], ◌∷◌, length, map, get_or, arith, refl, sym, ap, subst, IsSome, flat_map, fold, if◌then◌else◌, None, Some, unwrap_or, ℤ}, specs.declared.option.Option.Option, specs.BTreeSet.insert_key, specs.Ordering.nat_cmp, specs.FinMap.nat_cmp-IsAntisymmetric, proofs.lemmas.Bool.and_parts}
+use Rattle.std.{proofs.Common.{◌≡◌, ◌∙◌, ℕ, ◌+◌, ◌≤◌, ◌&&◌, inl, inr, Bool, true, List, [], ◌∷◌, length, map, get_or, arith, refl, sym, ap, subst, IsSome, flat_map, if◌then◌else◌, None, Some, unwrap_or}, specs.declared.option.Option.Option, proofs.lemmas.Bool.and_parts}
 use Rattle.signed_sum.specs.Names.{numbers_from}
 use Rattle.linear_law.{specs.Names.{Among, Each}, proofs.Names.{among_left, among_map, among_right, each_among}}
-use Rattle.simplicial_law.proofs.Names.{insert_keeps, insert_puts}
-use Rattle.may_elements.specs.Stored.{stored_at}
+use Rattle.may_elements.specs.Stored.{Parts, stored_at}
 use Rattle.report.specs.declared.plan.{Block.Block, Line.Line, Op.Op, Op.TheVariants.{Square, Power, BocksteinPower}, Product.Product, Sizes.Sizes}
-use Rattle.report_law.{specs.Names.{all_lines, blocks, cartan_op, cartan_pairs, class_numbers, degrees, element_degree, has_class, is_defined, lines, products, target, target_degree, complex_elements, elements, line_elements}, proofs.Names.{has-degree, each-of, in-flat_map, of-filter, of-flat_map, of-map, of-numbers, of-lines}}
+use Rattle.report_law.{specs.Names.{all_lines, blocks, cartan_op, cartan_pairs, class_numbers, degrees, has_class, is_defined, lines, products, target, target_degree}, proofs.Names.{has-degree, each-of, in-flat_map, of-filter, of-flat_map, of-map, of-numbers, of-lines}}
+use Rattle.term_total.specs.Names.{complex_uses, line_uses, use_of, uses}
 use Rattle.line_difference.specs.Elements.{AreStored, HasElement, HasElements}
-
--- what was inserted stands among the keys
-key-kept : (vs ks : List ℕ) (x : ℕ) → Among x ks → Among x (fold (insert_key nat_cmp) ks vs)
-key-kept [] ks x m = m
-key-kept (v ∷ vs) ks x m = key-kept vs (insert_key nat_cmp ks v) x (insert_keeps nat_cmp x v ks m)
-
-key-put : (vs ks : List ℕ) (x : ℕ) → Among x vs → Among x (fold (insert_key nat_cmp) ks vs)
-key-put [] ks x m = elim m [ ]
-key-put (v ∷ vs) ks x m = elim m [
-  | inl e ↦ key-kept vs (insert_key nat_cmp ks v) x (subst (λ (y : ℕ). Among y (insert_key nat_cmp ks v)) e (insert_puts nat_cmp nat_cmp-IsAntisymmetric v ks))
-  | inr n ↦ key-put vs (insert_key nat_cmp ks v) x n
-]
 
 module _ (ranks : List ℕ) (few : length ranks ≤ 16) where
   pub product-low : (x : Product) → Among x (products ranks) → (x.a ≤ 15) × (x.b ≤ 15)
@@ -72,34 +60,36 @@ target-is p q n d op e h k = the-some d (target_degree p q (cartan_op p n)) (sym
 
 -- ---- what is stored
 
-module _ (p : ℕ) (table : List (ℕ × List (List ℕ × ℤ))) (ranks : List ℕ) (stored : AreStored p table ranks) where
+module _ (p : ℕ) (table : Parts) (ranks : List ℕ) (stored : AreStored p table ranks) where
   abbrev sizes : Sizes
   sizes = record { simplices = []; ranks = ranks }
 
-  at : (d : ℕ) → Among d (complex_elements p sizes) → IsSome (stored_at d table)
-  at d m = each_among (λ d. IsSome (stored_at d table)) d (complex_elements p sizes) stored m
+  abbrev block_use : Block → ℕ × ℕ
+  block_use x = use_of p x.op x.from
+
+  at : (u : ℕ × ℕ) → Among u (complex_uses p sizes) → IsSome (stored_at u.0 u.1 table)
+  at u m = each_among (λ v. IsSome (stored_at v.0 v.1 table)) u (complex_uses p sizes) stored m
 
   pub block-stored : (x : Block) → Among x (blocks p ranks) → HasElement p table x.from x.op
-  block-stored x m = inr (at (element_degree p x.from x.op)
-      (among_left _ (map (λ (y : Block). element_degree p y.from y.op) (blocks p ranks)) (flat_map (line_elements p) (lines p ranks)) (among_map (λ (y : Block). element_degree p y.from y.op) x _ (blocks p ranks) m refl)))
+  block-stored x m = inr (at (block_use x) (among_left _ (map block_use (blocks p ranks)) (flat_map (line_uses p) (lines p ranks)) (among_map block_use x _ (blocks p ranks) m refl)))
 
   pub line-stored : (l : Line) → Among l (lines p ranks) → HasElements p table l
   line-stored l m = record {
-    whole = inr (of l (inl refl));
+    whole = inr (of (use_of p (cartan_op p l.n) (l.a + l.b)) (inl refl));
     parts = each-of _ (cartan_pairs p l.a l.b l.n) (λ e k. (
-      inr (of l (inr (in-flat_map (pair l) (cartan_pairs p l.a l.b l.n) e _ k (inl refl)))),
-      inr (of l (inr (in-flat_map (pair l) (cartan_pairs p l.a l.b l.n) e _ k (inr (inl refl))))),
+      inr (of (use_of p (cartan_op p e.0) l.a) (inr (in-flat_map pair (cartan_pairs p l.a l.b l.n) e _ k (inl refl)))),
+      inr (of (use_of p (cartan_op p e.1) l.b) (inr (in-flat_map pair (cartan_pairs p l.a l.b l.n) e _ k (inr (inl refl))))),
     ));
   }
     where
-      pair : Line → ℕ × ℕ → List ℕ
-      pair k e = element_degree p k.a (cartan_op p e.0) ∷ element_degree p k.b (cartan_op p e.1) ∷ []
+      pair : ℕ × ℕ → List (ℕ × ℕ)
+      pair e = use_of p (cartan_op p e.0) l.a ∷ use_of p (cartan_op p e.1) l.b ∷ []
 
-      of : (k : Line) → {d : ℕ} → Among d (line_elements p l) → IsSome (stored_at d table)
-      of k {d} n = at d (among_right d (map (λ (y : Block). element_degree p y.from y.op) (blocks p ranks)) (flat_map (line_elements p) (lines p ranks)) (in-flat_map (line_elements p) (lines p ranks) l d m n))
+      of : (u : ℕ × ℕ) → Among u (line_uses p l) → IsSome (stored_at u.0 u.1 table)
+      of u n = at u (among_right u (map block_use (blocks p ranks)) (flat_map (line_uses p) (lines p ranks)) (in-flat_map (line_uses p) (lines p ranks) l u m n))
 
 -- ---- what is stored for a job is stored for each of its complexes
 
-pub each-stored : (p : ℕ) (table : List (ℕ × List (List ℕ × ℤ))) (zs : List Sizes) → Each (λ d. IsSome (stored_at d table)) (elements p zs) → Each (λ z. AreStored p table z.ranks) zs
-each-stored p table zs h = each-of (λ z. AreStored p table z.ranks) zs (λ z m. each-of (λ d. IsSome (stored_at d table)) (complex_elements p z) (λ d n.
-    each_among (λ d. IsSome (stored_at d table)) d (elements p zs) h (key-put (flat_map (complex_elements p) zs) [] d (in-flat_map (complex_elements p) zs z d m n))))
+pub each-stored : (p : ℕ) (table : Parts) (zs : List Sizes) → Each (λ u. IsSome (stored_at u.0 u.1 table)) (uses p zs) → Each (λ z. AreStored p table z.ranks) zs
+each-stored p table zs h = each-of (λ z. AreStored p table z.ranks) zs (λ z m. each-of (λ u. IsSome (stored_at u.0 u.1 table)) (complex_uses p z) (λ u n.
+    each_among (λ v. IsSome (stored_at v.0 v.1 table)) u (uses p zs) h (in-flat_map (complex_uses p) zs z u m n)))

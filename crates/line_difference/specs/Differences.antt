@@ -1,5 +1,5 @@
 -- The difference of the two sides of a Cartan line, as it is made.
-use Rattle.std.specs.{Prelude.{◌≡◌, ℕ, ◌+◌, true, List, length, ℤ}, List.AllZip}
+use Rattle.std.specs.{Prelude.{◌≡◌, ℕ, ◌+◌, true, List, length}, List.AllZip}
 use Rattle.linear_law.specs.Names.{negated, sum_over}
 use Rattle.simplicial_law.specs.Names.{AgreesOnSimplices, Cochain as SimplexCochain}
 use Rattle.complex_index.specs.{declared.indexed.Cochain.Cochain, Names.{IsIndexOf, level}}
@@ -9,6 +9,7 @@ use Rattle.report.specs.declared.plan.Line.{Line}
 use Rattle.report_law.specs.Names.{IsCartanProduct, IsOperation, cartan_op, is_defined, line_degree}
 use Rattle.steenrod_law.specs.Names.{cup_product}
 use Rattle.line_difference.specs.Elements.{HasElement}
+use Rattle.may_elements.specs.Stored.{Parts}
 
 -- a cochain of degree n, at places of simplices of this degree
 pub record IsPlacedIn (p : ℕ) (levels : List (List (List ℕ))) (n : ℕ) (z : Cochain p) : Type 0 where
@@ -20,7 +21,7 @@ abbrev pub KeepsCocycles : {p : ℕ} → List (List (List ℕ)) → Line → Coc
 KeepsCocycles {p} levels line x y n r = IsClosed p levels line.a x.row → IsClosed p levels line.b y.row → IsClosed p levels n r.row
 
 -- a pair of numbers with the sum n of the line: both operations are defined on the degrees of the line, and can be made
-pub record IsLinePair (p : ℕ) (table : List (ℕ × List (List ℕ × ℤ))) (line : Line) (pair : ℕ × ℕ) : Type 0 where
+pub record IsLinePair (p : ℕ) (table : Parts) (line : Line) (pair : ℕ × ℕ) : Type 0 where
   pub sum : pair.0 + pair.1 ≡ line.n
   pub first_defined : is_defined p line.a (cartan_op p pair.0) ≡ true
   pub second_defined : is_defined p line.b (cartan_op p pair.1) ≡ true

@@ -11,6 +11,7 @@ ghost use Rattle.complex_index.specs.Names.{list_at, level};
 ghost use Rattle.fp_field.specs.Served.{served};
 ghost use Rattle.operad_law.specs.FormalSums.{IsSameSum};
 ghost use Rattle.table_reduction_law.specs.Names.{may_element};
+ghost use Rattle.may_elements.specs.Live.{live_part};
 ghost use Rattle.steenrod_law.specs.Names.{sum_value, copies};
 ghost use Rattle.may_steenrod.specs.{Elements.{AddsTo, tested_value}, FaceSums.{AreNumbered, Extends, face_product, face_sum, product_at, term_product, terms_in, value_on_face}};
 
@@ -243,15 +244,16 @@ impl<const P: u32> FaceSum<P> {
         Ok(())
     }
 
-    /// The operation of the May element of degree d on cochains of degree q.
-    pub(crate) fn of_element(
+    /// The operation of the May element of degree d on cochains of degree q, from its terms that have a cut live for q.
+    /// The others have the value 0.
+    pub(crate) fn of_part(
         alloc: Global,
-        element: &FormalSum<Surj>,
+        part: &FormalSum<Surj>,
         q: u32,
         d: u32,
     ) -> Result<FaceSum<P>, AllocError>
         requires prime { IsTrue (served P) }
-        requires element { IsSameSum element.now (may_element P d) }
+        requires part { IsSameSum part.now (live_part P d q) }
         requires small { q ≤ 15 }
         requires some { d ≤ P * q }
         ensures numbered { IfOk result (λ t. AreNumbered t.faces.items t.terms.items) }
@@ -260,8 +262,8 @@ impl<const P: u32> FaceSum<P> {
             (sum_value P (may_element P d) (copies P (λ f. pos (a f))) s)) }
     {
         let mut sum = FaceSum::new(alloc)?;
-        for k in 0..element.len() {
-            let (surjection, by) = element.term(k);
+        for k in 0..part.len() {
+            let (surjection, by) = part.term(k);
             sum.add_term(alloc, surjection, q, d, Fp::from_i64(by))?;
         }
         Ok(sum)

@@ -16,7 +16,7 @@ use fp_field::Fp;
 use may_elements::MayTable;
 use std::alloc::{AllocError, Global};
 
-/// A multiple of the operation of degree d, whose May element is stored.
+/// A multiple of the operation of degree d, for which what it sees of the May element is stored.
 fn operation<const P: u32>(
     alloc: Global,
     table: &MayTable<P>,
@@ -26,18 +26,18 @@ fn operation<const P: u32>(
     by: Fp<P>,
 ) -> Result<Cochain<P>, AllocError>
     requires prime { IsTrue (served P) }
-    requires stored { IsSome (stored_at d table.now) }
+    requires stored { IsSome (stored_at d alpha.now.degree table.now) }
     requires low { alpha.now.degree ≤ 15 }
     requires most { d ≤ P * alpha.now.degree }
     requires inside { IsBelow (length (level index.now alpha.now.degree)) alpha.now.row }
     ensures degree { IfOk result (λ r. r.degree ≡ P * alpha.now.degree - d) }
     ensures values { IfOk result (λ r. HasValues P index.now (P * alpha.now.degree - d) (scaled_operation P d by.entry alpha.now.degree (cochain_in index.now alpha.now.degree alpha.now.row)) r.row) }
 {
-    let Some(element) = table.element(d) else {
+    let Some(part) = table.part(d, alpha.degree) else {
         unreachable!()
     };
     let degree = P * alpha.degree - d;
-    let sum = FaceSum::of_element(alloc, element, alpha.degree, d)?;
+    let sum = FaceSum::of_part(alloc, part, alpha.degree, d)?;
     let on = On::new(index, alpha);
     let values = sum.values(alloc, &on, index, degree, by)?;
     Ok(Cochain {
@@ -55,7 +55,7 @@ pub fn d_op<const P: u32>(
     d: u32,
 ) -> Result<Cochain<P>, AllocError>
     requires prime { IsTrue (served P) }
-    requires stored { IsSome (stored_at d table.now) }
+    requires stored { IsSome (stored_at d alpha.now.degree table.now) }
     requires low { alpha.now.degree ≤ 15 }
     requires most { d ≤ P * alpha.now.degree }
     requires inside { IsBelow (length (level index.now alpha.now.degree)) alpha.now.row }
@@ -78,7 +78,7 @@ pub fn p_op<const P: u32>(
     requires odd { P % 2 ≡ 1 }
     requires low { alpha.now.degree ≤ 15 }
     requires defined { 2 * s ≤ alpha.now.degree }
-    requires stored { IsSome (stored_at (power_degree P s alpha.now.degree) table.now) }
+    requires stored { IsSome (stored_at (power_degree P s alpha.now.degree) alpha.now.degree table.now) }
     requires inside { IsBelow (length (level index.now alpha.now.degree)) alpha.now.row }
     ensures degree { IfOk result (λ r. r.degree ≡ alpha.now.degree + 2 * s * (P - 1)) }
     ensures inside { IfOk result (λ r. IsBelow (length (level index.now (alpha.now.degree + 2 * s * (P - 1)))) r.row) }
@@ -101,7 +101,7 @@ pub fn bp_op<const P: u32>(
     requires odd { P % 2 ≡ 1 }
     requires low { alpha.now.degree ≤ 15 }
     requires defined { 2 * s < alpha.now.degree }
-    requires stored { IsSome (stored_at (power_degree P s alpha.now.degree - 1) table.now) }
+    requires stored { IsSome (stored_at (power_degree P s alpha.now.degree - 1) alpha.now.degree table.now) }
     requires inside { IsBelow (length (level index.now alpha.now.degree)) alpha.now.row }
     ensures degree { IfOk result (λ r. r.degree ≡ alpha.now.degree + 2 * s * (P - 1) + 1) }
     ensures inside { IfOk result (λ r. IsBelow (length (level index.now (alpha.now.degree + 2 * s * (P - 1) + 1))) r.row) }

@@ -1,7 +1,7 @@
 -- Charges: the first sum that passes a limit, and numbers that are cut off.
-use Rattle.std.{proofs.Common.{◌≡◌, ℕ, zero, suc, ◌+◌, ◌-◌, ◌*◌, ◌/◌, ◌%◌, ◌^◌, ◌<◌, ◌≤◌, Bool, true, false, List, [], ◌∷◌, ◌++◌, map, arith, refl, sym, ap, ap₂, ◌∙◌, inl, inr, ltb, Some, None, if◌then◌else◌, subst, append_assoc, drop, get_or, length, Result, Ok, Err, flat_map, min, lt-ltb, le-ltb}, specs.Result.{IsErr, IsErrAnd}, proofs.lemmas.Bool.{cases_lt, false≢true}, proofs.lemmas.List.{at_drop_all, at_drop_more}, proofs.lemmas.Option.none-some}
+use Rattle.std.{proofs.Common.{◌≡◌, ℕ, zero, suc, ◌+◌, ◌-◌, ◌*◌, ◌/◌, ◌%◌, ◌^◌, ◌<◌, ◌≤◌, Bool, true, false, List, [], ◌∷◌, ◌++◌, map, arith, refl, sym, ap, ap₂, ◌∙◌, inl, inr, ltb, Some, None, if◌then◌else◌, subst, append_assoc, drop, get_or, length, Result, Ok, Err, flat_map, min, lt-ltb, le-ltb, OnOk}, specs.Result.{IsErr, IsErrAnd}, proofs.lemmas.Bool.{cases_lt, false≢true}, proofs.lemmas.List.{at_drop_all, at_drop_more}, proofs.lemmas.Option.none-some}
 use Rattle.may_elements.specs.{Counted.{Count, charged, counted, cut_off, over}, declared.elements.MayRefused.MayRefused, declared.elements.MayRefused.TheVariants.{TooManyTerms, OutOfMemory}, declared.terms.Over.Over}
-use Rattle.linear_law.specs.Names.{sum_over}
+use Rattle.linear_law.specs.Names.{sum_over, Each}
 use Rattle.report_law.specs.Names.{first_past, printed_count}
 use Rattle.term_total.{specs.Names.{Charges, IsCount, repeated, sum_of}, proofs.RowLemmas.repeated-map}
 
@@ -33,6 +33,15 @@ past-within limit s (x ∷ xs) l h = elim (cases_lt limit (s + x)) [
       let r = past-within limit (s + x) xs b (sym (step limit s x xs false (le-ltb limit (s + x) b)) ∙ h) in
       omega arith
 ]
+
+-- numbers that were all charged are small
+pub charged-small : {X : Type 0} (f : X → ℕ) (old new : Count) (xs : List X) (r : Result Unit MayRefused) → IsCount old → Charges old (map f xs) r new → OnOk r (Each (λ x. f x ≤ 10 ^ 12) xs)
+charged-small f old new xs (Err e) h c = tt
+charged-small f old new xs (Ok u) h c = go xs (let w = past-within old.limit old.used (map f xs) h.within c.0 in omega (arith, w, h.low))
+  where
+    go : (xs : List _) → sum_of (map f xs) ≤ 10 ^ 12 → Each (λ x. f x ≤ 10 ^ 12) xs
+    go [] l = tt
+    go (x ∷ xs) l = (omega arith, go xs (omega arith))
 
 past-some : (limit s n : ℕ) (xs ys : List ℕ) → first_past limit s xs ≡ Some n → first_past limit s (xs ++ ys) ≡ Some n
 past-some limit s n [] ys h = absurd (none-some n h)
@@ -190,7 +199,7 @@ module _ {X : Type 0} (f : X → List ℕ) (xs : List X) (i : ℕ) (old mid : Co
   pub items-charged : (u : Unit) → length xs ≤ i → Charges old all (Ok u) mid
   items-charged u l = none-left old mid all u (subst (IsLeft old mid all) (at_drop_all (flat_map f) xs i l) h)
 
-pub singles : {X : Type 0} (f : X → ℕ) (xs : List X) → flat_map (λ x. f x ∷ []) xs ≡ map f xs
+pub singles : {X Y : Type 0} (f : X → Y) (xs : List X) → flat_map (λ x. f x ∷ []) xs ≡ map f xs
 singles f [] = refl
 singles f (x ∷ xs) = ap (λ ns. f x ∷ ns) (singles f xs)
 

@@ -1,19 +1,24 @@
 -- The surjections of a May element, and their live cuts.
-use Rattle.std.{proofs.Common.{◌≡◌, inl, inr, ℕ, zero, suc, ◌+◌, ◌-◌, ◌*◌, ◌^◌, ◌<◌, ◌≤◌, arith, lit≤, refl, sym, ◌∙◌, ap, ap₂, subst, List, [], ◌∷◌, Bool, true, false, cond, not, if◌then◌else◌, map, Less, ℤ, pos, ◌+ℤ◌, ◌*ℤ◌, fold, min, ◌||◌, IsTrue, le-ltb}, specs.BTreeSet.insert_key, specs.List.AllByRecursion, specs.List.Sorted.IsStrictlySortedBy, proofs.lemmas.Bool.false≢true, proofs.lemmas.Cmp.nat_list_cmp_total, proofs.lemmas.Int.ints, proofs.lemmas.List.Kept.IsStrictlySortedBy-filter}
+use Rattle.std.{proofs.Common.{◌≡◌, inl, inr, ℕ, zero, suc, ◌+◌, ◌-◌, ◌*◌, ◌^◌, ◌<◌, ◌≤◌, ◌==◌, arith, eqb-true, lit≤, refl, sym, ◌∙◌, ap, ap₂, subst, List, [], ◌∷◌, Bool, true, false, cond, not, if◌then◌else◌, map, Ordering, Less, Equal, Greater, ℤ, pos, ◌+ℤ◌, ◌*ℤ◌, fold, min, ◌||◌, IsTrue, le-ltb}, specs.BTreeSet.insert_key, specs.List.{AllByRecursion, filter}, specs.Ordering.ordering_reverse, specs.List.Sorted.IsStrictlySortedBy, proofs.lemmas.Bool.false≢true, proofs.lemmas.Cmp.nat_list_cmp_total, proofs.lemmas.Int.ints, proofs.lemmas.List.Kept.IsStrictlySortedBy-filter}
 use Rattle.fp_field.{specs.Served.served, proofs.ServedLemmas.{for_served, served_large}}
-use Rattle.signed_sum.{specs.Names.{is_same_list, is_zero}, proofs.Names.{is_same_list-self, is_same_list-true}}
+use Rattle.signed_sum.{specs.Names.{is_same_list, is_zero, kept_terms, restricted, value_at}, proofs.Names.{fun_ext, is_same_list-self, is_same_list-true, value_at-kept_terms, value_at-nothing}}
 use Rattle.linear_law.specs.Names.{sum_over, Among}
 use Rattle.simplicial_law.{specs.Names.simplex_cmp, proofs.Names.{exact, sorted_same}}
 use Rattle.surjection_law.specs.Names.{caesura_count, IsOnto, arity}
-use Rattle.surjection.specs.Names.{among, arity-is}
+use Rattle.surjection.specs.Names.{arity-is}
 use Rattle.interval_cut_law.specs.Names.{live_cut_count}
 use Rattle.interval_cut.specs.Names.{counted_live, live_top}
 use Rattle.operad_law.specs.FormalSums.{IsAscending, IsBelow, IsFormalSum, IsNonzero, IsSameSum}
 use Rattle.table_reduction_law.specs.Names.{may_element}
 use Rattle.steenrod_law.proofs.{Forms.AreTerms, MayFamily.may_family}
-use Rattle.may_elements.specs.Counted.{cut_off}
+use Rattle.may_elements.specs.{Counted.cut_off, Live.{lacks_live_cut, live_part}}
 use Rattle.report_law.specs.Names.{coefficient, may_surjections}
-use Rattle.term_total.{specs.Names.{sum_of, live_total}, proofs.ChargeLemmas.cut-plus, proofs.GrowLemmas.not-less, proofs.KeyLemmas.{among-filter, filter-among, fold-puts, fold-sorted}}
+use Rattle.term_total.{specs.Names.{sum_of, live_total}, proofs.ChargeLemmas.cut-plus, proofs.KeyLemmas.{among-filter, filter-among, fold-puts, fold-sorted}}
+
+not-less : (r : Ordering) → r ≡ ordering_reverse r → r ≡ Less → ⊥
+not-less Less e l = cc
+not-less Equal e l = cc
+not-less Greater e l = cc
 
 -- ---- coefficients in formal sums
 
@@ -92,22 +97,51 @@ zero-not : (b : Bool) → not b ≡ true → b ≡ false
 zero-not true e = absurd (false≢true e)
 zero-not false e = refl
 
--- the elements of a formal sum that is the May element are its surjections
-pub surjections-are : (p d : ℕ) (e : List (List ℕ × ℤ)) → IsFormalSum simplex_cmp e → IsSameSum e (may_element p d) → map (λ t. t.0) e ≡ may_surjections p d
-surjections-are p d e f s =
+-- the coefficients without what is gone
+coefficient-kept : (gone : List ℕ → Bool) (u : List ℕ) (ts : List (List ℕ × ℤ)) → coefficient u (kept_terms gone ts) ≡ (if gone u then pos 0 else coefficient u ts)
+coefficient-kept gone u ts = value_at-kept_terms gone (one_at u) ts ∙ ap (λ h. value_at h ts) (fun_ext at) ∙ out (gone u)
+  where
+    at : (v : List ℕ) → restricted gone (one_at u) v ≡ (if gone u then pos 0 else one_at u v)
+    at v = go (is_same_list u v) refl
+      where
+        none : (a b : Bool) → cond a (pos 0) (pos 0) ≡ (if b then pos 0 else pos 0)
+        none true true = refl
+        none true false = refl
+        none false true = refl
+        none false false = refl
+
+        go : (b : Bool) → is_same_list u v ≡ b → restricted gone (one_at u) v ≡ (if gone u then pos 0 else one_at u v)
+        go true e = ap (λ w. if gone w then pos 0 else one_at u v) (sym (is_same_list-true u v e))
+        go false e = rw e (none (gone v) (gone u))
+
+    out : (b : Bool) → value_at (λ v. if b then pos 0 else one_at u v) ts ≡ (if b then pos 0 else coefficient u ts)
+    out true = value_at-nothing ts
+    out false = refl
+
+-- the elements of a formal sum that is the May element without what is gone are its surjections without these
+pub surjections-are : (gone : List ℕ → Bool) (p d : ℕ) (e : List (List ℕ × ℤ)) → IsFormalSum simplex_cmp e → IsSameSum e (kept_terms gone (may_element p d)) → map (λ t. t.0) e ≡ filter (λ u. not (gone u)) (may_surjections p d)
+surjections-are gone p d e f s =
     let may : List (List ℕ × ℤ) = may_element p d in
     let all : List (List ℕ) = fold (insert_key simplex_cmp) [] (map (λ t. t.0) may) in
     let test : List ℕ → Bool = λ u. not (is_zero (coefficient u may)) in
-    let same : (u : List ℕ) → coefficient u e ≡ coefficient u may = λ u. s.at (one_at u) in
-    sorted_same simplex_cmp nat_list_cmp_total (map (λ t. t.0) e) (may_surjections p d) (sorted-elements e f.ascending)
-    (IsStrictlySortedBy-filter simplex_cmp test all (fold-sorted simplex_cmp nat_list_cmp_total exact (map (λ t. t.0) may) [] none))
+    let there : List ℕ → Bool = λ u. not (gone u) in
+    let same : (u : List ℕ) → coefficient u e ≡ (if gone u then pos 0 else coefficient u may) = λ u. s.at (one_at u) ∙ coefficient-kept gone u may in
+    sorted_same simplex_cmp nat_list_cmp_total (map (λ t. t.0) e) (filter there (may_surjections p d)) (sorted-elements e f.ascending)
+    (IsStrictlySortedBy-filter simplex_cmp there (filter test all) (IsStrictlySortedBy-filter simplex_cmp test all (fold-sorted simplex_cmp nat_list_cmp_total exact (map (λ t. t.0) may) [] none)))
     (λ u m. (
-    let z : is_zero (coefficient u may) ≡ false = ap is_zero (sym (same u)) ∙ nonzero-among u e f.ascending f.nonzero m in
-    filter-among test u all (fold-puts simplex_cmp nat_list_cmp_total exact (map (λ t. t.0) may) [] u (among-nonzero u may z)) (not-zero (is_zero (coefficient u may)) z)))
-    (λ u m. among-nonzero u e (ap is_zero (same u) ∙ zero-not (is_zero (coefficient u may)) (among-filter test u all m).1))
+    let z = parts (gone u) (coefficient u may) (ap is_zero (sym (same u)) ∙ nonzero-among u e f.ascending f.nonzero m) in
+    filter-among there u (filter test all)
+    (filter-among test u all (fold-puts simplex_cmp nat_list_cmp_total exact (map (λ t. t.0) may) [] u (among-nonzero u may z.1)) (not-zero (is_zero (coefficient u may)) z.1)) (not-zero (gone u) z.0)))
+    (λ u m. (
+    let h = among-filter there u (filter test all) m in
+    among-nonzero u e (ap is_zero (same u ∙ ap (λ b. if b then pos 0 else coefficient u may) (zero-not (gone u) h.1)) ∙ zero-not (is_zero (coefficient u may)) (among-filter test u all h.0).1)))
   where
     none : IsStrictlySortedBy simplex_cmp []
     none = sorted-elements [] tt
+
+    parts : (b : Bool) (c : ℤ) → is_zero (if b then pos 0 else c) ≡ false → (b ≡ false) × (is_zero c ≡ false)
+    parts true c h = absurd (false≢true (sym h))
+    parts false c h = (refl, h)
 
 -- ---- live cuts
 
@@ -141,18 +175,28 @@ sum-elements : (f : List ℕ → ℕ) (ts : List (List ℕ × ℤ)) → sum_over
 sum-elements f [] = refl
 sum-elements f (t ∷ ts) = ap (λ n. f t.0 + n) (sum-elements f ts)
 
--- the live cuts of the elements of such a sum
-pub count-is : (p d q : ℕ) (e : List (List ℕ × ℤ)) → IsTrue (served p) → q ≤ 15 → d ≤ p * q → IsFormalSum simplex_cmp e → IsSameSum e (may_element p d)
+-- what is filtered out counts nothing
+sum-there : (f : List ℕ → ℕ) (us : List (List ℕ)) → sum_of (map f (filter (λ u. not (f u == 0)) us)) ≡ sum_of (map f us)
+sum-there f [] = refl
+sum-there f (u ∷ us) = go (f u == 0) refl (sum-there f us)
+  where
+    go : (b : Bool) → (f u == 0) ≡ b → sum_of (map f (filter (λ v. not (f v == 0)) us)) ≡ sum_of (map f us)
+        → sum_of (map f (cond (not b) (u ∷ filter (λ v. not (f v == 0)) us) (filter (λ v. not (f v == 0)) us))) ≡ f u + sum_of (map f us)
+    go true e h = (let z : f u ≡ 0 = eqb-true (f u) 0 e in omega (arith, z, h))
+    go false e h = ap (λ n. f u + n) h
+
+-- the live cuts of the elements of a formal sum that is what operations on degree q see of the May element
+pub count-is : (p d q : ℕ) (e : List (List ℕ × ℤ)) → IsTrue (served p) → q ≤ 15 → d ≤ p * q → IsFormalSum simplex_cmp e → IsSameSum e (live_part p d q)
     → cut_off (sum_over (λ (t : List ℕ × ℤ). counted_live q t.0) e) ≡ cut_off (live_total p d q)
 count-is p d q e prime few l f s =
     let five : p ≤ 5 = for_served (λ n. n ≤ 5) p (lit≤ tt) (lit≤ tt) (lit≤ tt) prime in
     let large : 1 < p = served_large p prime in
     let some : 1 ≤ p = omega arith in
     let may : List (List ℕ × ℤ) = may_element p d in
-    let same = surjections-are p d e f s in
-    ap cut_off (sum-elements (counted_live q) e) ∙ ap (λ us. cut_off (sum_of (map (counted_live q) us))) same
+    let same = surjections-are (lacks_live_cut q) p d e f s in
+    ap cut_off (sum-elements (counted_live q) e ∙ ap (λ us. sum_of (map (counted_live q) us)) same ∙ sum-there (counted_live q) (may_surjections p d))
     ∙ cut-sum (counted_live q) (λ u. live_cut_count q p u) (may_surjections p d)
     (λ u m. (
     let z = zero-not (is_zero (coefficient u may)) (among-filter (λ v. not (is_zero (coefficient v may))) u (fold (insert_key simplex_cmp) [] (map (λ t. t.0) may)) m).1 in
     let k = terms-among p d may ((may_family p some).terms d) u (among-nonzero u may z) in
-    cut-one p d q u five few l (arity-is p u (among p u (λ v j. sym (k.0 v) ∙ j)) k.0 some) k.1))
+    cut-one p d q u five few l (arity-is p u k.0 some) k.1))

@@ -1,6 +1,6 @@
 -- Ordered lists of keys.
 use Rattle.std.{proofs.Common.{◌≡◌, ◌⊎◌, inl, inr, ℕ, zero, suc, ◌<◌, arith, refl, sym, ◌∙◌, ap, subst, List, [], ◌∷◌, ◌++◌, Bool, true, false, cond, Ordering, Equal, flat_map, fold}, specs.Cmp.IsTotalOrder, specs.BTreeSet.insert_key, specs.List.filter, specs.List.Sorted.IsStrictlySortedBy, proofs.lemmas.Bool.false≢true}
-use Rattle.linear_law.{specs.Names.{Among, Each}, proofs.Names.{among_left, among_right}}
+use Rattle.linear_law.{specs.Names.{Among, Each}, proofs.Names.{among_left, among_right, each_among, each_itself, each_map}}
 use Rattle.simplicial_law.proofs.Names.{among_inserted, insert_keeps, insert_puts, sorted_inserted, sorted_same}
 use Rattle.term_total.specs.Names.{repeated}
 
@@ -104,3 +104,14 @@ module _ {K : Type 0} (cmp : K → K → Ordering) (o : IsTotalOrder cmp) (exact
     where
       given : (us : List K) (x : K) → Among x (fold (insert_key cmp) [] us) → Among x us
       given us x m = elim (fold-of us [] x m) [ inl n ↦ absurd n | inr r ↦ r ]
+
+  -- what holds of each of them holds of each key, and conversely
+  pub each-key : (Q : K → Type 0) (vs : List K) → Each Q vs → Each Q (fold (insert_key cmp) [] vs)
+  each-key Q vs h = each_map (λ x m. each_among Q x vs h (given x (fold-of vs [] x m))) (fold (insert_key cmp) [] vs) (each_itself (fold (insert_key cmp) [] vs))
+    where
+      given : (x : K) → Among x [] ⊎ Among x vs → Among x vs
+      given x (inl n) = absurd n
+      given x (inr r) = r
+
+  pub key-each : (Q : K → Type 0) (vs : List K) → Each Q (fold (insert_key cmp) [] vs) → Each Q vs
+  key-each Q vs h = each_map (λ x m. each_among Q x (fold (insert_key cmp) [] vs) h (fold-puts vs [] x m)) vs (each_itself vs)

@@ -1,11 +1,11 @@
 mod ChargeLemmas
 mod CountLemmas
 mod ElementLemmas
-mod GrowLemmas
 mod KeyLemmas
 mod LineLemmas
 mod LiveLemmas
 mod PlanLemmas
 mod ReadyLemmas
 mod RowLemmas
+mod StoreLemmas
 mod TotalLemmas

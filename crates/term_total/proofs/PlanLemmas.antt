@@ -1,9 +1,9 @@
 -- The rows of blocks and lines count what these count.
 use Rattle.std.proofs.{Common.{◌≡◌, ℕ, ◌+◌, ◌*◌, arith, refl, sym, ◌∙◌, ap, ap₂, List, [], ◌∷◌, ◌++◌, map, get_or, flat_map, append-nil}, lemmas.List.Folds.flat_map-map}
 use Rattle.linear_law.specs.Names.{sum_over}
-use Rattle.report.specs.declared.plan.{Block.Block, Line.Line, Product.Product, Sizes.Sizes}
-use Rattle.report_law.specs.Names.{blocks, cartan_op, cartan_pairs, element_degree, lines, block_terms, complex_terms, line_elements, line_terms, operation_terms}
-use Rattle.term_total.{specs.Names.{repeated, addend_number, block_addend, block_row, class_pairs, elements_in, line_addend, line_operations, operation_number, pair_lines, pair_operations, pair_row, part_rows, plan, row_elements, row_numbers, Addend, Applied}, proofs.ChargeLemmas.singles, proofs.LineLemmas.lines-by-pairs, proofs.RowLemmas.{flat-flat, flat-same}}
+use Rattle.report.specs.declared.plan.{Block.Block, Line.Line, Op.Op, Product.Product, Sizes.Sizes}
+use Rattle.report_law.specs.Names.{blocks, cartan_op, cartan_pairs, element_degree, lines, block_terms, complex_terms, line_terms, operation_terms}
+use Rattle.term_total.{specs.Names.{repeated, addend_number, block_addend, block_row, class_pairs, line_addend, operation_number, pair_lines, pair_operations, pair_row, part_rows, plan, row_numbers, Addend, Applied, Row}, proofs.ChargeLemmas.singles, proofs.LineLemmas.lines-by-pairs, proofs.RowLemmas.{flat-flat, flat-same}}
 
 -- ---- what they count
 
@@ -36,35 +36,55 @@ module _ (p : ℕ) (z : Sizes) where
 pub plan-numbers : (p : ℕ) (zs : List Sizes) → flat_map (row_numbers p) (plan p zs) ≡ flat_map (complex_terms p) zs
 plan-numbers p zs = flat-flat (row_numbers p) (part_rows p) zs ∙ flat-same (λ z. flat_map (row_numbers p) (part_rows p z)) (complex_terms p) zs (part-numbers p)
 
--- ---- the degrees of their May elements
+-- ---- the degrees of their May elements and of their cochains
 
-abbrev pub short_elements : ℕ → List ℕ → Product → List ℕ
-short_elements p ranks x = flat_map (line_elements p) (pair_lines p ranks x)
+module _ {X : Type 0} (f : ℕ → ℕ → X) (p : ℕ) where
+  -- the values of f on them: of an addend, of rows, of an operation, of a line, of a complex
+  abbrev addend_values : Addend → List X
+  addend_values y = map (λ (x : Applied). f x.element x.degree) y.operations
 
-module _ (p : ℕ) (z : Sizes) where
-  line-elements : (l : Line) → map (λ (x : Applied). x.element) (line_operations p z.simplices l) ≡ line_elements p l
-  line-elements l = ap (λ ds. element_degree p (l.a + l.b) (cartan_op p l.n) ∷ ds) (go (cartan_pairs p l.a l.b l.n))
-    where
-      go : (es : List (ℕ × ℕ)) → map (λ (x : Applied). x.element) (flat_map (pair_operations p z.simplices l) es)
-          ≡ flat_map (λ e. element_degree p l.a (cartan_op p e.0) ∷ element_degree p l.b (cartan_op p e.1) ∷ []) es
-      go [] = refl
-      go (e ∷ es) = ap (λ ds. element_degree p l.a (cartan_op p e.0) ∷ element_degree p l.b (cartan_op p e.1) ∷ ds) (go es)
+  abbrev pub row_values : Row → List X
+  row_values r = flat_map addend_values r.addends
 
-  abbrev addend_elements : Addend → List ℕ
-  addend_elements y = map (λ (x : Applied). x.element) y.operations
+  abbrev pub values_in : List Row → List X
+  values_in rows = flat_map row_values rows
 
-  pair-elements : (x : Product) → row_elements (pair_row p z x) ≡ short_elements p z.ranks x
-  pair-elements x =
-      flat_map-map addend_elements (line_addend p z.simplices) (pair_lines p z.ranks x)
-      ∙ flat-same (λ l. addend_elements (line_addend p z.simplices l)) (line_elements p) (pair_lines p z.ranks x) line-elements
+  abbrev op_value : Op → ℕ → X
+  op_value op q = f (element_degree p q op) q
 
-  block-elements : row_elements (block_row p z) ≡ map (λ x. element_degree p x.from x.op) (blocks p z.ranks)
-  block-elements = flat_map-map addend_elements (block_addend p z) (blocks p z.ranks) ∙ singles (λ (x : Block). element_degree p x.from x.op) (blocks p z.ranks)
+  abbrev pub line_values : Line → List X
+  line_values l = op_value (cartan_op p l.n) (l.a + l.b) ∷ flat_map (λ e. op_value (cartan_op p e.0) l.a ∷ op_value (cartan_op p e.1) l.b ∷ []) (cartan_pairs p l.a l.b l.n)
 
-  pub part-elements : elements_in (part_rows p z) ≡ map (λ x. element_degree p x.from x.op) (blocks p z.ranks) ++ flat_map (short_elements p z.ranks) (class_pairs z.ranks)
-  part-elements =
-      ap₂ (λ xs ys. xs ++ ys) block-elements
-      (flat_map-map row_elements (pair_row p z) (class_pairs z.ranks) ∙ flat-same (λ x. row_elements (pair_row p z x)) (short_elements p z.ranks) (class_pairs z.ranks) pair-elements)
+  abbrev pub block_values : List Block → List X
+  block_values xs = map (λ x. op_value x.op x.from) xs
 
-pub plan-elements : (p : ℕ) (zs : List Sizes) → elements_in (plan p zs) ≡ flat_map (λ z. elements_in (part_rows p z)) zs
-plan-elements p zs = flat-flat row_elements (part_rows p) zs
+  abbrev pub complex_values : Sizes → List X
+  complex_values z = block_values (blocks p z.ranks) ++ flat_map line_values (lines p z.ranks)
+
+  abbrev pub short_values : List ℕ → Product → List X
+  short_values ranks x = flat_map line_values (pair_lines p ranks x)
+
+  module _ (z : Sizes) where
+    line-values : (l : Line) → addend_values (line_addend p z.simplices l) ≡ line_values l
+    line-values l = ap (λ ds. op_value (cartan_op p l.n) (l.a + l.b) ∷ ds) (go (cartan_pairs p l.a l.b l.n))
+      where
+        go : (es : List (ℕ × ℕ)) → map (λ (x : Applied). f x.element x.degree) (flat_map (pair_operations p z.simplices l) es)
+            ≡ flat_map (λ e. op_value (cartan_op p e.0) l.a ∷ op_value (cartan_op p e.1) l.b ∷ []) es
+        go [] = refl
+        go (e ∷ es) = ap (λ ds. op_value (cartan_op p e.0) l.a ∷ op_value (cartan_op p e.1) l.b ∷ ds) (go es)
+
+    pair-values : (x : Product) → row_values (pair_row p z x) ≡ short_values z.ranks x
+    pair-values x =
+        flat_map-map addend_values (line_addend p z.simplices) (pair_lines p z.ranks x)
+        ∙ flat-same (λ l. addend_values (line_addend p z.simplices l)) line_values (pair_lines p z.ranks x) line-values
+
+    blocks-values : row_values (block_row p z) ≡ block_values (blocks p z.ranks)
+    blocks-values = flat_map-map addend_values (block_addend p z) (blocks p z.ranks) ∙ singles (λ (x : Block). op_value x.op x.from) (blocks p z.ranks)
+
+    pub part-values : values_in (part_rows p z) ≡ block_values (blocks p z.ranks) ++ flat_map (short_values z.ranks) (class_pairs z.ranks)
+    part-values =
+        ap₂ (λ xs ys. xs ++ ys) blocks-values
+        (flat_map-map row_values (pair_row p z) (class_pairs z.ranks) ∙ flat-same (λ x. row_values (pair_row p z x)) (short_values z.ranks) (class_pairs z.ranks) pair-values)
+
+  pub plan-values : (zs : List Sizes) → values_in (plan p zs) ≡ flat_map (λ z. values_in (part_rows p z)) zs
+  plan-values zs = flat-flat row_values (part_rows p) zs

@@ -1,12 +1,13 @@
 -- What is known of the operations of rows.
-use Rattle.std.{proofs.Common.{◌≡◌, ℕ, zero, suc, ◌+◌, ◌-◌, ◌*◌, ◌<◌, ◌≤◌, ◌==◌, arith, inl, inr, lit≤, refl, sym, ◌∙◌, ap, subst, List, [], ◌∷◌, ◌++◌, Bool, true, false, cond, not, leb, map, get_or, length, if◌then◌else◌, flat_map, ◌&&◌, IsTrue, leb-true, ltb-true}, specs.List.filter, proofs.lemmas.Bool.and_parts}
+use Rattle.std.{proofs.Common.{◌≡◌, ℕ, zero, suc, ◌+◌, ◌-◌, ◌*◌, ◌<◌, ◌≤◌, ◌^◌, ◌==◌, arith, inl, inr, lit≤, refl, sym, ◌∙◌, ap, subst, List, [], ◌∷◌, ◌++◌, Bool, true, false, cond, not, leb, map, get_or, length, if◌then◌else◌, flat_map, ◌&&◌, IsTrue, leb-true, ltb-true}, specs.List.filter, proofs.lemmas.Bool.and_parts}
 use Rattle.fp_field.{specs.Served.served, proofs.ServedLemmas.{for_served, served_large}}
 use Rattle.signed_sum.specs.Names.{numbers_from}
 use Rattle.linear_law.{specs.Names.{Among, Each}, proofs.Names.{each_append, each_get_or, each_itself, each_map, each_of_map}}
+use Rattle.table_reduction_law.specs.Names.{candidate_count}
 use Rattle.may_elements.specs.Counted.{cut_off}
 use Rattle.report.specs.declared.plan.{Block.Block, Line.Line, Op.Op, Op.TheVariants.{Square, Power, BocksteinPower}, Product.Product, Sizes.Sizes}
 use Rattle.report_law.specs.Names.{block_on, blocks, cartan_op, cartan_pairs, degrees, element_degree, has_class, is_defined, lines_of_pair, operations, target_degree}
-use Rattle.term_total.{specs.Names.{AreCounted, AreReady, IsBlock, IsLine, IsPair, IsPart, IsReady, applied_to, block_addend, class_pairs, elements_in, line_addend, live_total, pair_lines, pair_operations, pair_row, part_rows, plan, row_elements, is_class_pair, is_live_block, is_live_line, product_of, Counted, Addend, Applied, Row}, proofs.KeyLemmas.among-split}
+use Rattle.term_total.{specs.Names.{AreCounted, AreReady, CanBeMade, IsBlock, IsLine, IsPair, IsPart, IsReady, applied_to, block_addend, class_pairs, elements_in, line_addend, live_total, pair_lines, pair_operations, pair_row, part_rows, plan, row_elements, is_class_pair, is_live_block, is_live_line, product_of, Counted, Addend, Applied, Row}, proofs.KeyLemmas.among-split}
 
 -- what stands for an item where there is none
 abbrev pub no_block : Block
@@ -132,9 +133,9 @@ times-le a b (suc c) zero h k = absurd (omega arith)
 times-le a b (suc c) (suc d) h k = let r = times-le a b c d h (omega arith) in omega (arith, r)
 
 module _ (p : ℕ) (prime : IsTrue (served p)) where
-  -- so low that it can be stored
-  abbrev pub IsLow : ℕ → Type 0
-  IsLow d = d ≤ 60
+  -- so low that it can be made
+  abbrev IsLow : ℕ → ℕ → Type 0
+  IsLow d q = d ≤ 60
 
   element-within : (op : Op) (q : ℕ) → element_degree p q op ≤ q * (p - 1) + q
   element-within (Square k) q = omega arith
@@ -148,7 +149,7 @@ module _ (p : ℕ) (prime : IsTrue (served p)) where
       products zero q h = absurd (omega arith)
       products (suc r) q h = (let e : suc r - 1 ≡ r = omega arith in ap (λ m. q * m + q) e ∙ (let f : q * r + q ≡ suc r * q = omega arith in f))
 
-  element-low : (op : Op) (q : ℕ) → q ≤ 15 → IsLow (element_degree p q op)
+  element-low : (op : Op) (q : ℕ) → q ≤ 15 → IsLow (element_degree p q op) q
   element-low op q l = go op
     where
       four : p - 1 ≤ 4
@@ -180,26 +181,29 @@ module _ (p : ℕ) (prime : IsTrue (served p)) where
             (each-defined p l.a l.b l.n),
       ))
 
-  pub plan-ready : (zs : List Sizes) → Each IsPart zs → Each (AreReady p IsLow) (plan p zs)
+  plan-ready : (zs : List Sizes) → Each IsPart zs → Each (AreReady p IsLow) (plan p zs)
   plan-ready zs h = each-flat IsPart (AreReady p IsLow) (part_rows p) zs part-ready h
 
-  pub plan-low : (zs : List Sizes) → Each IsPart zs → Each IsLow (elements_in (plan p zs))
-  plan-low zs h = each-flat (AreReady p IsLow) IsLow row_elements (plan p zs)
-      (λ r k. each-flat (λ (y : Addend). Each (IsReady p IsLow) y.operations) IsLow (λ (y : Addend). map (λ (x : Applied). x.element) y.operations) r.addends
-      (λ y m. each_of_map IsLow (λ (x : Applied). x.element) y.operations (each_map (λ x i. i.there) y.operations m)) k) (plan-ready zs h)
+  pub plan-low : (zs : List Sizes) → Each IsPart zs → Each (λ d. d ≤ 60) (elements_in (plan p zs))
+  plan-low zs h = each-flat (AreReady p IsLow) (λ d. d ≤ 60) row_elements (plan p zs)
+      (λ r k. each-flat (λ (y : Addend). Each (IsReady p IsLow) y.operations) (λ d. d ≤ 60) (λ (y : Addend). map (λ (x : Applied). x.element) y.operations) r.addends
+      (λ y m. each_of_map (λ d. d ≤ 60) (λ (x : Applied). x.element) y.operations (each_map (λ x i. i.there) y.operations m)) k) (plan-ready zs h)
 
-  -- what holds of the degrees of rows
-  module _ (Q : ℕ → Type 0) where
-    operations-ready : (xs : List Applied) → Each (IsReady p IsLow) xs → Each Q (map (λ (x : Applied). x.element) xs) → Each (IsReady p Q) xs
-    operations-ready [] h k = tt
-    operations-ready (x ∷ xs) h k = (let i = h.0 in (record { low = i.low; most = i.most; there = k.0 }, operations-ready xs h.1 k.1))
+  -- where no May element of the rows has too many candidates
+  operations-made : (xs : List Applied) → Each (IsReady p IsLow) xs → Each (λ d. candidate_count p d ≤ 10 ^ 12) (map (λ (x : Applied). x.element) xs) → Each (IsReady p (λ d q. CanBeMade p d)) xs
+  operations-made [] h k = tt
+  operations-made (x ∷ xs) h k = (let i = h.0 in (record { low = i.low; most = i.most; there = (i.there, k.0) }, operations-made xs h.1 k.1))
 
-    addends-ready : (ys : List Addend) → Each (λ (y : Addend). Each (IsReady p IsLow) y.operations) ys → Each Q (flat_map (λ (y : Addend). map (λ (x : Applied). x.element) y.operations) ys) → Each (λ (y : Addend). Each (IsReady p Q) y.operations) ys
-    addends-ready [] h k = tt
-    addends-ready (y ∷ ys) h k =
-        let both = each-first Q (map (λ (x : Applied). x.element) y.operations) (flat_map (λ (y : Addend). map (λ (x : Applied). x.element) y.operations) ys) k in
-        (operations-ready y.operations h.0 both.0, addends-ready ys h.1 both.1)
+  addends-made : (ys : List Addend) → Each (λ (y : Addend). Each (IsReady p IsLow) y.operations) ys → Each (λ d. candidate_count p d ≤ 10 ^ 12) (flat_map (λ (y : Addend). map (λ (x : Applied). x.element) y.operations) ys)
+      → Each (λ (y : Addend). Each (IsReady p (λ d q. CanBeMade p d)) y.operations) ys
+  addends-made [] h k = tt
+  addends-made (y ∷ ys) h k =
+      let both = each-first (λ d. candidate_count p d ≤ 10 ^ 12) (map (λ (x : Applied). x.element) y.operations) (flat_map (λ (y : Addend). map (λ (x : Applied). x.element) y.operations) ys) k in
+      (operations-made y.operations h.0 both.0, addends-made ys h.1 both.1)
 
-    pub rows-ready : (rs : List Row) → Each (AreReady p IsLow) rs → Each Q (elements_in rs) → Each (AreReady p Q) rs
-    rows-ready [] h k = tt
-    rows-ready (r ∷ rs) h k = (let both = each-first Q (row_elements r) (elements_in rs) k in (addends-ready r.addends h.0 both.0, rows-ready rs h.1 both.1))
+  rows-made : (rs : List Row) → Each (AreReady p IsLow) rs → Each (λ d. candidate_count p d ≤ 10 ^ 12) (elements_in rs) → Each (AreReady p (λ d q. CanBeMade p d)) rs
+  rows-made [] h k = tt
+  rows-made (r ∷ rs) h k = (let both = each-first (λ d. candidate_count p d ≤ 10 ^ 12) (row_elements r) (elements_in rs) k in (addends-made r.addends h.0 both.0, rows-made rs h.1 both.1))
+
+  pub plan-made : (zs : List Sizes) → Each IsPart zs → Each (λ d. candidate_count p d ≤ 10 ^ 12) (elements_in (plan p zs)) → Each (AreReady p (λ d q. CanBeMade p d)) (plan p zs)
+  plan-made zs h k = rows-made (plan p zs) (plan-ready zs h) k

@@ -1,10 +1,11 @@
 -- What is charged for the blocks and lines of complexes.
-use Rattle.std.specs.{Prelude.{◌≡◌, ℕ, ◌+◌, ◌*◌, ◌≤◌, List, [], ◌∷◌, flat_map, get_or, length, map, IsSome, IsTrue, ℤ}, List.filter}
+use Rattle.std.specs.{Prelude.{◌≡◌, ℕ, ◌+◌, ◌*◌, ◌≤◌, ◌^◌, List, [], ◌∷◌, ◌++◌, flat_map, get_or, length, map, IsSome, IsTrue}, List.filter}
 use Rattle.linear_law.specs.Names.{sum_over, Among, Each}
 use Rattle.report.specs.declared.plan.{Block.Block, Line.Line, Op.Op, Product.Product, Sizes.Sizes}
-use Rattle.report_law.specs.Names.{blocks, cartan_op, cartan_pairs, degrees, element_degree, is_defined, lines_of_pair, target_degree, may_surjections}
+use Rattle.report_law.specs.Names.{blocks, cartan_op, cartan_pairs, degrees, element_degree, is_defined, lines, lines_of_pair, target_degree, may_surjections}
 use Rattle.interval_cut_law.specs.Names.{live_cut_count}
-use Rattle.may_elements.specs.{Counted.cut_off, Stored.stored_at}
+use Rattle.table_reduction_law.specs.Names.{candidate_count}
+use Rattle.may_elements.specs.{Counted.cut_off, Stored.{Parts, stored_at}}
 use Rattle.term_total.specs.{Charges.repeated, LiveParts.{is_class_pair, is_live_line, product_of}, declared.counts.Counted.Counted, declared.plan.Addend.Addend, declared.plan.Applied.Applied, declared.plan.Row.Row}
 
 -- the sizes of a complex of at most 16 degrees
@@ -74,6 +75,22 @@ part_rows p z = block_row p z ∷ map (pair_row p z) (class_pairs z.ranks)
 abbrev pub plan : ℕ → List Sizes → List Row
 plan p zs = flat_map (part_rows p) zs
 
+-- ---- what operations use
+
+-- an operation on degree q uses the part of the May element of this degree that cochains of degree q see
+abbrev pub use_of : ℕ → Op → ℕ → ℕ × ℕ
+use_of p op q = (element_degree p q op, q)
+
+abbrev pub line_uses : ℕ → Line → List (ℕ × ℕ)
+line_uses p l = use_of p (cartan_op p l.n) (l.a + l.b) ∷ flat_map (λ e. use_of p (cartan_op p e.0) l.a ∷ use_of p (cartan_op p e.1) l.b ∷ []) (cartan_pairs p l.a l.b l.n)
+
+-- what all blocks and lines of a complex use
+abbrev pub complex_uses : ℕ → Sizes → List (ℕ × ℕ)
+complex_uses p z = map (λ x. use_of p x.op x.from) (blocks p z.ranks) ++ flat_map (line_uses p) (lines p z.ranks)
+
+abbrev pub uses : ℕ → List Sizes → List (ℕ × ℕ)
+uses p zs = flat_map (complex_uses p) zs
+
 -- ---- what is known of them
 
 -- the operation of a block is defined
@@ -90,17 +107,25 @@ pub record IsLine (p : ℕ) (l : Line) : Type 0 where
 abbrev pub IsPair : ℕ → ℕ → ℕ → ℕ × ℕ → Type 0
 IsPair p a b e = IsTrue (is_defined p a (cartan_op p e.0)) × IsTrue (is_defined p b (cartan_op p e.1))
 
--- the May element of degree d is stored
-abbrev pub IsThere : List (ℕ × List (List ℕ × ℤ)) → ℕ → Type 0
-IsThere table d = IsSome (stored_at d table)
+-- what operations on degree q see of the May element of degree d is stored
+abbrev pub IsThere : Parts → ℕ → ℕ → Type 0
+IsThere table d q = IsSome (stored_at d q table)
 
--- the live cuts of the operation can be counted, where Q says of which degrees the May elements are there
-pub record IsReady (p : ℕ) (Q : ℕ → Type 0) (x : Applied) : Type 0 where
+-- all that is stored in the one table is stored in the other
+abbrev pub Keeps : Parts → Parts → Type 0
+Keeps old new = (d q : ℕ) → IsThere old d q → IsThere new d q
+
+-- the May element of degree d can be made
+abbrev pub CanBeMade : ℕ → ℕ → Type 0
+CanBeMade p d = (d ≤ 60) × (candidate_count p d ≤ 10 ^ 12)
+
+-- the live cuts of the operation can be counted, where Q holds of the degrees of its May element and of its cochains
+pub record IsReady (p : ℕ) (Q : ℕ → ℕ → Type 0) (x : Applied) : Type 0 where
   pub low : x.degree ≤ 15
   pub most : x.element ≤ p * x.degree
-  pub there : Q x.element
+  pub there : Q x.element x.degree
 
-abbrev pub AreReady : ℕ → (ℕ → Type 0) → Row → Type 0
+abbrev pub AreReady : ℕ → (ℕ → ℕ → Type 0) → Row → Type 0
 AreReady p Q r = Each (λ (y : Addend). Each (IsReady p Q) y.operations) r.addends
 
 -- the counts are those of their degrees

@@ -1,7 +1,7 @@
 //! Charges of many numbers.
 ghost use Rattle.std.specs.Prelude.{◌≡◌, ◌*◌, ◌∷◌, [], ℕ, List, map};
 ghost use Rattle.may_elements.specs.Counted.{cut_off};
-ghost use Rattle.term_total.specs.Names.{Charges, repeated, sum_of};
+ghost use Rattle.term_total.specs.Names.{Charges, IsCount, repeated, sum_of};
 
 use may_elements::MayRefused;
 use may_elements::terms::{MOST_COUNT, Terms};
@@ -47,7 +47,8 @@ fn charge_all(terms: &mut Terms, numbers: &[u64]) -> Result<(), MayRefused>
 /// Charges the numbers of a row, the row so many times over. The rows that fit are charged together. Numbers that were cut
 /// off are charged as they are.
 pub(crate) fn charge_rows(terms: &mut Terms, row: &[u64], times: u64) -> Result<(), MayRefused>
-    ensures { (ns : List ℕ) → row.now ≡ map cut_off ns → Charges terms.old (repeated times ns) result terms.new }
+    ensures charged { (ns : List ℕ) → row.now ≡ map cut_off ns → Charges terms.old (repeated times ns) result terms.new }
+    ensures count { IsCount terms.old }
 {
     let left = terms.left();
     let sum = capped_sum(row);

@@ -70,17 +70,17 @@ impl<const P: u32> CutCounts<P> {
         requires prime { IsTrue (served P) }
         requires low { q ≤ 15 }
         requires most { d ≤ P * q }
-        requires stored { IsSome (stored_at d table.now) }
+        requires stored { IsSome (stored_at d q table.now) }
         ensures { IfOk result (λ n. n ≡ cut_off (live_total P d q)) }
     {
         if let Some(count) = self.found(d, q) {
             return Ok(count);
         }
         let alloc = *self.counts.allocator();
-        let count = match table.element(d) {
-            Some(element) => {
-                let _weight = element.weight();
-                live_cuts_in(alloc, element, q)?
+        let count = match table.part(d, q) {
+            Some(part) => {
+                let _weight = part.weight();
+                live_cuts_in(alloc, part, q)?
             }
             None => unreachable!(),
         };

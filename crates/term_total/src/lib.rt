@@ -7,6 +7,7 @@ mod degrees;
 mod elements;
 mod live;
 mod pairs;
+mod parts;
 mod plan;
 mod terms;
 

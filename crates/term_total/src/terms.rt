@@ -1,15 +1,15 @@
 //! The total of the counted terms.
-ghost use Rattle.std.specs.{Prelude.{◌≡◌, ◌≤◌, [], Err, None, Some, IsTrue, OnOk, flat_map, is_some, map}, List.Sorted.IsStrictlySortedBy, Ordering.nat_cmp};
+ghost use Rattle.std.specs.Prelude.{◌≡◌, Err, None, Some, IsTrue, OnOk, flat_map, is_some};
 ghost use Rattle.fp_field.specs.Served.{served};
 ghost use Rattle.linear_law.specs.Names.{Each};
-ghost use Rattle.table_reduction_law.specs.Names.{candidate_count};
 ghost use Rattle.may_elements.specs.{Counted.counted, Stored.stored_at};
-ghost use Rattle.report_law.specs.Names.{addends, elements as elements_of, passing_sum};
-ghost use Rattle.term_total.specs.Names.{Charges, sum_of, AreReady, IsPart, IsThere, row_numbers};
+ghost use Rattle.report_law.specs.Names.{addends, passing_sum};
+ghost use Rattle.term_total.specs.Names.{Charges, sum_of, AreReady, IsPart, IsThere, row_numbers, uses};
 
 use crate::charges::charge_rows;
 use crate::counts::CutCounts;
-use crate::elements::elements;
+use crate::elements::charge_elements;
+use crate::parts::store_rows;
 use crate::plan::{Row, plan};
 use may_elements::terms::{Over, Terms};
 use may_elements::{MayRefused, MayTable};
@@ -37,28 +37,9 @@ fn charge_plan<const P: u32>(
     Ok(())
 }
 
-/// Stores the May elements of ascending degrees, and charges their candidates.
-fn grow_all<const P: u32>(
-    table: &mut MayTable<P>,
-    terms: &mut Terms,
-    degrees: &[u32],
-) -> Result<(), MayRefused>
-    requires prime { IsTrue (served P) }
-    requires ascending { IsStrictlySortedBy nat_cmp degrees.now }
-    requires low { Each (λ d. d ≤ 60) degrees.now }
-    requires fresh { table.old ≡ [] }
-    ensures stored { OnOk result (Each (IsThere table.new) degrees.now) }
-    ensures charged { Charges terms.old (map (candidate_count P) degrees.now) result terms.new }
-{
-    for d in degrees {
-        table.grow_to(*d, terms)?;
-    }
-    Ok(())
-}
-
-/// Charges the counted terms of a job in their order, where `parts` has the sizes of its complexes, and stores each
-/// May element that its operations use. `TooManyTerms` exactly where the terms pass the limit, with the first sum that
-/// passes it. After a refusal stored degrees stay stored.
+/// Charges the counted terms of a job in their order, where `parts` has the sizes of its complexes, and stores of each
+/// May element what its operations see. `TooManyTerms` exactly where the terms pass the limit, with the first sum that
+/// passes it.
 pub fn total<const P: u32>(
     alloc: Global,
     parts: &[Sizes],
@@ -67,9 +48,8 @@ pub fn total<const P: u32>(
 ) -> Result<(), MayRefused>
     requires prime { IsTrue (served P) }
     requires parts { Each IsPart parts.now }
-    requires fresh { table.old ≡ [] }
     requires unused { terms.old.used ≡ 0 }
-    ensures stored { OnOk result (Each (λ d. IsTrue (is_some (stored_at d table.new))) (elements_of P parts.now)) }
+    ensures stored { OnOk result (Each (λ u. IsTrue (is_some (stored_at u.0 u.1 table.new))) (uses P parts.now)) }
     ensures within { OnOk result (passing_sum P terms.old.limit parts.now ≡ None) }
     ensures used { OnOk result (terms.new ≡ counted terms.old.limit (sum_of (addends P parts.now))) }
     ensures passes { (over : Over) → result ≡ Err (MayRefused.TooManyTerms over) → (passing_sum P terms.old.limit parts.now ≡ Some over.count) × (over.limit ≡ terms.old.limit) }
@@ -77,9 +57,9 @@ pub fn total<const P: u32>(
     let Ok(rows) = plan(alloc, P, parts) else {
         return Err(MayRefused::OutOfMemory);
     };
-    let Ok(degrees) = elements(alloc, &rows) else {
+    charge_elements::<P>(alloc, &rows, terms)?;
+    let Ok(()) = store_rows(table, &rows) else {
         return Err(MayRefused::OutOfMemory);
     };
-    grow_all(table, terms, &degrees)?;
     charge_plan(alloc, table, &rows, terms)
 }

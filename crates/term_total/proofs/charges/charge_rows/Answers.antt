@@ -3,8 +3,8 @@ use Rattle.may_elements.specs.Counted.{charged}
 use Rattle.term_total.{specs.Names.{IsCount, repeated, sum_of}, proofs.ChargeLemmas.{AreMost, fits-refused, rows-all, rows-cut, rows-fit, rows-pass, whole-least, whole-zero}, proofs.charges.charge_rows.Goals.{then-sum-eq0, else-sum-eq0}}
 use Rattle.term_total.proofs.charges.charge_rows.Goals as goal
 
-pub returns-in_err-charge : goal.returns-in_err-charge
-returns-in_err-charge c = λ ns e.
+pub returns-in_err-charge-clause-charged : goal.returns-in_err-charge-clause-charged
+returns-in_err-charge-clause-charged c = λ ns e.
     let old = c.args.terms.now in
     let sum = c.capped_sum-sum.result in
     let whole = c.if-sum-eq0.whole in
@@ -15,8 +15,8 @@ returns-in_err-charge c = λ ns e.
     ] in
     fits-refused old c.charge.new.terms c.charge.new.terms (whole * sum) (repeated c.args.times ns) c.from_residual.result c.in_err-charge.field-0.0 count fits.fit c.in_err-charge.ensures c.from_residual.ensures
 
-pub returns-then-whole-times : goal.returns-then-whole-times
-returns-then-whole-times c = λ ns e.
+pub returns-then-whole-times-clause-charged : goal.returns-then-whole-times-clause-charged
+returns-then-whole-times-clause-charged c = λ ns e.
     let old = c.args.terms.now in
     let sum = c.capped_sum-sum.result in
     let whole = c.if-sum-eq0.whole in
@@ -29,8 +29,8 @@ returns-then-whole-times c = λ ns e.
     rows-cut old c.charge_all.new.terms c.args.times c.args.row.now ns c.charge_all.result count e
     (rows-pass old c.charge.new.terms c.charge_all.new.terms c.args.row.now c.args.times whole sum c.charge_all.result c.capped_sum-sum.ensures c.if-whole-times.true (fits.most c.if-whole-times.true) mid.0 mid.1 c.charge_all.ensures)
 
-pub returns : goal.returns
-returns c = λ ns e.
+pub returns-clause-charged : goal.returns-clause-charged
+returns-clause-charged c = λ ns e.
     let old = c.args.terms.now in
     let sum = c.capped_sum-sum.result in
     let whole = c.if-sum-eq0.whole in
@@ -44,3 +44,12 @@ returns c = λ ns e.
     let mid = rows-fit old c.charge.new.terms c.args.row.now whole sum c.in_ok-charge.field-0 count c.capped_sum-sum.ensures fits.fit c.in_ok-charge.ensures in
     rows-cut old c.charge.new.terms c.args.times c.args.row.now ns (Ok tt) count e
     (rows-all old c.charge.new.terms c.args.row.now c.args.times tt (mid.0 ∙ ap (λ k. charged old (sum_of (repeated k c.args.row.now))) same) mid.1)
+
+pub returns-in_err-charge-clause-count : goal.returns-in_err-charge-clause-count
+returns-in_err-charge-clause-count c = record { within = c.left-left.ensures.within; low = c.left-left.ensures.low }
+
+pub returns-then-whole-times-clause-count : goal.returns-then-whole-times-clause-count
+returns-then-whole-times-clause-count c = record { within = c.left-left.ensures.within; low = c.left-left.ensures.low }
+
+pub returns-clause-count : goal.returns-clause-count
+returns-clause-count c = record { within = c.left-left.ensures.within; low = c.left-left.ensures.low }

@@ -15,13 +15,13 @@ pub loop-row-preserved : goal.loop-row-preserved
 loop-row-preserved g c =
     let f = row_numbers g.row.P in
     item-charged f c.args.rows.now c.loop-row.row-index c.args.terms.now c.loop-row.terms (flat_map f c.args.rows.now) c.loop-row.invariant c.charge_rows.new.terms c.row-item.result c.loop-row-test.true c.row-item.is
-    c.in_ok-charge_rows.field-0 (c.in_ok-charge_rows.ensures (map (addend_number g.row.P) c.row-item.result.addends) (c.deref.ensures.value ∙ c.in-Ok.ensures))
+    c.in_ok-charge_rows.field-0 (c.in_ok-charge_rows.ensures.charged (map (addend_number g.row.P) c.row-item.result.addends) (c.deref.ensures.value ∙ c.in-Ok.ensures))
 
 pub returns-in_err-charge_rows : goal.returns-in_err-charge_rows
 returns-in_err-charge_rows g c =
     let f = row_numbers g.row.P in
     item-refused f c.args.rows.now c.loop-row.row-index c.args.terms.now c.loop-row.terms (flat_map f c.args.rows.now) c.loop-row.invariant c.charge_rows.new.terms c.row-item.result c.loop-row-test.true c.row-item.is
-    c.charge_rows.new.terms c.from_residual.result c.in_err-charge_rows.field-0.0 (c.in_err-charge_rows.ensures (map (addend_number g.row.P) c.row-item.result.addends) (c.deref.ensures.value ∙ c.in-Ok.ensures)) c.from_residual.ensures
+    c.charge_rows.new.terms c.from_residual.result c.in_err-charge_rows.field-0.0 (c.in_err-charge_rows.ensures.charged (map (addend_number g.row.P) c.row-item.result.addends) (c.deref.ensures.value ∙ c.in-Ok.ensures)) c.from_residual.ensures
 
 pub returns : goal.returns
 returns g c =
