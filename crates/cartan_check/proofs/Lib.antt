@@ -1,3 +1,4 @@
 pub mod CycleLemmas
 pub mod VerdictLemmas
 mod ByMatrixLemmas
+mod IdentityLemmas

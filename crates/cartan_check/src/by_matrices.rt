@@ -1,4 +1,4 @@
-ghost use Rattle.std.specs.Prelude.{◌≡◌, ◌≤◌, ◌+◌, ℕ, List, length, false, true, IfOk, IsTrue};
+ghost use Rattle.std.specs.Prelude.{◌≡◌, ◌↔◌, ◌≤◌, ◌+◌, ℕ, List, length, false, true, IfOk, IsTrue};
 ghost use Rattle.fp_field.specs.Served.{served};
 ghost use Rattle.simplicial_law.specs.Names.{Cochain as SimplexCochain, HasCoordinates};
 ghost use Rattle.complex_index.specs.{declared.indexed.Cochain.Cochain, Names.level};
@@ -82,8 +82,15 @@ fn verdict_of_values<const P: u32>(values: &[Fp<P>], rank: u32) -> Verdict<P>
     }
 }
 
+/// Whether the operation of a line is Sq^0, which is the identity.
+fn is_identity(p: u32, line: Line) -> bool
+    ensures { IsTrue result ↔ ((p ≡ 2) × (line.n ≡ 0)) }
+{
+    p == 2 && line.n == 0
+}
+
 /// The verdict on a line, without chains, from the matrices of a complex. The operation is defined on the degree of the product
-/// of its two classes, which is at most 15.
+/// of its two classes, which is at most 15. The answer for Sq^0, which is the identity, is yes at once.
 pub fn cartan_by_matrices<const P: u32, B: Basis<P>>(
     alloc: Global,
     basis: &B,
@@ -97,6 +104,9 @@ pub fn cartan_by_matrices<const P: u32, B: Basis<P>>(
     requires second { (1 ≤ line.j) × (line.j ≤ length (B.classes basis.now line.b)) }
     ensures { IfOk result (λ v. (levels : List (List (List ℕ))) → B.is_of levels basis.now → AreMatrices B.keeps levels (B.classes basis.now) (class_counts levels (B.classes basis.now)) matrices.now → IsVerdictOf false levels (B.classes basis.now) line v) }
 {
+    if is_identity(P, line) {
+        return Ok(Verdict::Yes { primitive: None });
+    }
     let x = of_class(alloc, basis, line.a, line.i)?;
     let y = of_class(alloc, basis, line.b, line.j)?;
     let product = product_of(alloc, basis, matrices, &x, &y)?;

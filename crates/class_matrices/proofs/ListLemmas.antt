@@ -1,7 +1,7 @@
 -- Lists over numbers, and lists that are made item by item.
-use Rattle.std.proofs.{Common.{◌≡◌, ◌≢◌, ◌∙◌, ℕ, zero, suc, ◌+◌, ◌<◌, ◌≤◌, ◌⊎◌, inl, inr, List, [], ◌∷◌, ◌++◌, drop, length, map, min, take, get_or, arith, refl, sym, ap, ap₂, subst}, lemmas.Bool.cases_lt, lemmas.List.{drop-map, drop_min, length-map, map-append, take_min, take_more}}
+use Rattle.std.proofs.{Common.{◌≡◌, ◌≢◌, ◌∙◌, ℕ, zero, suc, ◌+◌, ◌<◌, ◌≤◌, ◌⊎◌, inl, inr, List, [], ◌∷◌, ◌++◌, drop, length, map, min, take, get_or, arith, refl, sym, ap, ap₂, subst}, lemmas.Bool.cases_lt, lemmas.List.{drop-map, drop_min, length-map, map-append, take_min}}
 use Rattle.signed_sum.specs.Names.{numbers_from}
-use Rattle.linear_law.{specs.Names.{Among, Each, copies}, proofs.Names.{each_get_or, each_itself, each_push}}
+use Rattle.linear_law.{specs.Names.{Among, Each, copies}, proofs.Names.{each_get_or, each_itself}}
 
 -- ---- lists over numbers
 
@@ -45,18 +45,6 @@ copies-more k x y ys new h r e = let s : suc k ≡ k + 1 = omega arith in e ∙ 
 
 pub item-among : {X : Type 0} (xs ys : List X) (i : ℕ) (d : X) → i < length xs → xs ≡ ys → Among (get_or xs i d) ys
 item-among xs ys i d lt e = subst (λ (zs : List _). Among (get_or xs i d) zs) e (each_get_or (λ t. Among t xs) xs i d lt (each_itself xs))
-
--- one item more, with its heading
-pub headed-more : {M H : Type 0} (heading : M → H) (hs : List H) (i : ℕ) (d : H) (ms new : List M) (m : M) → i < length hs → map heading ms ≡ take i hs → heading m ≡ get_or hs i d → new ≡ ms ++ m ∷ [] → map heading new ≡ take (i + 1) hs
-headed-more heading hs i d ms new m l h e is =
-    ap (map heading) is ∙ map-append heading ms (m ∷ []) ∙ ap₂ (λ (us : List _) (u : _). us ++ u ∷ []) h e ∙ sym (take_more hs i d l)
-
-pub each-more : {M : Type 0} (P : M → Type 0) (ms new : List M) (m : M) → Each P ms → P m → new ≡ ms ++ m ∷ [] → Each P new
-each-more P ms new m h k is = subst (Each P) (sym is) (each_push P ms m h k)
-
--- one item more that has another heading
-pub other-more : {M H : Type 0} (heading : M → H) (h : H) (ms : List M) (i : ℕ) (d : M) → i < length ms → Each (λ m. heading m ≢ h) (take i ms) → heading (get_or ms i d) ≢ h → Each (λ m. heading m ≢ h) (take (i + 1) ms)
-other-more heading h ms i d l others n = subst (Each (λ m. heading m ≢ h)) (sym (take_more ms i d l)) (each_push (λ m. heading m ≢ h) (take i ms) (get_or ms i d) others n)
 
 -- what no item has as its heading is none of the headings
 pub no-heading : {M H : Type 0} (heading : M → H) (h : H) (ms : List M) → Each (λ m. heading m ≢ h) ms → Among h (map heading ms) → ⊥

@@ -1,11 +1,16 @@
-use Rattle.std.proofs.Common.{subst, sym}
+use Rattle.std.proofs.Common.{refl, subst, sym}
 use Rattle.report.specs.declared.plan.Op.{Op}
 use Rattle.report_law.specs.Names.{IsOperation}
 use Rattle.simplicial_law.specs.Names.{HasCoordinates}
 use Rattle.cohomology.specs.Names.{cochains_at}
 use Rattle.class_matrices.specs.Names.{IsSetting}
-use Rattle.cartan_check.proofs.ByMatrixLemmas.{verdict-is}
+use Rattle.cartan_check.proofs.{ByMatrixLemmas.verdict-is, IdentityLemmas.identity-verdict}
 use Rattle.cartan_check.proofs.by_matrices.cartan_by_matrices.Goals as goal
+
+pub returns-then-is_identity : goal.returns-then-is_identity
+returns-then-is_identity g c = λ levels of matrices.
+    let both = c.is_identity.ensures.0 c.if-is_identity.true in
+    record { listed = λ facets all is as_listed. identity-verdict g.row.P facets all c.args.line both.0 both.1; kept = refl }
 
 pub returns : goal.returns
 returns g c = λ levels of matrices.
