@@ -6,8 +6,9 @@ use Rattle.report.specs.declared.{complex.ComplexPart.ComplexPart, job.Report.Re
 use Rattle.report_text_law.specs.{Names.{complex_lines as lines_of, map_lines as map_lines_of, is_line}, WellFormed.is_well_formed}
 use Rattle.certificate_law.specs.Names.{FailsAt, FailsFirst, Holds, Asks, complex_named, Stated, behind, complex_stated, finish, heading, map_between, map_stated, prime_is, stated}
 use Rattle.certificate_walk.{specs.declared.stop.Stop.Stop, specs.declared.stop.Stop.TheVariants.Fails, specs.Names.{FailsBehind, IsWalk}, proofs.Names.walk_both}
-use Rattle.may_elements.specs.Stored.{stored_at}
-use Rattle.report_law.specs.Names.{ranks_of, elements, sizes_of}
+use Rattle.may_elements.specs.Stored.{Parts, stored_at}
+use Rattle.report_law.specs.Names.{ranks_of, sizes_of}
+use Rattle.term_total.specs.Names.{uses}
 use Rattle.line_difference.{specs.Elements.AreStored, proofs.PlanLemmas.each-stored}
 use Rattle.count_check.specs.Totals.{IsCountable, job_sizes}
 use Rattle.cert_check.{specs.Ready.{CanIndex, IsKept, IsMapReady, IsReady}, proofs.FreeLemmas.{holds_none, outer_free}, proofs.PartLemmas.{can_index, complexes_asked, each_of_behind, few_of, formed, low_degrees, maps_asked}}
@@ -59,7 +60,7 @@ pub on_ok_map : {X E : Type 0} (r : Result X E) (P Q : Type 0) → (P → Q) →
 on_ok_map (Ok x) P Q f h = f h
 on_ok_map (Err e) P Q f h = tt
 
-pub all_stored : (p : ℕ) (table : List (ℕ × List (List ℕ × ℤ))) (cs : List ComplexPart) → Each (λ d. IsSome (stored_at d table)) (elements p (job_sizes cs)) → Each (λ c. AreStored p table (ranks_of c)) cs
+pub all_stored : (p : ℕ) (table : Parts) (cs : List ComplexPart) → Each (λ u. IsSome (stored_at u.0 u.1 table)) (uses p (job_sizes cs)) → Each (λ c. AreStored p table (ranks_of c)) cs
 all_stored p table cs h = each_unmap (λ (z : Sizes). AreStored p table z.ranks) (λ (c : ComplexPart). sizes_of c.facets c) cs (each-stored p table (job_sizes cs) h)
 
 together : (p k : ℕ) (cs : List ComplexPart) (ms : List MapPart) → Each (λ m. (b : List MapPart) × Each (Asks p 1) (map_stated cs b m)) ms → Each (λ m. list_all (is_line p) (map_lines_of m) ≡ true) ms

@@ -9,6 +9,7 @@ use Rattle.report_law.specs.Names.{ranks_of}
 use Rattle.report_text_law.specs.Names.{complex_lines, map_lines, is_line}
 use Rattle.certificate_law.specs.Names.{Asks, complex_names, complex_named, complex_stated, map_between}
 use Rattle.line_difference.specs.Elements.{AreStored}
+use Rattle.may_elements.specs.Stored.{Parts}
 
 -- the facets of a complex of which an index can be made
 pub record CanIndex (facets : List (List ℕ)) : Type 0 where
@@ -35,5 +36,5 @@ pub record IsMapReady (p condition : ℕ) (cs : List ComplexPart) (m : MapPart) 
   pub counts : 5 < condition → (ds : List ComplexPart) (earlier : List MapPart) → Each (Asks p 5) (map_between (complex_named cs m.from) (complex_named cs m.to) ds earlier m)
 
 -- The May elements of the operations of the complexes are stored, where a condition above 5 is tried.
-abbrev pub AreAllStored : ℕ → ℕ → List (ℕ × List (List ℕ × ℤ)) → List ComplexPart → Type 0
+abbrev pub AreAllStored : ℕ → ℕ → Parts → List ComplexPart → Type 0
 AreAllStored p condition table cs = 5 < condition → Each (λ c. AreStored p table (ranks_of c)) cs

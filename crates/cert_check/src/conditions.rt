@@ -33,10 +33,8 @@ fn condition_fault<const P: u32>(
     requires high { condition ≤ 8 }
     requires kept { AllZip (IsKept P) indexes.now report.now.complexes }
     requires passed { (lower : ℕ) → lower < condition → Holds lower report.now }
-    requires fresh { condition ≤ 5 → table.old ≡ [] }
     requires stored { AreAllStored P condition table.old report.now.complexes }
     ensures walk { IsWalk (Asks P condition) 0 (stated report.now) result }
-    ensures fresh { OnOk result (condition < 5 → table.new ≡ []) }
     ensures stored { OnOk result (AreAllStored P (condition + 1) table.new report.now.complexes) }
 {
     let parts = report.complexes.as_slice();

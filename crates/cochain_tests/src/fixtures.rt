@@ -11,7 +11,6 @@ use complex_file::{ComplexBlock, Job, read_job};
 use complex_index::{Cochain, Indexed};
 use fp_field::Fp;
 use may_elements::MayTable;
-use may_elements::terms::Terms;
 use sparse_rows::Row;
 use std::alloc::{AllocError, Global};
 use std::test::Fail;
@@ -72,13 +71,17 @@ pub fn cochain<const P: u32>(
     Ok(Cochain { degree: n, row })
 }
 
-/// A table with the May element of degree d.
-pub fn element<const P: u32>(alloc: Global, d: u32) -> Result<MayTable<P>, Fail>
+/// A table with what operations on degree q see of the May element of degree d.
+pub fn part<const P: u32>(alloc: Global, d: u32, q: u32) -> Result<MayTable<P>, Fail>
     requires prime { IsTrue (served P) }
     requires low { d ≤ 60 }
-    ensures { IfOk result (λ t. IsSome (stored_at d t)) }
+    requires small { q ≤ 15 }
+    ensures { IfOk result (λ t. IsSome (stored_at d q t)) }
 {
+    if MayTable::<P>::candidates(d) > 1_000 {
+        return Err("too many candidates".into());
+    }
     let mut table = MayTable::new(alloc);
-    table.grow_to(d, &mut Terms::new(1_000))?;
+    table.store(d, q)?;
     Ok(table)
 }

@@ -1,4 +1,4 @@
-use crate::fixtures::{cochain, element, index_of, job_of};
+use crate::fixtures::{cochain, index_of, job_of, part};
 use crate::spelled::{chain, columns};
 use crate::texts::{CIRCLE, CONSTANT_MAP, DISC, MOORE, PLANE, TORUS, TWO_POINTS};
 use bockstein::{BocksteinRefused, bockstein};
@@ -94,7 +94,7 @@ fn cochains_at_three_have_operations(rt: HostRuntime) -> Result<(), Fail> {
     let alloc = rt.alloc();
     let circle = index_of(alloc, CIRCLE)?;
     let edge = cochain::<3>(alloc, &circle, 1, &[(1, &[1, 2])])?;
-    let table = element(alloc, 2)?;
+    let table = part(alloc, 2, 1)?;
     let found = [
         d_op(alloc, &table, &circle, &edge, 2)?,
         p_op(alloc, &table, &circle, &edge, 0)?,
@@ -103,7 +103,7 @@ fn cochains_at_three_have_operations(rt: HostRuntime) -> Result<(), Fail> {
     for same in found.as_slice() {
         assert_eq!(rt; chain(alloc, &circle, same)?.as_str(), " 1:1.2");
     }
-    let table = element(alloc, 1)?;
+    let table = part(alloc, 1, 1)?;
     let disc = index_of(alloc, DISC)?;
     let edges = cochain::<3>(alloc, &disc, 1, &[(1, &[0, 1]), (1, &[0, 2]), (1, &[1, 2])])?;
     let found = bp_op(alloc, &table, &disc, &edges, 0)?;

@@ -10,6 +10,7 @@ use Rattle.report_text_law.specs.Names.{cartan_lines, induced_lines, operation_l
 use Rattle.listed_rows.proofs.CountLemmas.{simplices_counted}
 use Rattle.line_difference.{specs.Elements.AreStored, proofs.PlanLemmas.{block-low, block-stored, line-classes, line-low, line-stored}}
 use Rattle.column_check.{specs.Listings.IsListedOn, specs.Ready.{HasPassed, HasPassedMap, IsCartanReady, IsColumnReady, IsInducedReady, IsOperationReady, IsPairReady, IsProductReady}, proofs.FormedLemmas.{answer, columns, few, formed, formed-blocks, formed-cartans, formed-classes, formed-facets, formed-operations, formed-products, induced-columns, operation-columns, product-columns}, proofs.ListLemmas.slice-among}
+use Rattle.may_elements.specs.Stored.{Parts}
 
 -- ---- the sections of a complex and of a map
 
@@ -126,7 +127,7 @@ in-pairs h k e m =
     let d = of-numbers b.0 1 k b.1 in
     subst (λ (f : ℕ × ℕ). ((1 ≤ f.0) × (f.0 ≤ h)) × ((1 ≤ f.1) × (f.1 ≤ k))) b.2 ((c.0, let u = c.1 in omega (arith, u)), (d.0, let u = d.1 in omega (arith, u)))
 
-module _ (p : ℕ) (table : List (ℕ × List (List ℕ × ℤ))) (c : ComplexPart) (low : length c.degrees ≤ 16) (passed : HasPassed p c) where
+module _ (p : ℕ) (table : Parts) (c : ComplexPart) (low : length c.degrees ≤ 16) (passed : HasPassed p c) where
   few-ranks : length (ranks_of c) ≤ 16
   few-ranks = let a = length-map (classes_of c) (λ (cs : List Chain). length cs) in let b = length-map c.degrees (λ (d : DegreePart). d.classes) in omega (arith, a, b, low)
 

@@ -5,6 +5,7 @@ use Rattle.certificate_law.specs.{Types.{CartanAnswer, Yes, No, CartanPart, Colu
 use Rattle.report_law.specs.Names.{cartan_op, is_defined, target_degree, line_of, op_of}
 use Rattle.report_text_law.specs.Names.{complex_lines, map_lines, is_chain, is_line}
 use Rattle.line_difference.specs.Elements.{HasElement, HasElements}
+use Rattle.may_elements.specs.Stored.{Parts}
 
 -- The lines of the complex are well formed, and meet the conditions 2, 3 and 5.
 pub record HasPassed (p : ℕ) (c : ComplexPart) : Type 0 where
@@ -36,7 +37,7 @@ pub record IsColumnReady (p rows : ℕ) (y : Column) : Type 0 where
   pub size : length y.values ≡ rows
   pub formed : is_chain p y.primitive ≡ true
 
-pub record IsOperationReady (p : ℕ) (table : List (ℕ × List (List ℕ × ℤ))) (c : ComplexPart) (x : OperationPart) : Type 0 where
+pub record IsOperationReady (p : ℕ) (table : Parts) (c : ComplexPart) (x : OperationPart) : Type 0 where
   pub low : x.from ≤ 15
   pub live : 0 < rank_in c x.to
   pub defined : is_defined p x.from (op_of x) ≡ true
@@ -58,7 +59,7 @@ abbrev pub IsFormedAnswer : ℕ → CartanAnswer → Type 0
 IsFormedAnswer p (Yes primitive) = is_chain p primitive ≡ true
 IsFormedAnswer p (No value cycle) = is_chain p cycle ≡ true
 
-pub record IsCartanReady (p : ℕ) (table : List (ℕ × List (List ℕ × ℤ))) (c : ComplexPart) (x : CartanPart) : Type 0 where
+pub record IsCartanReady (p : ℕ) (table : Parts) (c : ComplexPart) (x : CartanPart) : Type 0 where
   pub low : x.a + x.b ≤ 15
   pub defined : is_defined p (x.a + x.b) (cartan_op p x.n) ≡ true
   pub stored : HasElements p table (line_of x)

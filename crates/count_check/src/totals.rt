@@ -4,7 +4,8 @@ ghost use Rattle.linear_law.specs.Names.{Each, IsAscending};
 ghost use Rattle.fp_field.specs.Served.{served};
 ghost use Rattle.complex_index.specs.Names.{IsIndexOf};
 ghost use Rattle.may_elements.specs.Stored.{stored_at};
-ghost use Rattle.report_law.specs.Names.{elements, simplex_counts, sizes_of};
+ghost use Rattle.report_law.specs.Names.{simplex_counts, sizes_of};
+ghost use Rattle.term_total.specs.Names.{uses};
 ghost use Rattle.certificate_law.specs.Names.{Asks, finish};
 ghost use Rattle.certificate_walk.specs.Names.{IsWalk};
 ghost use Rattle.count_check.specs.Totals.{IsCountable, job_sizes};
@@ -60,7 +61,7 @@ fn all_sizes(
 }
 
 /// The walk of the last line, behind complexes with these indexes: whether the counted terms of their ranks are at most 10^12. If
-/// they are, the table, in which nothing was stored, stores each May element that they use.
+/// they are, the table stores what they use of May elements.
 pub fn total_fault<const P: u32>(
     alloc: Global,
     parts: &[ComplexPart],
@@ -70,10 +71,9 @@ pub fn total_fault<const P: u32>(
 ) -> Result<u64, Stop>
     requires prime { IsTrue (served P) }
     requires parts { AllZip IsCountable indexes.now parts.now }
-    requires fresh { table.old ≡ [] }
     requires room { before + 1 < 2 ^ 64 }
     ensures walk { IsWalk (Asks P 5) before (finish parts.now ∷ []) result }
-    ensures stored { OnOk result (Each (λ d. IsTrue (is_some (stored_at d table.new))) (elements P (job_sizes parts.now))) }
+    ensures stored { OnOk result (Each (λ u. IsTrue (is_some (stored_at u.0 u.1 table.new))) (uses P (job_sizes parts.now))) }
 {
     let sizes = all_sizes(alloc, parts, indexes)?;
     let mut terms = Terms::new(1_000_000_000_000);

@@ -62,10 +62,7 @@ total_fault-requires g c =
         c.requires.prime,
         (
           subst (AllZip IsCountable c.args.indexes.now) (sym c.as_slice-parts.ensures) (countable_all g.row.P c.args.indexes.now c.args.report.now.complexes (subst (λ (n : ℕ). AllZip (IsReady g.row.P n) c.args.indexes.now c.args.report.now.complexes) (let q : c.args.condition + 1 ≡ 6 = omega (arith, five) in q) (ready_more g.row.P c.args.condition c.args.indexes.now c.args.report.now.complexes c.requires.low (ready_all g.row.P c.args.condition c.args.report.now c.args.indexes.now c.requires.prime_is c.requires.kept c.requires.passed) ((subst (λ (xs : List ComplexPart). IsWalk (Asks g.row.P c.args.condition) 2 (behind complex_stated [] xs) (Ok c.in_ok-at.at)) c.as_slice-parts.ensures c.in_ok-at.ensures).1)))),
-          (
-            c.requires.fresh (omega (arith, five)),
-            (let l = stated_length c.args.report.now in let few = c.requires.few in let a = (subst (λ (xs : List ComplexPart). IsWalk (Asks g.row.P c.args.condition) 2 (behind complex_stated [] xs) (Ok c.in_ok-at.at)) c.as_slice-parts.ensures c.in_ok-at.ensures).0 in let n = complexes_length c.args.report.now.complexes in let b = (maps_walk g.row.P c.args.condition c.args.report.now c.in_ok-at.at (Ok c.in_ok-at-2.at) c.as_slice-parts.ensures c.as_slice.ensures c.in_ok-at-2.ensures).0 in let m = maps_length c.args.report.now.complexes c.args.report.now.maps in omega (arith, l, few, a, n, b, m)),
-          ),
+          (let l = stated_length c.args.report.now in let few = c.requires.few in let a = (subst (λ (xs : List ComplexPart). IsWalk (Asks g.row.P c.args.condition) 2 (behind complex_stated [] xs) (Ok c.in_ok-at.at)) c.as_slice-parts.ensures c.in_ok-at.ensures).0 in let n = complexes_length c.args.report.now.complexes in let b = (maps_walk g.row.P c.args.condition c.args.report.now c.in_ok-at.at (Ok c.in_ok-at-2.at) c.as_slice-parts.ensures c.as_slice.ensures c.in_ok-at-2.ensures).0 in let m = maps_length c.args.report.now.complexes c.args.report.now.maps in omega (arith, l, few, a, n, b, m)),
         ),
       ),
     )

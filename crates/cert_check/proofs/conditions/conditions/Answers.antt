@@ -5,7 +5,6 @@ use Rattle.cert_check.proofs.conditions.conditions.Goals as goal
 pub loop-condition-preserved : goal.loop-condition-preserved
 loop-condition-preserved g c = record {
   passed = holds_next c.args.report.now g.row.P c.loop-condition.condition c.in-Ok.field-0 c.requires.prime_is c.loop-condition.invariant.passed c.in-Ok.ensures.walk;
-  fresh = λ b. c.in-Ok.ensures.fresh (omega arith);
   stored = c.in-Ok.ensures.stored;
 }
 

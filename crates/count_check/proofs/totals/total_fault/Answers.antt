@@ -7,7 +7,7 @@ use Rattle.count_check.proofs.totals.total_fault.Goals as goal
 
 pub total-requires : goal.total-requires
 total-requires g c =
-    (lit< tt, (c.requires.prime, (subst (Each IsPart) (sym (c.deref.ensures.value ∙ c.in_ok-sizes.ensures)) (parts_of c.args.indexes.now c.args.parts.now c.requires.parts), (c.requires.fresh, c.new-terms.ensures.used))))
+    (lit< tt, (c.requires.prime, (subst (Each IsPart) (sym (c.deref.ensures.value ∙ c.in_ok-sizes.ensures)) (parts_of c.args.indexes.now c.args.parts.now c.requires.parts), c.new-terms.ensures.used)))
 
 pub returns-in-Err-TooManyTerms-clause-walk : goal.returns-in-Err-TooManyTerms-clause-walk
 returns-in-Err-TooManyTerms-clause-walk g c =
