@@ -32,13 +32,18 @@ slice-item [] i x e = refl
 slice-item (y ∷ ys) zero x e = cc
 slice-item (y ∷ ys) (suc i) x e = slice-item ys i x e
 
+pub chains-next : {p : ℕ} (here : List (List ℕ)) (zs : List (Cochain p)) (i : ℕ) (z : Cochain p) (y : Chain) (ys new : List Chain) → i < length zs → z ≡ get_or zs i z
+    → ys ≡ chains_at {p = p} here (take i zs) → y ≡ terms_of here z.row → new ≡ ys ++ y ∷ [] → new ≡ chains_at {p = p} here (take (i + 1) zs)
+chains-next {p = p} here zs i z y ys new l same h e is =
+    let f : Cochain p → Chain = λ c. terms_of here c.row in
+    is ∙ ap₂ (λ (xs : List Chain) (x : Chain). xs ++ x ∷ []) h (e ∙ ap f same) ∙ sym (ap (map f) (take_more zs i z l) ∙ map-append f (take i zs) (get_or zs i z ∷ []))
+
 pub chains-more : {p : ℕ} (here : List (List ℕ)) (zs : List (Cochain p)) (i : ℕ) (z : Cochain p) (y : Chain) (ys new : List Chain) → i < length zs → slice_get zs (i + 1 - 1) ≡ Some z
     → ys ≡ chains_at {p = p} here (take i zs) → y ≡ terms_of here z.row → new ≡ ys ++ y ∷ [] → new ≡ chains_at {p = p} here (take (i + 1) zs)
 chains-more {p = p} here zs i z y ys new l at h e is =
     let back : i + 1 - 1 ≡ i = omega arith in
-    let f : Cochain p → Chain = λ c. terms_of here c.row in
     let same = slice-item zs i z (subst (λ (k : ℕ). slice_get zs k ≡ Some z) back at) in
-    is ∙ ap₂ (λ (xs : List Chain) (x : Chain). xs ++ x ∷ []) h (e ∙ ap f (sym same)) ∙ sym (ap (map f) (take_more zs i z l) ∙ map-append f (take i zs) (get_or zs i z ∷ []))
+    chains-next {p = p} here zs i z y ys new l (sym same) h e is
 
 -- ---- classes
 

@@ -5,3 +5,4 @@ pub mod JobLemmas
 pub mod TableLemmas
 pub mod PartLemmas
 pub mod MapLemmas
+pub mod BasisLemmas

@@ -12,8 +12,9 @@ use Rattle.term_total.specs.Names.{IsPart}
 use Rattle.job_report.{specs.declared.known.Known.Known, specs.Jobs.{AreAllListed, CanBeIndexed, HasStored, IsDeeper, IsKnown, IsSize}, proofs.JobLemmas.ascending-facets, specs.Listed.level_counts, specs.Parts.{IsListedDegree, IsListedLine, IsListedOperation, IsListedProduct}, proofs.ClassLemmas.{are-classes, below-are, degree-classes, sizes-are}, proofs.Zips.{headings, parts}}
 use Rattle.class_matrices.{specs.Names.{class_counts, listed_classes}, proofs.ListLemmas.numbers-count, proofs.ClassLemmas.ranks-are}
 use Rattle.line_difference.specs.Elements.{AreStored}
+use Rattle.may_elements.specs.Stored.{Parts}
 
-never : IsTrue false → ⊥
+pub never : IsTrue false → ⊥
 never t = cc
 
 -- ---- a complex
@@ -21,15 +22,6 @@ never t = cc
 module _ (p : ℕ) (detailed : Bool) (levels : List (List (List ℕ))) (classes : ℕ → List (Cochain p)) (canonical : (n : ℕ) → AreCanonicalIn p levels n (classes n)) (block : ComplexBlock) (is : IsIndexOf block.facets levels) where
   pub classes-are : (c : ComplexPart) → AllZip (IsListedDegree {p = p} detailed levels classes) (numbers_from 0 (length levels)) c.degrees → classes_of c ≡ listed_classes {p = p} levels classes
   classes-are c h = degree-classes p detailed levels classes (numbers_from 0 (length levels)) c.degrees h
-
-  pub basis-is : (c : ComplexPart) → c.name ≡ block.name → AllZip (IsListedDegree {p = p} detailed levels classes) (numbers_from 0 (length levels)) c.degrees → IsComplexPart false false p block c
-  basis-is c e h = record {
-    name = e;
-    classes = subst (AreClasses block.facets p) (sym (classes-are c h)) (are-classes p levels classes canonical block.facets is);
-    tables = λ t. absurd (never t);
-    facets = λ t. absurd (never t);
-    below = λ t. absurd (never t);
-  }
 
   pub part-is : (c : ComplexPart) (rs : List ℕ) → c.name ≡ block.name → AreMaximalFacets block.facets c.facets → AllZip (IsListedDegree {p = p} detailed levels classes) (numbers_from 0 (length levels)) c.degrees
       → rs ≡ class_counts {p = p} levels classes → AllZip (IsListedProduct {p = p} detailed levels classes) (products rs) c.products
@@ -53,7 +45,7 @@ module _ (p : ℕ) (detailed : Bool) (levels : List (List (List ℕ))) (classes 
         below = below-are p detailed levels classes block.facets is c.degrees h;
       }
 
-  pub stored-for : (table : List (ℕ × List (List ℕ × ℤ))) (rs : List ℕ) → Each IsAscending block.facets → HasStored p table block → rs ≡ class_counts {p = p} levels classes → AreStored p table rs
+  pub stored-for : (table : Parts) (rs : List ℕ) → Each IsAscending block.facets → HasStored p table block → rs ≡ class_counts {p = p} levels classes → AreStored p table rs
   stored-for table rs up h e =
       let z : Sizes = record { simplices = level_counts levels; ranks = class_counts {p = p} levels classes } in
       subst (AreStored p table) (sym e) (h z (sizes-are p levels classes canonical block.facets is z up refl refl))
@@ -87,7 +79,7 @@ module _ {B : Type 0} (p : ℕ) (is_of : List (List (List ℕ)) → B → Type 0
           let c = k.few in
           record { same = a ∙ sym b; few = omega (arith, b, c) }
 
-pub all-stored : (p : ℕ) (table : List (ℕ × List (List ℕ × ℤ))) (blocks : List ComplexBlock) (zs : List Sizes) → IsTrue (served p) → Each (λ b. Each IsAscending b.facets) blocks
+pub all-stored : (p : ℕ) (table : Parts) (blocks : List ComplexBlock) (zs : List Sizes) → IsTrue (served p) → Each (λ b. Each IsAscending b.facets) blocks
     → AllZip (λ b z. AreSizes p b.facets z) blocks zs → Each (λ z. AreStored p table z.ranks) zs → Each (HasStored p table) blocks
 all-stored p table [] [] s up h k = tt
 all-stored p table [] (z ∷ zs) s up h k = absurd h

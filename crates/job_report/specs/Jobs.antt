@@ -8,6 +8,7 @@ use Rattle.complex_index.specs.{declared.indexed.Cochain.Cochain, Names.IsIndexO
 use Rattle.job_report.specs.{declared.known.Known.Known, Listed.level_counts}
 use Rattle.class_matrices.specs.Names.{class_counts, listed_classes}
 use Rattle.line_difference.specs.Elements.{AreStored}
+use Rattle.may_elements.specs.Stored.{Parts}
 
 -- ascending facets of 1 to 16 vertices, with fewer than 2^32 simplices in all
 pub record CanBeIndexed (facets : List (List ℕ)) : Type 0 where
@@ -31,7 +32,7 @@ abbrev pub IsDeeper : {A B : Type 0} → (List (List (List ℕ)) → A → Type 
 IsDeeper of_first of_second x y = (block : ComplexBlock) → IsKnown of_first block x → IsKnown of_second block y
 
 -- the May elements of the live blocks and lines of a complex are stored
-abbrev pub HasStored : ℕ → List (ℕ × List (List ℕ × ℤ)) → ComplexBlock → Type 0
+abbrev pub HasStored : ℕ → Parts → ComplexBlock → Type 0
 HasStored p table block = (z : Sizes) → AreSizes p block.facets z → AreStored p table z.ranks
 
 -- the classes by degree of each complex

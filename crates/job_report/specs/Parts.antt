@@ -1,6 +1,7 @@
 -- The parts of a report, over the levels and the classes of a complex.
 use Rattle.std.specs.Prelude.{◌≡◌, ℕ, ◌-◌, Bool, IsSome, IsTrue, List, [], ℤ}
 use Rattle.linear_law.specs.Names.{Each}
+use Rattle.simplicial_law.specs.Names.{AreCanonicalClasses}
 use Rattle.complex_index.specs.{declared.indexed.Cochain.Cochain, Names.{IsIndexOf, level}}
 use Rattle.cohomology.specs.Names.{chains_at}
 use Rattle.may_elements.specs.Stored.{stored_at}
@@ -13,6 +14,10 @@ use Rattle.job_report.specs.Listed.{IsInside}
 pub record IsListedDegree {p : ℕ} (detailed : Bool) (levels : List (List (List ℕ))) (classes : ℕ → List (Cochain p)) (n : ℕ) (d : DegreePart) : Type 0 where
   pub listed : d.classes ≡ chains_at (level levels n) (classes n)
   pub below : IsTrue detailed → (facets : List (List ℕ)) → IsIndexOf facets levels → ArePrimitives facets n p d.below
+
+-- d lists the canonical classes of degree n of each complex with these levels
+abbrev pub IsClassPart : ℕ → List (List (List ℕ)) → ℕ → DegreePart → Type 0
+IsClassPart p levels n d = (facets : List (List ℕ)) → IsIndexOf facets levels → AreCanonicalClasses facets n p d.classes
 
 -- x has the heading h, and is what it is to be of each complex with these levels
 pub record IsPartFor {H X : Type 0} (heading : X → H) (levels : List (List (List ℕ))) (Is : List (List ℕ) → X → Type 0) (h : H) (x : X) : Type 0 where

@@ -1,4 +1,4 @@
-ghost use Rattle.std.specs.{Prelude.{◌≡◌, true, false, IfOk, IsTrue, map}, List.AllZip};
+ghost use Rattle.std.specs.{Prelude.{◌≡◌, true, IfOk, IsTrue, map}, List.AllZip};
 ghost use Rattle.fp_field.specs.Served.{served};
 ghost use Rattle.linear_law.specs.Names.{Each};
 ghost use Rattle.report_law.specs.Names.{classes_of, IsComplexPart};
@@ -16,41 +16,6 @@ use facet_list::maximal_facets;
 use may_elements::MayTable;
 use report::ComplexPart;
 use std::alloc::{AllocError, Global};
-
-/// What is listed of a complex without its tables: its name and its classes.
-fn basis_part<const P: u32, B: Depth<P>>(
-    alloc: Global,
-    block: &ComplexBlock,
-    known: &Known<B>,
-) -> Result<ComplexPart, AllocError>
-    requires { IsKnown B.is_of block.now known.now }
-    ensures { IfOk result (λ c. IsComplexPart false false P block.now c) }
-{
-    Ok(ComplexPart {
-        name: Name::new(alloc, block.name.bytes())?,
-        facets: Listed::new(alloc),
-        degrees: degree_parts(alloc, &known.index, &known.basis)?,
-        products: Listed::new(alloc),
-        operations: Listed::new(alloc),
-        cartans: Listed::new(alloc),
-    })
-}
-
-/// What is listed of the complexes of a job without their tables, in their order.
-pub fn basis_parts<const P: u32, B: Depth<P>>(
-    alloc: Global,
-    blocks: &[ComplexBlock],
-    known: &[Known<B>],
-) -> Result<Listed<ComplexPart>, AllocError>
-    requires { AllZip (IsKnown B.is_of) blocks.now known.now }
-    ensures { IfOk result (λ cs. AllZip (IsComplexPart false false P) blocks.now cs) }
-{
-    let mut parts = Vec::new(alloc);
-    for (block, known) in blocks.iter().zip(known) {
-        parts.push(basis_part(alloc, block, known)?)?;
-    }
-    Ok(Listed::from(parts))
-}
 
 /// What is listed of a complex, with its tables.
 fn complex_part<const P: u32, B: Depth<P>>(

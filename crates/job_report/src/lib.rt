@@ -1,6 +1,7 @@
 //! The report of a job: the canonical bases of its complexes, its matrices and verdicts, with or without their certificate.
 #![tactic(auto)]
 
+mod bases;
 mod chains;
 mod columns;
 mod complexes;
@@ -12,5 +13,6 @@ mod refused;
 mod tables;
 mod whole;
 
+pub use bases::make_bases;
 pub use refused::MakeRefused;
-pub use whole::{make_bases, make_report};
+pub use whole::make_report;

@@ -10,7 +10,7 @@ ghost use Rattle.job_report.specs.Jobs.{HasStored, IsKnown};
 ghost use Rattle.line_difference.specs.Elements.{AreStored};
 
 use crate::MakeRefused;
-use crate::complexes::{basis_parts, complex_parts};
+use crate::complexes::complex_parts;
 use crate::depth::Depth;
 use crate::known::{Known, all_sizes, deepened, known_of};
 use crate::maps::map_parts;
@@ -22,32 +22,6 @@ use may_elements::{MayRefused, MayTable};
 use report::{Form, Report, Sizes};
 use std::alloc::{AllocError, Global};
 use term_total::total;
-
-/// The bases of a job at the prime `P`.
-fn bases_over<const P: u32, B: Depth<P>>(alloc: Global, job: &Job) -> Result<Report, AllocError>
-    requires { job.now.prime ≡ P }
-    ensures { IfOk result (λ r. IsReportOf Form.Basis (content job.now) r) }
-{
-    let blocks = job.complexes.as_slice();
-    let known = known_of::<P, B>(alloc, blocks)?;
-    Ok(Report {
-        prime: P,
-        complexes: basis_parts(alloc, blocks, &known)?,
-        maps: Listed::new(alloc),
-    })
-}
-
-/// The bases of a job: the report of its complexes alone, each with the canonical classes of each degree.
-pub fn make_bases(alloc: Global, job: &Job) -> Result<Report, AllocError>
-    ensures { IfOk result (λ r. IsReportOf Form.Basis (content job.now) r) }
-{
-    match job.prime {
-        2 => bases_over::<2, Classes<2>>(alloc, job),
-        3 => bases_over::<3, Classes<3>>(alloc, job),
-        5 => bases_over::<5, Classes<5>>(alloc, job),
-        _ => unreachable!(),
-    }
-}
 
 /// The May elements that the complexes of a job use, where its counted terms do not pass the limit.
 fn charged<const P: u32>(

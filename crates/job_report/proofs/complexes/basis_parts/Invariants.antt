@@ -1,6 +1,0 @@
-use Rattle.std.{proofs.Common.{false, length, take}, specs.List.AllZip}
-use Rattle.report_law.specs.Names.{IsComplexPart}
-use Rattle.job_report.proofs.complexes.basis_parts.Given as goal
-
-abbrev pub invariant-loop-block : goal.invariant-loop-block
-invariant-loop-block g l = AllZip (IsComplexPart false false g.row.P) (take (length l.yielded) l.blocks) l.parts.items
