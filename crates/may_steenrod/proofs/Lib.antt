@@ -6,6 +6,7 @@ pub mod ValueLemmas
 pub mod PlaceLemmas
 pub mod CupLemmas
 mod BackLemmas
+mod ChosenLemmas
 mod BeginningLemmas
 pub mod FrontLemmas
 pub mod OperationLemmas

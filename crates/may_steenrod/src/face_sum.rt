@@ -1,23 +1,23 @@
 //! The operation of a sum of surjections on cochains of one degree, as a sum of products of values on
 //! faces. The live cuts are walked once, and not again for each simplex.
-ghost use Rattle.std.specs.Prelude.{◌≡◌, ◌==◌, ◌&&◌, ◌<◌, ◌≤◌, ◌+◌, ◌-◌, ◌*◌, ◌%◌, ◌^◌, ◌∷◌, ℕ, ℤ, List, [], cond, length, map, pos, slice_index_or, suc, take, IfOk, IsSome, IsTrue, OnOk, ◌+ℤ◌, ◌*ℤ◌};
+ghost use Rattle.std.specs.Prelude.{◌≡◌, ◌==◌, ◌&&◌, ◌<◌, ◌≤◌, ◌+◌, ◌-◌, ◌*◌, ◌%◌, ◌^◌, ◌∷◌, ℕ, ℤ, List, [], cond, length, get_or, map, pos, slice_index_or, suc, take, IfOk, IsSome, IsTrue, OnOk, ◌+ℤ◌, ◌*ℤ◌};
 ghost use Rattle.linear_law.specs.Names.{sum_over, Each};
 ghost use Rattle.signed_sum.specs.Names.{numbers_from, signed};
 ghost use Rattle.surjection_law.specs.Names.{caesura_count, IsSurjection, arity, surjection_degree};
 ghost use Rattle.simplicial_law.specs.Names.{CongruentInt};
-ghost use Rattle.interval_cut_law.specs.Names.{cut_faces, vertex_at, operation_value};
+ghost use Rattle.interval_cut_law.specs.Names.{cut_faces, operation_value};
 ghost use Rattle.interval_cut.specs.Names.{cut_of, IsOfDegree};
-ghost use Rattle.complex_index.specs.Names.{list_at, level};
+ghost use Rattle.complex_index.specs.Names.{IsComplexIndex, list_at, level};
 ghost use Rattle.fp_field.specs.Served.{served};
 ghost use Rattle.operad_law.specs.FormalSums.{IsSameSum};
 ghost use Rattle.table_reduction_law.specs.Names.{may_element};
 ghost use Rattle.may_elements.specs.Live.{live_part};
 ghost use Rattle.steenrod_law.specs.Names.{sum_value, copies};
-ghost use Rattle.may_steenrod.specs.{Elements.{AddsTo, tested_value}, FaceSums.{AreNumbered, Extends, face_product, face_sum, product_at, term_product, terms_in, value_on_face}};
+ghost use Rattle.may_steenrod.specs.{Cochains.cochain_in, Elements.{AddsTo, tested_value}, FaceSums.{AreNumbered, Extends, face_product, face_sum, product_at, term_product, terms_in, value_on_face}};
 
-use complex_index::Indexed;
+use crate::on::On;
 use fp_field::Fp;
-use interval_cut::{LiveCuts, Values, with_sign};
+use interval_cut::{LiveCuts, with_sign};
 use operad_law::basis::SignedBasis;
 use operad_law::formal_sum::FormalSum;
 use operad_law::symmetric::Symmetric;
@@ -75,27 +75,6 @@ fn has_form<const P: u32>(surjection: &Surj, d: u32) -> bool
 {
     let _values = surjection.as_slice();
     test_form::<P>(surjection, d)
-}
-
-/// The vertex of a simplex at a place.
-fn vertex(simplex: &[u32], place: u32) -> u32
-    ensures { result ≡ vertex_at simplex.now place }
-{
-    match simplex.get(place as usize) {
-        Some(vertex) => *vertex,
-        None => 0,
-    }
-}
-
-/// Writes the vertices of a simplex at the places of a face.
-fn write_vertices(vertices: &mut Vec<u32>, face: &[u32], simplex: &[u32]) -> Result<(), AllocError>
-    ensures { OnOk result (vertices.new.items ≡ map (λ i. vertex_at simplex.now i) face.now) }
-{
-    vertices.clear();
-    for place in face {
-        vertices.push(vertex(simplex, *place))?;
-    }
-    Ok(())
 }
 
 /// The product of the values with the first `P` numbers.
@@ -269,20 +248,22 @@ impl<const P: u32> FaceSum<P> {
         Ok(sum)
     }
 
-    /// Writes the values of a cochain on the faces of a simplex.
-    fn write_values<V: Values<P>>(
+    /// Writes the values of a cochain on the faces of a simplex of degree `n`, at a place.
+    fn write_values<'a>(
         &self,
-        alpha: &V,
-        simplex: &[u32],
+        alpha: &On<'a, P>,
+        n: u32,
+        place: u32,
         vertices: &mut Vec<u32>,
         values: &mut Vec<Fp<P>>,
     ) -> Result<(), AllocError>
-        ensures { OnOk result (values.new.items ≡ map (value_on_face (V.value_of alpha.now) simplex.now) self.now.faces.items) }
+        requires complex { IsComplexIndex alpha.now.index.now }
+        requires inside { place < length (level alpha.now.index.now n) }
+        ensures { OnOk result (values.new.items ≡ map (value_on_face (cochain_in alpha.now.index.now alpha.now.cochain.now.degree alpha.now.cochain.now.row) (get_or (level alpha.now.index.now n) place [])) self.now.faces.items) }
     {
         values.clear();
         for face in self.faces.as_slice() {
-            write_vertices(vertices, face, simplex)?;
-            values.push(alpha.at(vertices))?;
+            values.push(alpha.on_places(n, place, face, vertices)?)?;
         }
         Ok(())
     }
@@ -301,43 +282,46 @@ impl<const P: u32> FaceSum<P> {
         sum
     }
 
-    /// The value of the sum on a cochain, at a simplex.
-    pub(crate) fn value<V: Values<P>>(
+    /// The value of the sum on a cochain, at a simplex of degree `n`.
+    fn value<'a>(
         &self,
-        alpha: &V,
-        simplex: &[u32],
+        alpha: &On<'a, P>,
+        n: u32,
+        place: u32,
         vertices: &mut Vec<u32>,
         values: &mut Vec<Fp<P>>,
     ) -> Result<Fp<P>, AllocError>
         requires prime { IsTrue (served P) }
         requires numbered { AreNumbered self.now.faces.items self.now.terms.items }
-        ensures { IfOk result (λ x. CongruentInt P (pos x) (face_sum (λ f. pos (V.value_of alpha.now f)) simplex.now (terms_in self.now.faces.items self.now.terms.items))) }
+        requires complex { IsComplexIndex alpha.now.index.now }
+        requires inside { place < length (level alpha.now.index.now n) }
+        ensures { IfOk result (λ x. CongruentInt P (pos x) (face_sum (λ f. pos (cochain_in alpha.now.index.now alpha.now.cochain.now.degree alpha.now.cochain.now.row f)) (get_or (level alpha.now.index.now n) place []) (terms_in self.now.faces.items self.now.terms.items))) }
     {
-        self.write_values(alpha, simplex, vertices, values)?;
+        self.write_values(alpha, n, place, vertices, values)?;
         Ok(self.sum(values))
     }
 
-    /// The values of a multiple of the sum on a cochain, at the simplices of degree n.
-    pub(crate) fn values<V: Values<P>>(
+    /// The values of a multiple of the sum on a cochain, at the simplices of degree `n`.
+    pub(crate) fn values<'a>(
         &self,
         alloc: Global,
-        alpha: &V,
-        index: &Indexed,
+        alpha: &On<'a, P>,
         n: u32,
         by: Fp<P>,
     ) -> Result<Vec<Fp<P>>, AllocError>
         requires prime { IsTrue (served P) }
         requires numbered { AreNumbered self.now.faces.items self.now.terms.items }
-        ensures long { IfOk result (λ v. length v.items ≡ length (level index.now n)) }
+        requires complex { IsComplexIndex alpha.now.index.now }
+        ensures long { IfOk result (λ v. length v.items ≡ length (level alpha.now.index.now n)) }
         ensures few { IfOk result (λ v. length v.items < 2 ^ 32) }
-        ensures values { IfOk result (λ v. (x : ℕ) → x < length (level index.now n) → CongruentInt P (pos (slice_index_or v.items x 0))
-            (pos by.entry *ℤ face_sum (λ f. pos (V.value_of alpha.now f)) (slice_index_or (level index.now n) x []) (terms_in self.now.faces.items self.now.terms.items))) }
+        ensures values { IfOk result (λ v. (x : ℕ) → x < length (level alpha.now.index.now n) → CongruentInt P (pos (slice_index_or v.items x 0))
+            (pos by.entry *ℤ face_sum (λ f. pos (cochain_in alpha.now.index.now alpha.now.cochain.now.degree alpha.now.cochain.now.row f)) (slice_index_or (level alpha.now.index.now n) x []) (terms_in self.now.faces.items self.now.terms.items))) }
     {
         let mut vertices = Vec::new(alloc);
         let mut on_faces = Vec::new(alloc);
         let mut values = Vec::new(alloc);
-        for place in 0..index.count(n) {
-            let value = self.value(alpha, index.simplex(n, place), &mut vertices, &mut on_faces)?;
+        for place in 0..alpha.index.count(n) {
+            let value = self.value(alpha, n, place, &mut vertices, &mut on_faces)?;
             values.push(value.mul(by))?;
         }
         Ok(values)

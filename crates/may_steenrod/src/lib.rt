@@ -1,6 +1,7 @@
 //! Steenrod operations and cup products on cochains of a complex.
 #![tactic(auto)]
 
+mod chosen;
 mod face_sum;
 mod on;
 mod operations;

@@ -39,7 +39,7 @@ fn operation<const P: u32>(
     let degree = P * alpha.degree - d;
     let sum = FaceSum::of_part(alloc, part, alpha.degree, d)?;
     let on = On::new(index, alpha);
-    let values = sum.values(alloc, &on, index, degree, by)?;
+    let values = sum.values(alloc, &on, degree, by)?;
     Ok(Cochain {
         degree,
         row: row_of(alloc, &values)?,
